@@ -18,7 +18,7 @@ use xet_records::record_reader::FormatVersion;
 /// What is asked for.
 #[derive(Drop)]
 pub enum Request<'a> {
-    /// To print what shards are asked.
+    /// To print answers about shards.
     Inspect(Sources<'a>, Inquiry, Style),
     /// To write a shard.
     Make(Making<'a>, Target<'a>),
@@ -34,12 +34,12 @@ pub struct Target<'a> {
     pub version: FormatVersion,
 }
 
-/// What says which shards are read.
+/// The words that name the shards to read.
 #[derive(Drop)]
 pub struct Sources<'a> {
     /// Paths of shards and of folders.
     pub words: Vec<&'a str>,
-    /// The path of a list of such paths.
+    /// The path of a file that lists more of them.
     pub list: Option<&'a str>,
 }
 
@@ -223,7 +223,7 @@ fn sources_in<'a>(alloc: Global, matches: &ArgMatches<'a>) -> Result<Sources<'a>
     })
 }
 
-// What the commands ask that look nothing up.
+// The inquiry of a command that is not a lookup.
 fn inquiry_in<'a>(name: &str, matches: &ArgMatches<'a>) -> Result<Inquiry, Refusal<'a>> {
     let long = matches.get_flag(id::LONG);
     match name {

@@ -8,13 +8,13 @@ use std::random::RandomSource;
 use std::rt::Files;
 use std::{fs, io};
 
-/// The end of a new file's name.
+/// The ending of a new file's name.
 const ENDING: &str = ".new";
 
 /// The digits of a new file's name before its end.
 const DIGITS: usize = 16;
 
-/// The names of new files that are tried.
+/// How many names are tried for a new file.
 const TRIES: u32 = 100;
 
 /// Writes bytes to a new file beside a target and returns its path. It has the mode of the file

@@ -10,8 +10,8 @@ use xet_core_structures::error::CoreError;
 use xet_core_structures::merklehash::MerkleHash;
 use xet_core_structures::set_operations::{Disagreement, find_disagreements};
 
-/// The failure behind an error of a union or a difference: the first input of which none can be
-/// made, else what is wrong with the inputs together.
+/// Why a union or a difference failed: the first input that cannot be read, else what is wrong with
+/// the inputs together.
 pub fn blamed<'a>(
     alloc: Global,
     files: &[&'a str],

@@ -58,7 +58,7 @@ fn arg_of<'a>(alloc: Global, argument: &Argument) -> Result<Arg<'a>, AllocError>
     }
 }
 
-// An argument that takes what has to do with no other argument.
+// An argument whose kind does not depend on other arguments.
 fn taking<'a>(arg: Arg<'a>, takes: Takes) -> Arg<'a> {
     match takes {
         Takes::Nothing => arg.action(ArgAction::SetTrue),

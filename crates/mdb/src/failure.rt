@@ -33,7 +33,7 @@ impl<'a> Failure<'a> {
         }
     }
 
-    /// Whether it is that shards which have to agree do not.
+    /// Whether shards that have to agree do not.
     pub fn is_disagreement(&self) -> bool {
         matches!(self.fault, Fault::Disagree(..))
     }

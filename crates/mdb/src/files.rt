@@ -12,9 +12,10 @@ use std::{fs, io};
 /// is written.
 pub const STANDARD_STREAM: &str = "-";
 
-/// The bytes of a shard's header, and those of its header and its footer together.
+/// The size of a header, in bytes.
 const HEADER_SIZE: usize = 48;
 
+/// The size of a header and a footer, in bytes.
 const ENDS_SIZE: usize = 248;
 
 /// The bytes of a file, or what is left of standard input if the path is `-`.

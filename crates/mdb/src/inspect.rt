@@ -46,7 +46,7 @@ pub fn inspect<R: Files + Input + Print + Eprint + AllocGlobal>(
     }
 }
 
-// How the run ends once the rest is printed. The error is how it ends at once.
+// The status with which the run ends after totals are printed, or, as an error, ends at once.
 fn inspect_all<R: Files + Input + Eprint + AllocGlobal, W: Write>(
     rt: &R,
     inputs: &Inputs,
@@ -71,7 +71,7 @@ fn inspect_all<R: Files + Input + Eprint + AllocGlobal, W: Write>(
             Ok(Answer::FoundNothing) => continue,
             Ok(Answer::Printed) => {}
             Ok(Answer::FoundProblems) => status = status.and_found(),
-            // Whoever reads has seen enough.
+            // The reader of the output has closed it.
             Err(failure) if failure.is_closed_pipe() => return Err(status),
             Err(failure) if failure.subject == Subject::StandardOutput => {
                 return Err(failed(rt, &failure));

@@ -157,7 +157,7 @@ fn subset<'a, R: Files + Input + Eprint + AllocGlobal>(
     }
 }
 
-// Reports each of some hashes that no xorb of a shard has, and fails if there is one.
+// Reports each listed hash that no xorb of the shard has, and fails if there is one.
 fn has_xorbs<'a, R: Eprint + AllocGlobal>(
     rt: &R,
     file: &'a str,

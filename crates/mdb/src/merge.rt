@@ -165,7 +165,7 @@ fn keys_of<'a>(
     Ok(keys)
 }
 
-// Those of some values whose shards are under a key.
+// The values of the shards under a key. The keys are those of all shards.
 fn those_under<T: Copy>(
     alloc: Global,
     values: &[T],

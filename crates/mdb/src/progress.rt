@@ -4,7 +4,7 @@ use std::fmt;
 use std::rt::Clock;
 use std::time::{Duration, Instant};
 
-/// The seconds that pass before something is said, and before it is said anew.
+/// The seconds before the line is first shown, and between its updates.
 const PAUSE: u64 = 1;
 
 /// What a merge does.
@@ -28,7 +28,7 @@ impl fmt::Display for Stage {
 /// A line on standard error that says how far a merge has come, for one that takes over a second.
 #[derive(Clone, Copy)]
 pub struct Progress {
-    /// When the line was shown last, or the command began; none if nothing is to be said.
+    /// When the line was shown last, or the command began; `None` if it is never shown.
     last: Option<Instant>,
     shown: bool,
 }
@@ -59,7 +59,7 @@ impl Progress {
         }
     }
 
-    /// Shows a stage in place of the last one, which may take long and cannot say how far it is.
+    /// Shows a stage at once: one that may take long, and says nothing before it ends.
     pub fn show<R: Eprint>(&mut self, rt: &R, stage: Stage) {
         if self.last.is_some() {
             let _ = rt.eprint(format_args!("\r\u{1b}[K{stage}"));

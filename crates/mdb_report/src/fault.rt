@@ -198,7 +198,7 @@ pub fn first_obstacle(alloc: Global, bytes: &[u8]) -> Result<Option<Finding>, Fa
     }
 }
 
-// The first of some findings that is more than a part or a size that differs.
+// The first finding that keeps a shard from being read.
 fn obstacle_in(findings: &[Finding]) -> Option<Finding>
     ensures { MatchOption result (All (λ f. ¬ KeepsFrom f) findings.now)
         (λ f. Contains findings.now f × KeepsFrom f) }
@@ -211,7 +211,7 @@ fn obstacle_in(findings: &[Finding]) -> Option<Finding>
     obstacle.copied()
 }
 
-// Whether a finding is more than a part or a size that differs.
+// Whether a finding keeps a shard from being read. Other parts or another size do not.
 fn keeps_from(finding: &Finding) -> bool
     ensures { IsTrue result ↔ KeepsFrom finding.now }
 {

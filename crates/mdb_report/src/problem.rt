@@ -79,8 +79,8 @@ fn code_of(problem: Problem) -> &'static str {
     }
 }
 
-// Where what a problem is about starts; of a name, of a size and of bytes whose footer is not read
-// that is nowhere.
+// The offset of the part that has the problem. `None` for a name or a size, or if no footer is
+// read.
 fn offset_of(info: Option<&MDBShardInfo>, problem: Problem) -> Option<u64> {
     match (info, problem) {
         (Some(info), Problem::Bytes(finding)) => start_of(info, finding),

@@ -147,7 +147,7 @@ pub fn subset_bytes(alloc: Global, bytes: &[u8], subset: &Subset) -> Result<Vec<
     }
 }
 
-/// Those of some hashes, in their order, that no xorb of a shard has, from the shard's bytes.
+/// The given hashes that no xorb of a shard has, in their order, from the shard's bytes.
 ///
 /// The errors are those of [`MDBMinimalShard::from_reader`].
 pub fn hashes_without_xorb(
@@ -162,7 +162,7 @@ pub fn hashes_without_xorb(
     Ok(hashes_lacked(alloc, &shard, hashes)?)
 }
 
-// Those of some hashes, in their order, that no xorb has.
+// The given hashes that no xorb has, in their order.
 fn hashes_lacked(
     alloc: Global,
     shard: &MDBMinimalShard,

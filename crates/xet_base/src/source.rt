@@ -9,7 +9,7 @@ use crate::fields::all_bytes;
 use std::io;
 use std::io::ErrorKind;
 
-// How many bytes are read at once, where bytes that are passed have to be read.
+// How many bytes `pass` and `skip` read at once where they have to read.
 pub(crate) const BLOCK_SIZE: usize = 768;
 
 /// Bytes with a read position. Contracts see the bytes, the position, the seeks made, the bytes

@@ -68,9 +68,9 @@ pub fn give<T: Copy>(items: &[T], out: &mut [T], written: &mut usize) -> u32
     0
 }
 
-/// What a call returns that has written to an output of this length itself: sets `written` to the
-/// number of bytes that were made, also if they did not fit. If none were made, `written` is 0.
-/// Returns 0, 19 or the number of the error.
+/// The result of a call that wrote to an output of `room` bytes itself: 0, 19 or the number of the
+/// error. Sets `written` to the number of bytes that were made, also if they did not fit; if none
+/// were made, to 0.
 pub fn answer(filled: Result<usize>, room: usize, written: &mut usize) -> u32
     ensures { MatchResult filled (Answers room written.new result)
         (λ error. (result ≡ variant_number error) × (written.new ≡ 0)) }

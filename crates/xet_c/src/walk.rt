@@ -122,7 +122,7 @@ fn place(hash: MerkleHash, flags: u32, next: u64) -> XetPlace
     }
 }
 
-// What stands for the bookend at a row.
+// The place of the bookend at a row: no hash, no flags, and its own row as the next.
 fn bookend(row: u32) -> XetPlace
     ensures { result ≡ c_bookend row }
 {

@@ -136,7 +136,8 @@ pub fn shard_union_tree_into(
 }
 
 // The same, without the clause on inputs that agree. No byte is written before the tree is done.
-// The inputs have one lifetime, since the borrow checker covers no meet of theirs with the arena's.
+// The list and its slices share one lifetime: the borrow checker finds no lifetime within both
+// theirs and the arena's.
 fn merge<'a>(alloc: Global, plan: &MergePlan, inputs: &'a [&'a [u8]]) -> Result<Vec<u8>>
     ensures { MatchResult result
         (λ bytes. TreeWrites (map (λ x. x.now) inputs.now) plan.now bytes.items)

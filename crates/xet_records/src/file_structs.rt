@@ -220,7 +220,7 @@ impl Clone for MDBFileInfo {
     }
 }
 
-// The first value, or the second.
+// The first value if `is_first`, else the second.
 fn either<T: Copy>(is_first: bool, first: T, second: T) -> T
     ensures { result ≡ (if is_first then first else second) }
 {

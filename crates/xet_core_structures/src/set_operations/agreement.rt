@@ -7,8 +7,8 @@
 //! of the first of the run; it reads the others, and of those that agree it keeps one for each set
 //! of optional parts (`keep_record`). So a record is read at most once and compared with few,
 //! whether the inputs agree or not, and each hash under which some do not is found
-//! (`find_differing`, of files and of xorbs). All bytes of records with one hash are looked at,
-//! which a union passes: of shards that are mostly the same it takes longer than their merge
+//! (`find_differing`, of files and of xorbs). Unlike a union, it looks at all bytes of records with
+//! one hash: of shards that are mostly the same it takes longer than their merge
 //! (`bench/README.md`).
 
 ghost use Rattle.std.specs.Prelude.{◌≡◌, ◌⊎◌, ◌<◌, ◌++◌, ℕ, List, length, map, Some, slice_get, MatchOption, MatchResult, OnOk, IfErr};

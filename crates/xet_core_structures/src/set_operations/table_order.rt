@@ -1,4 +1,4 @@
-//! In which order the rows of a chunk table may stand, by the tables of the inputs.
+//! Guessing the order of a result's chunk table from the chunk tables of the inputs.
 //!
 //! Each input has the rows of its chunk table in order. So this lists the places of rows as the
 //! first input's table has them, then as the second's has them, and so on: runs that ascend, which
@@ -30,7 +30,7 @@ const XORB_ROW_SIZE: usize = 12;
 // and its index in the xorb.
 const CHUNK_ROW_SIZE: usize = 16;
 
-// Where no xorb starts.
+// In place of the place of a first chunk, for a row at which no xorb starts.
 const NO_PLACE: u32 = u32::MAX;
 
 // The tables of an input, and the rows that its xorb section has at most.

@@ -1,4 +1,4 @@
-//! Shards that are written again of what is read.
+//! Copying a shard record by record: keyed exports, and rewriting with other layout options.
 //!
 //! The loop of an export, `export_section`, is over the trait `ExportedRecord`: of files it reads a
 //! view of each, and `write_file_view` writes its bytes and adds its row; of xorbs it reads each,

@@ -1,6 +1,6 @@
 //! Sections and tables as they are read whole.
 //!
-//! Reading goes the other way. `read_ends` reads a header and a footer, each in two steps, so that
+//! `read_ends` reads a header and a footer, each in two steps, so that
 //! unsupported bytes are refused as soon as they are seen; `proofs/Ends/EndsUnique.antt` shows that
 //! bytes determine at most one header and footer, and that the bytes of a shard give those that
 //! were written. `SectionRecord`, a trait of files and xorbs in `xet_records`, has a header row and

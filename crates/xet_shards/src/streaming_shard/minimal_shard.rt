@@ -242,7 +242,7 @@ fn copies<V: KeptView + Drop>(alloc: Global, views: &[V]) -> Result<Vec<V>>
     Ok(copies)
 }
 
-// The bytes of these parts of the records of views.
+// The bytes of the records that views show, with the parts that are kept.
 fn bytes_of<V: KeptView>(views: &[V], kept: KeptParts) -> u64
     requires { sum_by (V.rows kept) views.now ≤ MAX_ROWS }
     ensures { result ≡ 48 * sum_by (V.rows kept) views.now }

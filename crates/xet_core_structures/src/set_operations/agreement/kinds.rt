@@ -95,7 +95,7 @@ impl Agreement<MDBFileInfo> for OfUnion {
     } };
 }
 
-// Whether a part is equal if both have it.
+// Whether a part is absent in one of two records, or the same in both.
 fn agree_on(first_has: bool, second_has: bool, same: bool) -> bool
     ensures { IsTrue result ↔ (IsTrue first_has → IsTrue second_has → IsTrue same) }
 {

@@ -280,7 +280,7 @@ fn next_turn<'a, R: SectionRecord, U: PlacedUnion<R>>(
     }
 }
 
-/// The record of a list.
+/// A copy of a placed record.
 pub fn copied<'a, H: Copy>(placed: &PlacedRecord<'a, H>) -> PlacedRecord<'a, H>
     ensures { result ≡ placed.now }
 {

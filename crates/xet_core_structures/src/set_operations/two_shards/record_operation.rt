@@ -1,4 +1,4 @@
-//! What union and difference make of the records with one hash, written as the records are read.
+//! Union and difference of the records with one hash, which are written as they are read.
 
 ghost use Rattle.std.specs.Prelude.{◌≡◌, ⊤, Option, None, Some, IfSome, MatchResult, IsErrAnd};
 ghost use Rattle.xet_records.specs.FileRecord.{file_records};

@@ -68,7 +68,7 @@ fn goes_on<H: Copy>(first: Option<H>, second: Option<H>) -> bool
     first.is_some() || second.is_some()
 }
 
-// Of the next headers of two sections, if any, those with the lesser hash, or both.
+// The one of the next headers with the lesser hash, or both if their hashes are equal.
 fn next_pair<R: SectionRecord>(
     first: Option<R::Header>,
     second: Option<R::Header>,
@@ -85,7 +85,8 @@ fn next_pair<R: SectionRecord>(
     }
 }
 
-// The header after the one that was passed, or if none was, the one that was next.
+// The next header of a section: read from the source if the record of `next` was passed, else
+// still `next`.
 fn advance<R: SectionRecord, S: ShardSource>(
     alloc: Global,
     source: &mut S,

@@ -45,7 +45,7 @@ pub(in crate::shard_format) fn walk_section<R: SectionRecord, T: Kept<R> + Drop,
     Ok(found)
 }
 
-// Reads past the next record of a section, or `None` at its bookend.
+// Reads past the next record of a section and keeps something of it, or `None` at the bookend.
 fn keep_next<R: SectionRecord, T: Kept<R> + Drop, S: ShardSource>(
     alloc: Global,
     source: &mut S,

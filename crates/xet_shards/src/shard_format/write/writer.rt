@@ -101,9 +101,8 @@ pub fn write_values<S: WrittenSection + Drop, V: HoldsRecord<S::Record>, W: Writ
 }
 
 /// Writes the end of a shard, after its sections: the tables that are in, and the footer, which it
-/// returns. The rows of the chunk table are put in order here, if it is in. The error is the
-/// writer's, or `OutOfMemory` if an allocation fails, of which there is one only if the xorbs have
-/// an `order`.
+/// returns. The rows of the chunk table are put in order here, if it is in. Allocates only if the
+/// xorbs have an `order`. The error is the writer's, or `OutOfMemory` if an allocation fails.
 pub fn write_end<W: Write>(
     writer: &mut W,
     files: &WrittenFiles,
@@ -232,7 +231,7 @@ fn footer_of(
     footer
 }
 
-// The rows of a table that is in, or 0.
+// The rows of a table if it is in, else 0.
 fn rows_in(is_in: bool, rows: u64) -> u64
     ensures { result ≡ (if is_in then rows else 0) }
 {
