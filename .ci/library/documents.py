@@ -1,11 +1,14 @@
 """Checks of what documents say of the sources, where it can be compared as text."""
 import glob
+import os
 import re
 
 from .common import TOP, read
 
 # The pages that quote contracts.
 QUOTING = ("README.md", "docs/HEADLINE.md", "crates/xet_core_structures/CALLING.md")
+# The crates each of whose modules the tree in docs/ARCHITECTURE.md names.
+IN_TREE = ("xet_base", "xet_records", "xet_shards", "xet_core_structures", "shard_bytes", "xet_c")
 
 
 def flat(text):
@@ -42,6 +45,16 @@ def check_crates():
     said = {name: set(re.findall(r"`(\w+)`", libraries)) for name, libraries in rows}
     wrong = sorted(name for name, libraries in used().items() if said.get(name) != libraries)
     return f"docs/ARCHITECTURE.md says otherwise than crates.txt what these use: {', '.join(wrong)}" if wrong else None
+
+
+def check_tree():
+    """The tree of modules in docs/ARCHITECTURE.md names each module of the library."""
+    page = read(f"{TOP}/docs/ARCHITECTURE.md")
+    tree = page[page.index("## The modules") : page.index("Worked examples are lines")]
+    files = [it for name in IN_TREE for it in glob.glob(f"{TOP}/crates/{name}/src/**/*.rt", recursive=True)]
+    names = {os.path.basename(it).removesuffix(".rt") for it in files} - {"lib"}
+    lacking = sorted(names - set(re.findall(r"\w+", tree)))
+    return f"the tree in docs/ARCHITECTURE.md lacks: {', '.join(lacking)}" if lacking else None
 
 
 def check_trusted():
