@@ -186,7 +186,7 @@ def killed_run_leaves_the_target(place):
 def word_that_is_no_text(place):
     run = place.run("info", b"a\xff.mdb", "one_file.mdb")
     wants("status", run.returncode == 1)
-    said = b"a\\xff.mdb: the word is no UTF-8, so no file can be opened by it\n"
+    said = b"a\\xff.mdb: the name is not UTF-8, so it can't be opened\n"
     wants("it is named", run.stderr == said)
     wants("the other file", run.stdout.startswith(b"one_file.mdb: version 3"))
     run = place.run("merge", "both.mdb", b"a\xff.mdb", "-o", "out.mdb")
@@ -214,7 +214,7 @@ def lists_name_shards(place):
     listed = b"both.mdb\n\nfolder/\nfolder/other\nno\xff\nnone\n"
     place.write("list", listed)
     said = [f"{it}: version" for it in ("both.mdb", "folder/a.mdb", "folder/b.mdb", "folder/other")] + ["total: 4"]
-    wrong = b"no\\xff: the word is no UTF-8, so no file can be opened by it\n"
+    wrong = b"no\\xff: the name is not UTF-8, so it can't be opened\n"
     for words, given in (("list", b""), ("-", listed)):
         run = place.run("info", "--brief", "--files-from", words, input=given)
         wants("status", (run.returncode, run.stderr) == (1, wrong))
@@ -223,7 +223,7 @@ def lists_name_shards(place):
     run = place.run("merge", "--files-from", "list", "-o", "out.mdb")
     wants("a merge", (run.returncode, run.stderr) == (1, wrong) and "out.mdb" not in place.names())
     run = place.run("merge", "none", "-o", "out.mdb")
-    said = b"the command line: no file is named that could be merged\n"
+    said = b"the command line: there are no files to merge\n"
     wants("a merge of nothing", (run.returncode, run.stderr) == (1, said) and "out.mdb" not in place.names())
     run = place.run("find", "none", "--hash", "0" * 64)
     wants("none", (run.returncode, run.stdout.decode()) == (1, f"none {'0' * 64}\n"))
@@ -277,7 +277,7 @@ def terminal_gets_no_shard(place):
     )
     os.close(terminal)
     os.close(ours)
-    said = b"standard output: a shard is not written to a terminal\n"
+    said = b"standard output: it is a terminal: write the shard to a file, by -o, or to a pipe\n"
     wants("it says why", (run.returncode, run.stderr) == (1, said))
 
 

@@ -90,15 +90,19 @@ impl fmt::Display for Fault {
                     "a file has an auxiliary row, which version 2 of the format does not have"
                 )
             }
-            Fault::NoTable(table) => {
-                write!(f, "it has no {table}, by which its records would be found")
-            }
+            Fault::NoTable(table) => write!(f, "it has no {table}, which this needs"),
             Fault::NoXorb(hash) => write!(f, "no xorb has the hash {hash}"),
-            Fault::TooManyRounds => write!(f, "it was read in too many rounds, and more is needed"),
-            Fault::NoFiles => write!(f, "no file is named that could be merged"),
-            Fault::NoText => write!(f, "the word is no UTF-8, so no file can be opened by it"),
-            Fault::LongWord => write!(f, "a word is too long"),
-            Fault::Terminal => write!(f, "a shard is not written to a terminal"),
+            Fault::TooManyRounds => write!(
+                f,
+                "the lookup gave up: it has read from the file too many times"
+            ),
+            Fault::NoFiles => write!(f, "there are no files to merge"),
+            Fault::NoText => write!(f, "the name is not UTF-8, so it can't be opened"),
+            Fault::LongWord => write!(f, "an argument is too long"),
+            Fault::Terminal => write!(
+                f,
+                "it is a terminal: write the shard to a file, by -o, or to a pipe"
+            ),
             Fault::Other(error) => write!(f, "{error}"),
         }
     }

@@ -232,12 +232,9 @@ impl fmt::Display for InWords {
             ),
             Finding::Differs(part) => {
                 let part = part_name(part);
-                write!(f, "{part} is not the one that the records give")
+                write!(f, "{part} does not match the records")
             }
-            Finding::Size(bytes) => write!(
-                f,
-                "its size is not the {bytes} bytes that the records give"
-            ),
+            Finding::Size(bytes) => write!(f, "it should have {bytes} bytes, by its records"),
         }
     }
 }
