@@ -121,7 +121,7 @@ impl FileDataSequenceHeader {
     fn contains(&self, part: OptionalPart) -> bool
         ensures { result ≡ announces self.now.file_flags part }
     {
-        self.file_flags & part.flag() != 0
+        self.file_flags & part.mask() != 0
     }
 
     /// The flags of the optional parts that the header announces, and no others.

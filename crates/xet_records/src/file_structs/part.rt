@@ -9,6 +9,7 @@ ghost use Rattle.std.specs.Prelude.{◌≡◌, ◌^◌, if◌then◌else◌};
 ghost use Rattle.xet_records.specs.Part.{bit_of, size_of_part};
 
 use super::{
+    MDB_FILE_FLAG_AUX_EXT_MASK, MDB_FILE_FLAG_METADATA_EXT_MASK, MDB_FILE_FLAG_VERIFICATION_MASK,
     MDB_FILE_FLAG_WITH_AUX_EXT, MDB_FILE_FLAG_WITH_METADATA_EXT, MDB_FILE_FLAG_WITH_VERIFICATION,
 };
 
@@ -33,6 +34,18 @@ impl OptionalPart {
             OptionalPart::Verification => MDB_FILE_FLAG_WITH_VERIFICATION,
             OptionalPart::MetadataExt => MDB_FILE_FLAG_WITH_METADATA_EXT,
             OptionalPart::AuxExt => MDB_FILE_FLAG_WITH_AUX_EXT,
+        }
+    }
+
+    /// The bit that says whether a file has the part.
+    #[inline(always)]
+    pub fn mask(self) -> u32
+        ensures { result ≡ 2 ^ bit_of self }
+    {
+        match self {
+            OptionalPart::Verification => MDB_FILE_FLAG_VERIFICATION_MASK,
+            OptionalPart::MetadataExt => MDB_FILE_FLAG_METADATA_EXT_MASK,
+            OptionalPart::AuxExt => MDB_FILE_FLAG_AUX_EXT_MASK,
         }
     }
 
