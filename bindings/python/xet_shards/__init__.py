@@ -21,7 +21,7 @@ import re
 from array import array
 from ctypes import POINTER, byref, c_bool, c_char, c_char_p, c_int, c_size_t, c_ssize_t, c_uint32, c_uint64, c_void_p
 from dataclasses import dataclass
-from typing import Any, Callable, Dict, Iterator, List, Optional, Sequence, Tuple, Union
+from typing import Any, Callable, Dict, Iterable, Iterator, List, Optional, Sequence, Tuple, Union
 
 __all__ = [
     "Buffer", "Chunk", "Disagreement", "DisagreementError", "File", "Finding", "Info", "ListedFile", "NO_EXPIRY",
@@ -339,7 +339,11 @@ def _open() -> ctypes.CDLL:
             name=__name__, path=path,
         ) from error
     for name, arguments in _CALLS.items():
-        call = getattr(library, name)
+        try:
+            call = getattr(library, name)
+        except AttributeError:
+            raise ImportError(f"{path} has no {name}, so it is no library for xet_shards {__version__}",
+                              name=__name__, path=path) from None
         call.argtypes, call.restype = arguments, c_uint32
     return library
 
@@ -545,7 +549,7 @@ def _combined(operation: Callable[..., Any], first: Buffer, second: Buffer) -> b
         )
 
 
-def merge(shards: Sequence[Buffer], strict: bool = False) -> bytes:
+def merge(shards: Iterable[Buffer], strict: bool = False) -> bytes:
     """Returns the union of one shard or more, by a balanced tree of unions; a single one is united with itself.
 
     If the sections of the inputs hold shards that agree pairwise, without a key, it is the bytes of their join, which
@@ -553,6 +557,7 @@ def merge(shards: Sequence[Buffer], strict: bool = False) -> bytes:
     and an equal optional part wherever both have it, and xorbs with one hash are equal. With `strict` it is a
     `DisagreementError` if two of the shards do not agree.
     """
+    shards = list(shards)
     if not shards:
         raise ValueError("no shard is given")
     try:
@@ -601,7 +606,7 @@ def _merged(shards: Sequence[Buffer], strict: bool) -> bytes:
     raise DisagreementError(_disagreement(found, differing.value))
 
 
-def find_disagreement(shards: Sequence[Buffer]) -> Optional[Disagreement]:
+def find_disagreement(shards: Iterable[Buffer]) -> Optional[Disagreement]:
     """Returns a hash under which two of the shards have records that do not agree, or None if each two agree."""
     differing, found = c_size_t(), _Disagreement()
     with _Addresses(*shards) as data:
