@@ -30,7 +30,7 @@ macro_rules! library {
         // The header has so many parameters.
         #[allow(clippy::too_many_arguments)]
         pub fn $name($($own)*) -> u32 {
-            unsafe extern "C" {
+            extern "C" {
                 fn $name($($c)*) -> u32;
             }
             // SAFETY: the declaration is that of crates/xet_c, which .ci/bindings compares. What xet.h asks of callers

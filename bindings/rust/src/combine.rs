@@ -1,7 +1,7 @@
 //! Unions, differences and disagreements.
 
 use crate::calls::{self, Bytes};
-use crate::error::{Error, check};
+use crate::error::{check, Error};
 use crate::output::bytes_of;
 use crate::{Hash, Result};
 use std::fmt;

@@ -1,7 +1,7 @@
 //! What is wrong with the bytes of a shard.
 
 use crate::output::filled;
-use crate::{Result, calls};
+use crate::{calls, Result};
 
 /// The part of a shard that a [`Finding`] is about.
 #[derive(Clone, Copy, Debug, PartialEq, Eq, Hash)]

@@ -1,5 +1,5 @@
-use crate::error::{Error, check};
-use crate::{Result, calls};
+use crate::error::{check, Error};
+use crate::{calls, Result};
 use std::fmt;
 use std::str::FromStr;
 

@@ -28,14 +28,14 @@ mod output;
 mod walk;
 mod write;
 
-pub use combine::{Disagreement, RecordHash, difference, find_disagreement, merge, merge_agreeing, union};
+pub use combine::{difference, find_disagreement, merge, merge_agreeing, union, Disagreement, RecordHash};
 pub use error::Error;
-pub use finding::{Finding, Part, check};
+pub use finding::{check, Finding, Part};
 pub use hash::Hash;
-pub use lookup::{File, Info, Run, Segment, eligible, find_file, load, query_chunks};
+pub use lookup::{eligible, find_file, load, query_chunks, File, Info, Run, Segment};
 pub use name::{hash_of_name, shard_name};
-pub use walk::{Chunk, FileIter, ListedFile, Xorb, XorbIter, files, xorbs};
-pub use write::{Export, Minimal, Subset, Xorbs, export, minimal, subset, write_v2};
+pub use walk::{files, xorbs, Chunk, FileIter, ListedFile, Xorb, XorbIter};
+pub use write::{export, minimal, subset, write_v2, Export, Minimal, Subset, Xorbs};
 
 /// The version of the library that is linked: 10000 times the first of its three numbers, 100 times the second, and the
 /// third.

@@ -1,8 +1,8 @@
 //! What a shard says, and what is looked up in it.
 
 use crate::error::check;
-use crate::output::{SHORT, hashes_of, zeros};
-use crate::{Hash, Result, calls};
+use crate::output::{hashes_of, zeros, SHORT};
+use crate::{calls, Hash, Result};
 
 /// What the header and the footer of a shard say. A table that is left out has 0 rows.
 #[derive(Clone, Copy, Debug, Default, PartialEq, Eq)]

@@ -1,7 +1,7 @@
 //! The names of shard files.
 
 use crate::error::check;
-use crate::{Hash, Result, calls};
+use crate::{calls, Hash, Result};
 
 /// The name of the file of the shard with this hash: its 64 digits and `.mdb`.
 ///

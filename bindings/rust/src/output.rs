@@ -1,6 +1,6 @@
 //! Room for what a call writes.
 
-use crate::error::{Error, check};
+use crate::error::{check, Error};
 use crate::{Hash, Result};
 
 /// `XET_SHORT`: the output does not fit the room that was given.

@@ -2,8 +2,8 @@
 
 use crate::error::check;
 use crate::lookup::file_of;
-use crate::output::{SHORT, zeros};
-use crate::{Error, File, Hash, Result, calls};
+use crate::output::{zeros, SHORT};
+use crate::{calls, Error, File, Hash, Result};
 
 /// A file of a shard, with its hash.
 #[derive(Clone, Debug, PartialEq, Eq)]

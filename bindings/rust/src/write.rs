@@ -1,7 +1,7 @@
 //! Exports, minimal shards and subsets.
 
 use crate::output::bytes_of;
-use crate::{Hash, Result, calls};
+use crate::{calls, Hash, Result};
 
 /// What an export is to have.
 #[derive(Clone, Copy, Debug, PartialEq, Eq)]

@@ -2,10 +2,10 @@
 
 mod common;
 
-use common::{Shard, hash};
+use common::{hash, Shard};
 use std::error::Error as _;
 use std::thread;
-use xet_shards::{Disagreement, Error, Export, Finding, Hash, Minimal, NO_EXPIRY, NO_KEY, Part, RecordHash};
+use xet_shards::{Disagreement, Error, Export, Finding, Hash, Minimal, Part, RecordHash, NO_EXPIRY, NO_KEY};
 
 /// The bytes of a shard of `file` and `xorb` lines.
 fn shard_of(lines: &[&str]) -> Vec<u8> {

@@ -2,7 +2,7 @@
 
 mod common;
 
-use common::{Shard, hash};
+use common::{hash, Shard};
 use std::collections::HashMap;
 use std::path::{Path, PathBuf};
 use std::{env, fs};
