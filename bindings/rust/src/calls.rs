@@ -87,7 +87,7 @@ impl<'a> From<&'a [u8]> for Bytes<'a> {
 }
 
 #[repr(C)]
-#[derive(Clone, Copy, Default)]
+#[derive(Clone, Copy, Debug, Default)]
 pub struct FileSegment {
     pub segment: Segment,
     pub verification: Hash,

@@ -14,6 +14,14 @@ pub fn zeros<T: Clone + Default>(count: usize) -> Result<Vec<T>> {
     Ok(items)
 }
 
+/// A copy of items.
+pub fn copied<T: Copy>(of: &[T]) -> Result<Vec<T>> {
+    let mut items = Vec::new();
+    items.try_reserve_exact(of.len()).map_err(|_| Error::OutOfMemory)?;
+    items.extend_from_slice(of);
+    Ok(items)
+}
+
 /// The items that a call writes to the front of what it is given. If there is no room for them it says how many they
 /// are, and is called again.
 pub fn filled<T: Clone + Default>(room: usize, mut call: impl FnMut(&mut [T], &mut usize) -> u32) -> Result<Vec<T>> {

@@ -2,7 +2,7 @@
 
 use crate::error::check;
 use crate::lookup::file_of;
-use crate::output::{zeros, SHORT};
+use crate::output::{copied, zeros, SHORT};
 use crate::{calls, Error, File, Hash, Result};
 
 /// A file of a shard, with its hash.
@@ -46,27 +46,25 @@ pub struct Xorb {
 }
 
 /// What one step of a walk shows: where the record is, what it says of itself, and its rows.
-type Step<R, I> = Option<(calls::Place, R, Vec<I>)>;
+type Step<R> = Option<(calls::Place, R, usize)>;
 
-/// Makes a call at a row, and again if its rows do not fit.
+/// Makes a call at a row, and again if its rows do not fit. `items` is room that is kept from step to step.
 fn step<R: Default, I: Clone + Default>(
     row: u64,
+    items: &mut Vec<I>,
     mut call: impl FnMut(u32, &mut calls::Place, &mut R, &mut [I]) -> u32,
     count: impl Fn(&R) -> Option<usize>,
-) -> Result<Step<R, I>> {
+) -> Result<Step<R>> {
     // A row past 32 bits is none of a section.
     let row = u32::try_from(row).map_err(|_| Error::InvalidShard)?;
-    let (mut place, mut record, mut items) = (calls::Place::default(), R::default(), zeros(64)?);
-    let mut number = call(row, &mut place, &mut record, &mut items);
+    let (mut place, mut record) = (calls::Place::default(), R::default());
+    let mut number = call(row, &mut place, &mut record, items);
     if number == SHORT {
-        items = zeros(count(&record).unwrap_or(0))?;
-        number = call(row, &mut place, &mut record, &mut items);
+        *items = zeros(count(&record).unwrap_or(0).next_power_of_two())?;
+        number = call(row, &mut place, &mut record, items);
     }
     check(number)?;
-    Ok(count(&record).map(|count| {
-        items.truncate(count);
-        (place, record, items)
-    }))
+    Ok(count(&record).map(|count| (place, record, count)))
 }
 
 /// A walk through the file section of a shard: see [`files`].
@@ -75,6 +73,7 @@ pub struct FileIter<'a> {
     shard: &'a [u8],
     // The row of the next record, or `None` at the end.
     row: Option<u64>,
+    room: Vec<calls::FileSegment>,
 }
 
 /// The files of a shard, one after another, in the order of its file section.
@@ -99,7 +98,7 @@ pub struct FileIter<'a> {
 /// # }
 /// ```
 pub fn files(shard: &[u8]) -> FileIter<'_> {
-    FileIter { shard, row: Some(0) }
+    FileIter { shard, row: Some(0), room: Vec::new() }
 }
 
 impl Iterator for FileIter<'_> {
@@ -109,11 +108,12 @@ impl Iterator for FileIter<'_> {
         let row = self.row.take()?;
         let read =
             |row, place: &mut _, file: &mut _, items: &mut [_]| calls::xet_file_at(self.shard, row, place, file, items);
-        match step(row, read, |file: &calls::File| file.found.then_some(file.segments)) {
+        match step(row, &mut self.room, read, |file: &calls::File| file.found.then_some(file.segments)) {
             Ok(None) => None,
-            Ok(Some((place, file, segments))) => {
+            Ok(Some((place, file, count))) => {
+                let segments = &self.room[..count];
                 self.row = Some(place.next);
-                Some(Ok(ListedFile { hash: place.hash, flags: place.flags, file: file_of(&file, &segments) }))
+                Some(Ok(ListedFile { hash: place.hash, flags: place.flags, file: file_of(&file, segments) }))
             }
             Err(error) => Some(Err(error)),
         }
@@ -125,6 +125,7 @@ impl Iterator for FileIter<'_> {
 pub struct XorbIter<'a> {
     shard: &'a [u8],
     row: Option<u64>,
+    room: Vec<Chunk>,
 }
 
 /// The xorbs of a shard, one after another, in the order of its xorb section.
@@ -142,7 +143,7 @@ pub struct XorbIter<'a> {
 /// # }
 /// ```
 pub fn xorbs(shard: &[u8]) -> XorbIter<'_> {
-    XorbIter { shard, row: Some(0) }
+    XorbIter { shard, row: Some(0), room: Vec::new() }
 }
 
 impl Iterator for XorbIter<'_> {
@@ -152,12 +153,14 @@ impl Iterator for XorbIter<'_> {
         let row = self.row.take()?;
         let read =
             |row, place: &mut _, xorb: &mut _, items: &mut [_]| calls::xet_xorb_at(self.shard, row, place, xorb, items);
-        match step(row, read, |xorb: &calls::Xorb| xorb.found.then_some(xorb.chunks)) {
+        match step(row, &mut self.room, read, |xorb: &calls::Xorb| xorb.found.then_some(xorb.chunks)) {
             Ok(None) => None,
-            Ok(Some((place, xorb, chunks))) => {
-                self.row = Some(place.next);
+            Ok(Some((place, xorb, count))) => {
                 let (bytes, bytes_on_disk) = (xorb.bytes, xorb.bytes_on_disk);
-                Some(Ok(Xorb { hash: place.hash, flags: place.flags, bytes, bytes_on_disk, chunks }))
+                Some(copied(&self.room[..count]).map(|chunks| {
+                    self.row = Some(place.next);
+                    Xorb { hash: place.hash, flags: place.flags, bytes, bytes_on_disk, chunks }
+                }))
             }
             Err(error) => Some(Err(error)),
         }
