@@ -375,6 +375,9 @@ typedef struct xet_finding {
  * records in them, with ascending hashes, in their version and with their key, their times and the tables of which the
  * footer says that they have rows. If the bytes can't be read, nothing else is looked for.
  *
+ * The original leaves rows of the chunk table that share a first word in any order. So of a shard that it wrote, in which
+ * a chunk occurs more than once, this mostly says that the chunk table differs, though nothing is wrong with it.
+ *
  * XET_OUT_OF_MEMORY, XET_SHORT. */
 uint32_t xet_check(const uint8_t *shard, size_t length, xet_finding *out, size_t capacity, size_t *written);
 

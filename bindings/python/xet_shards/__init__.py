@@ -510,6 +510,9 @@ def check(shard: Buffer) -> List[Finding]:
 
     The list is empty if they are, byte for byte, what the library writes of the records in them, in their version and
     with their key, their times and the tables of which the footer says that they have rows.
+
+    The original leaves rows of the chunk table that share a first word in any order. So of a shard that it wrote, in
+    which a chunk occurs more than once, this mostly says that the chunk table differs, though nothing is wrong with it.
     """
     with _Addresses(shard) as [data]:
         found = _filled(_Finding, 16, lambda out, room, written: _library.xet_check(*data, out, room, byref(written)))

@@ -53,6 +53,9 @@ pub enum Finding {
 /// in their version and with their key, their times and the tables of which the footer says that they have rows. If the
 /// bytes can't be read, nothing else is looked for.
 ///
+/// The original leaves rows of the chunk table that share a first word in any order. So of a shard that it wrote, in
+/// which a chunk occurs more than once, this mostly says that the chunk table differs, though nothing is wrong with it.
+///
 /// # Errors
 ///
 /// - `OutOfMemory`: an allocation failed.
