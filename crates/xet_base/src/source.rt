@@ -1,6 +1,6 @@
 //! Sources of bytes that are read at any offset. Contracts count their seeks and the bytes read.
 
-ghost use Rattle.std.specs.Prelude.{◌≡◌, ℕ, length, IfSome, MatchResult, None};
+ghost use Rattle.std.specs.Prelude.{◌≡◌, ℕ, length, MatchResult, None};
 ghost use Rattle.xet_base.specs.Bytes.{ReadsThrough};
 ghost use Rattle.xet_base.specs.Source.{Source, ReadsSome, Fails, ReadsBytes, FillFails, moved};
 
@@ -25,13 +25,6 @@ pub trait ShardSource {
     fn read_some(&mut self, slice: &mut [u8]) -> io::Result<usize>
         ensures { MatchResult result (ReadsSome (meaning self.old) (meaning self.new) slice.new)
             (Fails (meaning self.old) (meaning self.new) 0) };
-
-    /// The bytes, if they are in memory. Where an implementation does not say so, they are not.
-    fn in_memory(&self) -> Option<&[u8]>
-        ensures { IfSome result (λ bytes. bytes.now ≡ (meaning self.now).bytes) }
-    {
-        None
-    }
 
     /// The number of bytes.
     fn length(&mut self) -> io::Result<u64>
@@ -159,10 +152,6 @@ impl<'a> ShardSource for MemorySource<'a> {
         self.at += left as u64;
         self.read.add(left as u64);
         Ok(left)
-    }
-
-    fn in_memory(&self) -> Option<&[u8]> {
-        Some(self.bytes)
     }
 
     fn length(&mut self) -> io::Result<u64> {

@@ -1,10 +1,10 @@
-//! Guessing the order of a result's chunk table from the chunk tables of the inputs.
+//! Guessing the order of a tree's chunk table from the chunk tables of the inputs.
 //!
 //! Each input has the rows of its chunk table in order. So this lists the places of rows as the
 //! first input's table has them, then as the second's has them, and so on: runs that ascend, which
-//! take less time to merge than all rows to sort. Only inputs in memory are asked, so that no
-//! device reads more for it. Nothing is taken from a table but a guess: where the rows are written,
-//! one that does not have each row once is thrown away.
+//! take less time to merge than all rows to sort. The inputs of a tree are slices, so no source
+//! reads more for it. Nothing is taken from a table but a guess: where the rows are written, one
+//! that does not have each row once is thrown away.
 
 ghost use Rattle.std.specs.Prelude.{◌≡◌, ◌<◌, List, [], IfErr};
 ghost use Rattle.xet_base.specs.declared.error.CoreError.TheVariants.{OutOfMemory};
@@ -14,7 +14,7 @@ ghost use Rattle.xet_shards.specs.Write.Written.{HasWrittenXorbs};
 use std::alloc::Global;
 use xet_base::error::{CoreError, Result};
 use xet_base::fields::{split_u32, split_u64};
-use xet_base::source::{MemorySource, ShardSource};
+use xet_base::source::MemorySource;
 use xet_records::rows::ROW_SIZE;
 use xet_shards::shard_format::{MDBShardFileFooter, MDBShardInfo};
 use xet_shards::shard_writer::WrittenXorbs;
@@ -77,8 +77,8 @@ pub struct RowOrder {
 }
 
 impl RowOrder {
-    /// No row yet.
-    pub fn new(alloc: Global) -> RowOrder
+    // No row yet.
+    fn new(alloc: Global) -> RowOrder
         ensures { result.places.items ≡ [] }
     {
         RowOrder {
@@ -88,7 +88,7 @@ impl RowOrder {
     }
 
     // Adds the rows of an input, for those of the written xorbs that were met in none before.
-    // Allocates nothing if the input has no table.
+    // Allocates nothing if the input has no table. `OutOfMemory` if an allocation fails.
     fn add(&mut self, alloc: Global, written: &WrittenXorbs, input: &InputTables<'_>) -> Result<()>
         ensures { IfErr result (λ e. e ≡ OutOfMemory) }
     {
@@ -102,27 +102,6 @@ impl RowOrder {
         }
         let firsts = first_places(alloc, input, table, self.met.as_mut_slice())?;
         add_places(&mut self.places, input.chunks, firsts.as_slice())
-    }
-
-    /// Adds the rows of a source, if it is in memory, for those of the written xorbs that were met
-    /// in none before. `OutOfMemory` if an allocation fails.
-    pub fn add_source<S: ShardSource>(
-        &mut self,
-        alloc: Global,
-        written: &WrittenXorbs,
-        source: &S,
-        info: &MDBShardInfo,
-    ) -> Result<()>
-        ensures { IfErr result (λ e. e ≡ OutOfMemory) }
-    {
-        match source.in_memory() {
-            Some(bytes) => self.add(
-                alloc,
-                written,
-                &InputTables::of_bytes(bytes, &info.metadata),
-            ),
-            None => Ok(()),
-        }
     }
 
     /// The same xorbs, with this order.
@@ -146,9 +125,12 @@ pub fn row_order(alloc: Global, inputs: &[&[u8]], written: &WrittenXorbs) -> Res
         return Ok(order);
     }
     for input in inputs {
-        let mut source = MemorySource::new(input);
-        match MDBShardInfo::load_from_reader(alloc, &mut source) {
-            Ok(info) => order.add_source(alloc, written, &source, &info)?,
+        match MDBShardInfo::load_from_reader(alloc, &mut MemorySource::new(input)) {
+            Ok(info) => order.add(
+                alloc,
+                written,
+                &InputTables::of_bytes(input, &info.metadata),
+            )?,
             Err(CoreError::OutOfMemory) => return Err(CoreError::OutOfMemory),
             Err(_) => {}
         }

@@ -10,9 +10,7 @@ ghost use Rattle.xet_records.specs.declared.row_copier.CopyFailure.TheVariants.{
 ghost use Rattle.xet_records.specs.Copying.{IsOutputFailure};
 ghost use Rattle.xet_shards.specs.declared.shard_format.ends.info.MDBShardInfo.{MDBShardInfo};
 ghost use Rattle.xet_shards.specs.Ends.Ends.{FitsFooter};
-ghost use Rattle.xet_records.specs.declared.xorb_structs.MDBXorbInfo.{MDBXorbInfo};
 ghost use Rattle.xet_shards.specs.Write.Layout.{shard_header_bytes, header_value};
-ghost use Rattle.xet_shards.specs.Write.Written.{HasWrittenXorbs};
 ghost use Rattle.xet_shards.specs.Content.SetOperations.{IsDifference};
 ghost use Rattle.xet_shards.specs.Content.Shard.{Shard};
 ghost use Rattle.xet_core_structures.specs.Records.ByteUnion.{IsByteUnion};
@@ -24,7 +22,6 @@ ghost use Rattle.xet_core_structures.specs.TwoShards.Streams.{streams};
 
 use super::record_operation::{OfDifference, OfUnion, RecordOperation};
 use super::sections::combine_sections;
-use crate::set_operations::table_order::RowOrder;
 use std::alloc::Global;
 use std::io::Write;
 use xet_base::error::{CoreError, Result};
@@ -120,33 +117,7 @@ pub fn operate<O: SetOperation, S: ShardSource, T: ShardSource, W: Write>(
         key,
         ..LayoutOptions::plain(None)
     };
-    let ordered = ordered::<S, T>(alloc, xorbs, s1, r1, s2, r2)?;
-    write_tables(out, &files, ordered, &options)
-}
-
-// The same xorbs, with an order in which the rows of their chunk table may stand, by the tables of
-// those inputs that are in memory. The failure is that of an allocation.
-fn ordered<S: ShardSource, T: ShardSource>(
-    alloc: Global,
-    xorbs: WrittenXorbs,
-    s1: &MDBShardInfo,
-    r1: &S,
-    s2: &MDBShardInfo,
-    r2: &T,
-) -> CopyResult<WrittenXorbs>
-    ensures same { IfOk result (λ made. (xs : List MDBXorbInfo)
-        → HasWrittenXorbs xorbs xs → HasWrittenXorbs made xs) }
-    ensures causes { IfErr result IsOutputFailure }
-{
-    let mut order = RowOrder::new(alloc);
-    let added = match order.add_source(alloc, &xorbs, r1, s1) {
-        Ok(()) => order.add_source(alloc, &xorbs, r2, s2),
-        Err(error) => Err(error),
-    };
-    match added {
-        Ok(()) => Ok(order.of(xorbs)),
-        Err(error) => Err(CopyFailure::Output(error)),
-    }
+    write_tables(out, &files, xorbs, &options)
 }
 
 // Where a section is in a source, and the version in which it is read.

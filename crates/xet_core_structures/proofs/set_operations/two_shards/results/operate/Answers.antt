@@ -1,24 +1,10 @@
-use Rattle.std.proofs.Common.{◌≡◌, ℕ, List, Ok, Err, rules, subst}
-use Rattle.std.specs.Prelude.{IfOk, Option}
-use Rattle.std.specs.declared.result.Result.{Result}
+use Rattle.std.proofs.Common.{◌≡◌, rules, subst}
+use Rattle.std.specs.Prelude.{IfOk}
 use Rattle.std.proofs.lemmas.Result.{err_from_is_err_and}
-use Rattle.xet_records.specs.declared.row_copier.CopyFailure.{CopyFailure}
-use Rattle.xet_records.specs.declared.xorb_structs.MDBXorbInfo.{MDBXorbInfo}
-use Rattle.xet_shards.specs.declared.shard_format.ends.info.MDBShardInfo.{MDBShardInfo}
-use Rattle.xet_shards.specs.declared.shard_format.ends.options.LayoutOptions.{LayoutOptions}
-use Rattle.xet_shards.specs.declared.shard_format.write.written.WrittenFiles.{WrittenFiles}
-use Rattle.xet_shards.specs.declared.shard_format.write.written.WrittenXorbs.{WrittenXorbs}
-use Rattle.xet_shards.specs.Write.Written.{HasWrittenXorbs}
-use Rattle.xet_core_structures.specs.TwoShards.ByteResults.{key_of, keyed_options}
+use Rattle.xet_core_structures.specs.TwoShards.ByteResults.{key_of}
 use Rattle.xet_core_structures.specs.Steps.ByteResults.{WritesEnd}
 use Rattle.xet_core_structures.proofs.TwoShards.SetOperationSteps.{files_failed, xorbs_failed, tables_written}
 use Rattle.xet_core_structures.proofs.set_operations.two_shards.results.operate.Goals as goal
-
--- in whatever order the rows of the chunk table may stand
-in_any_order : (xorbs ordered : WrittenXorbs) (files : WrittenFiles) (options : LayoutOptions) (old new : Option (List ℕ)) (r : Result MDBShardInfo CopyFailure)
-    → ((xs : List MDBXorbInfo) → HasWrittenXorbs xorbs xs → HasWrittenXorbs ordered xs) → IfOk r (WritesEnd files ordered options old new) → IfOk r (WritesEnd files xorbs options old new)
-in_any_order xorbs ordered files options old new (Ok info) same ends = λ rs xs fit of_files of_xorbs. ends rs xs fit of_files (same xs of_xorbs)
-in_any_order xorbs ordered files options old new (Err failure) same ends = tt
 
 pub returns-in_err-files-clause-outcome : goal.returns-in_err-files-clause-outcome
 returns-in_err-files-clause-outcome g c =
@@ -34,15 +20,6 @@ returns-in_err-xorbs-clause-outcome g c =
     (g.S.ShardSource.meaning c.combine_at.new.r1) (g.T.ShardSource.meaning c.combine_at.new.r2) c.in_ok-files.files _ _ (rw (c.of_files-files_1.ensures, c.of_files-files_2.ensures) at c.in_ok-files.ensures) _ _ _ _ _
     (rw (c.of_xorbs-xorbs_1.ensures, c.of_xorbs-xorbs_2.ensures) at c.in_err-xorbs.ensures))
 
-pub returns-in_err-ordered-clause-outcome : goal.returns-in_err-ordered-clause-outcome
-returns-in_err-ordered-clause-outcome g c =
-    let same : key_of c.args.s1.now ≡ key_of c.args.s2.now = search (rules, c.if-ne.false, c.if-ne.ensures, c.ne.ensures) in
-    let p = err_from_is_err_and c.from_residual-in_err-ordered.result c.from_residual-in_err-ordered.ensures.1 in
-    let sections = g.W.Write.contents c.combine_at-2.new.out in
-    rw (p.1, p.2) (tables_written (g.S.ShardSource.meaning c.args.r1.now) (g.T.ShardSource.meaning c.args.r2.now) c.args.s1.now c.args.s2.now same _ _ _ _ c.laws.ensures
-    (g.S.ShardSource.meaning c.combine_at.new.r1) (g.T.ShardSource.meaning c.combine_at.new.r2) c.in_ok-files.files (g.W.Write.contents c.write_header.new.out) _ (rw (c.of_files-files_1.ensures, c.of_files-files_2.ensures) at c.in_ok-files.ensures) _ _ c.in_ok-xorbs.xorbs _
-    (rw (c.of_xorbs-xorbs_1.ensures, c.of_xorbs-xorbs_2.ensures) at c.in_ok-xorbs.ensures) (g.W.Write.contents c.args.out.now) sections (Err _) c.in_ok-write_header.ensures.appended tt tt c.in_err-ordered.ensures.causes)
-
 pub returns-clause-outcome : goal.returns-clause-outcome
 returns-clause-outcome g c =
     let same : key_of c.args.s1.now ≡ key_of c.args.s2.now = search (rules, c.if-ne.false, c.if-ne.ensures, c.ne.ensures) in
@@ -51,6 +28,5 @@ returns-clause-outcome g c =
     tables_written (g.S.ShardSource.meaning c.args.r1.now) (g.T.ShardSource.meaning c.args.r2.now) c.args.s1.now c.args.s2.now same _ _ _ _ c.laws.ensures
     (g.S.ShardSource.meaning c.combine_at.new.r1) (g.T.ShardSource.meaning c.combine_at.new.r2) c.in_ok-files.files (g.W.Write.contents c.write_header.new.out) _ (rw (c.of_files-files_1.ensures, c.of_files-files_2.ensures) at c.in_ok-files.ensures) _ _ c.in_ok-xorbs.xorbs _
     (rw (c.of_xorbs-xorbs_1.ensures, c.of_xorbs-xorbs_2.ensures) at c.in_ok-xorbs.ensures) (g.W.Write.contents c.args.out.now) end c.write_tables.result c.in_ok-write_header.ensures.appended
-    (in_any_order c.in_ok-xorbs.xorbs c.in_ok-ordered.ordered c.in_ok-files.files (keyed_options (key_of c.args.s1.now)) sections end c.write_tables.result c.in_ok-ordered.ensures.same
-    (subst (λ f. IfOk c.write_tables.result (WritesEnd c.in_ok-files.files c.in_ok-ordered.ordered (record f { key = key_of c.args.s1.now }) sections end)) c.plain.ensures c.write_tables.ensures.written))
+    (subst (λ f. IfOk c.write_tables.result (WritesEnd c.in_ok-files.files c.in_ok-xorbs.xorbs (record f { key = key_of c.args.s1.now }) sections end)) c.plain.ensures c.write_tables.ensures.written)
     c.write_tables.ensures.widths c.write_tables.ensures.causes
