@@ -46,6 +46,14 @@ fn errors_have_texts(rt: HostRuntime) -> std::result::Result<(), Fail> {
     let invalid = CoreError::invalid_shard(alloc, "no end");
     assert!(rt; has_text(alloc, invalid, "Invalid shard: no end")?);
     let collision = CoreError::TruncatedHashCollision(5);
+    let empty = String::new(alloc);
+    assert!(rt;
+        has_text(
+            alloc,
+            CoreError::InvalidShard(empty),
+            "Invalid shard: the bytes break a rule of the format"
+        )?
+    );
     assert!(rt;
         has_text(
             alloc,

@@ -15,7 +15,21 @@ use thiserror::Error;
 #[derive(Clone, Copy)]
 pub enum Infallible {}
 
-/// Why a call failed. Two errors are equal exactly if their variants are.
+// What an error without a text says, if its variant says nothing more.
+const NO_REASON: &str = "no reason was given";
+
+// The text of an error, or what its variant says if that is empty: a text has to be allocated, so
+// the errors of calls that read have none.
+fn text_or<'a>(text: &'a String, otherwise: &'a str) -> &'a str {
+    if text.is_empty() {
+        otherwise
+    } else {
+        text.as_str()
+    }
+}
+
+/// Why a call failed. Two errors are equal exactly if their variants are. Its message says what the
+/// variant means where the text is empty.
 #[derive(Drop, Error)]
 pub enum CoreError {
     /// The input ended too early (`UnexpectedEof`), verification rows are missing (`Other`), or a
@@ -23,19 +37,19 @@ pub enum CoreError {
     #[error("I/O error: {0}")]
     Io(io::Error),
     /// A row number leads to the bookend of a section.
-    #[error("Internal error: {0}")]
+    #[error("Internal error: {}", text_or(.0, "a row number leads to the end of a section"))]
     InternalError(String),
     /// Any other failure, in words.
-    #[error("{0}")]
+    #[error("{}", text_or(.0, NO_REASON))]
     Other(String),
     /// So many records share this first word of a hash that a lookup gives up.
     #[error("Too many collisions for truncated hash: {0}")]
     TruncatedHashCollision(u64),
     /// An unsupported tag or version of a header or a footer.
-    #[error("Shard version error: {0}")]
+    #[error("Shard version error: {}", text_or(.0, "not a shard, or of a version that is not read"))]
     ShardVersion(String),
     /// Not made by this library.
-    #[error("Bad filename: {0}")]
+    #[error("Bad filename: {}", text_or(.0, NO_REASON))]
     BadFilename(String),
     /// Not made by this library.
     #[error("Shard not found: {0}")]
@@ -44,13 +58,13 @@ pub enum CoreError {
     #[error("File not found: {0}")]
     FileNotFound(MerkleHash),
     /// Not made by this library.
-    #[error("Query failed: {0}")]
+    #[error("Query failed: {}", text_or(.0, NO_REASON))]
     QueryFailed(String),
     /// Not made by this library.
-    #[error("Smudge query policy error: {0}")]
+    #[error("Smudge query policy error: {}", text_or(.0, NO_REASON))]
     SmudgeQueryPolicy(String),
     /// The bytes are not a valid shard.
-    #[error("Invalid shard: {0}")]
+    #[error("Invalid shard: {}", text_or(.0, "the bytes break a rule of the format"))]
     InvalidShard(String),
     /// Not made by this library.
     #[error("Invalid range")]
@@ -59,7 +73,7 @@ pub enum CoreError {
     #[error("Invalid arguments")]
     InvalidArguments,
     /// Not made by this library; see [`Validate`].
-    #[error("Malformed data: {0}")]
+    #[error("Malformed data: {}", text_or(.0, NO_REASON))]
     MalformedData(String),
     /// Not made by this library.
     #[error("Hash mismatch")]
