@@ -5,6 +5,7 @@ use std::io;
 use std::io::ErrorKind;
 use std::test::Fail;
 use xet_core_structures::error::{CoreError, Result, Validate};
+use xet_core_structures::merklehash::MerkleHash;
 use xet_core_structures::source::{MemorySource, ShardSource, read_full};
 
 /// The `CoreError` that an error becomes.
@@ -45,7 +46,6 @@ fn errors_have_texts(rt: HostRuntime) -> std::result::Result<(), Fail> {
     assert!(rt; has_text(alloc, CoreError::other(alloc, "words"), "words")?);
     let invalid = CoreError::invalid_shard(alloc, "no end");
     assert!(rt; has_text(alloc, invalid, "Invalid shard: no end")?);
-    let collision = CoreError::TruncatedHashCollision(5);
     let empty = String::new(alloc);
     assert!(rt;
         has_text(
@@ -54,6 +54,7 @@ fn errors_have_texts(rt: HostRuntime) -> std::result::Result<(), Fail> {
             "Invalid shard: the bytes break a rule of the format"
         )?
     );
+    let collision = CoreError::TruncatedHashCollision(5);
     assert!(rt;
         has_text(
             alloc,
@@ -63,6 +64,15 @@ fn errors_have_texts(rt: HostRuntime) -> std::result::Result<(), Fail> {
     );
     assert!(rt; has_text(alloc, CoreError::InvalidArguments, "Invalid arguments")?);
     assert!(rt; has_text(alloc, CoreError::OutOfMemory, "Out of memory")?);
+    Ok(())
+}
+
+#[test]
+fn hashes_are_shown_in_digits(rt: HostRuntime) -> std::result::Result<(), Fail> {
+    let alloc = rt.alloc();
+    let hash = MerkleHash::from([1, 2, 3, 0xab]);
+    let shown = format!(in alloc; "{hash:?}")?;
+    assert_eq!(rt; shown.as_str(), hash.hex(alloc)?.as_str());
     Ok(())
 }
 

@@ -17,7 +17,7 @@ use std::ops::Index;
 use thiserror::Error;
 
 /// Four 64-bit words, ordered by word 0, then 1, 2 and 3.
-#[derive(Clone, Copy, Default, Debug, PartialEq, Eq, PartialOrd, Ord, Hash)]
+#[derive(Clone, Copy, Default, PartialEq, Eq, PartialOrd, Ord, Hash)]
 pub struct DataHash {
     pub word0: u64,
     pub word1: u64,
@@ -100,6 +100,13 @@ impl fmt::Display for DataHash {
             word3,
         } = *self;
         write!(f, "{word0:016x}{word1:016x}{word2:016x}{word3:016x}")
+    }
+}
+
+/// The same digits.
+impl fmt::Debug for DataHash {
+    fn fmt<W: fmt::Write>(&self, f: &mut fmt::Formatter<W>) -> fmt::Result {
+        write!(f, "{self}")
     }
 }
 
