@@ -132,6 +132,8 @@ fn rows_are_a_list(rt: HostRuntime) -> std::result::Result<(), Fail> {
     let rows = two_rows(alloc)?;
     assert_eq!(rt; rows.len(), 2);
     assert!(rt; !rows.is_empty());
+    assert_eq!(rt; rows[1], rows.as_slice()[1]);
+    assert_eq!(rt; rows.iter().count(), 2);
     assert_eq!(rt; rows.try_clone(alloc)?, rows);
     assert_eq!(rt; rows.into_vec().len(), 2);
     Ok(())

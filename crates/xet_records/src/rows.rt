@@ -12,6 +12,7 @@ use std::alloc::{AllocError, AllocFailed, Global};
 use std::io;
 use std::io::{Read, Write};
 use std::marker::Model;
+use std::ops::DerefSlice;
 use xet_base::error::Result;
 use xet_base::input::OfReader;
 use xet_base::serialization_utils::write_bytes;
@@ -45,6 +46,17 @@ impl<T> From<Vec<T>> for Rows<T> {
 
     fn from(items: Vec<T>) -> Rows<T> {
         Rows { items }
+    }
+}
+
+/// The rows as a slice: `rows[i]`, `rows.iter()`, `for row in &*rows`.
+impl<T> DerefSlice for Rows<T> {
+    type Elem = T;
+
+    ghost deref_gives = { λ rows items. items ≡ rows };
+
+    fn deref(&self) -> &[T] {
+        self.items.as_slice()
     }
 }
 
