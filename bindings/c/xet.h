@@ -4,6 +4,10 @@
  * between calls: there is no handle, and nothing to free. Shards of versions 2 and 3 of the format are read, and
  * version 3 is written, but by xet_write_v2. Any number of threads may call at once. This file is C99, and C++11.
  *
+ * xet_export, xet_write_v2, xet_minimal, xet_subset, xet_eligible and xet_check find the two sections behind the header;
+ * all other calls that read records by the offsets in the footer. So of bytes with a wrong footer one call may read other
+ * records than another. xet_check finds such a footer.
+ *
  * A call returns 0 or the number of an error. If the result is not 0, every output but a count stays as it was: what
  * `out`, `info`, `run`, `file`, `segments` and `hash` point to is not touched, unless a call says otherwise below. A
  * call that fills an array of the caller, `out` of `capacity` items, sets `*written` to the number of items that it
@@ -264,7 +268,7 @@ uint32_t xet_query_chunks(const uint8_t *shard, size_t length, const xet_hash *h
 
 /* Writes the hashes of the chunks that the global index keeps, each once and in ascending order: chunks that are
  * marked, those whose word 3 is a multiple of 1024, and those at which a file starts. Only the header and the sections
- * are read. `capacity` and `*written` count hashes.
+ * are read. `capacity` and `*written` count hashes, which are at most `length` / 48.
  *
  * XET_SHARD_VERSION: the tag is another, or the version is neither 2 nor 3.
  * XET_IO: the bytes end before the sections do.
@@ -341,7 +345,8 @@ typedef struct xet_chunk {
 uint32_t xet_xorb_at(const uint8_t *shard, size_t length, uint32_t row, xet_place *place, xet_xorb *xorb,
                      xet_chunk *chunks, size_t capacity);
 
-/* What is wrong with the bytes of a shard. A kind that has no part or number has 0 there. */
+/* What is wrong with the bytes of a shard. XET_NO_TAG and XET_OTHER_VERSION have the part XET_HEADER, XET_NO_FOOTER has
+ * XET_FOOTER, and XET_TOO_SHORT and XET_OTHER_SIZE have none. A kind that has no part or number has 0 there. */
 enum xet_finding_kind {
     XET_NO_TAG = 1,       /* the first 32 bytes are not the tag of a shard */
     XET_OTHER_VERSION,    /* the header has the version `number`, which is neither 2 nor 3 */
@@ -381,13 +386,15 @@ typedef struct xet_finding {
  * XET_OUT_OF_MEMORY, XET_SHORT. */
 uint32_t xet_check(const uint8_t *shard, size_t length, xet_finding *out, size_t capacity, size_t *written);
 
-/* Writes the 64 hexadecimal digits of a hash, in lower case. XET_OUT_OF_MEMORY, XET_SHORT. */
+/* Writes the 64 hexadecimal digits of a hash, in lower case, without a zero byte behind them. XET_OUT_OF_MEMORY,
+ * XET_SHORT. */
 uint32_t xet_hash_to_hex(const xet_hash *hash, uint8_t *out, size_t capacity, size_t *written);
 
 /* Reads a hash from its 64 hexadecimal digits, of either case. XET_HASH_PARSING: it is another text. */
 uint32_t xet_hash_from_hex(const uint8_t *text, size_t length, xet_hash *hash);
 
-/* Writes the name of the file of the shard with this hash: its 64 digits and `.mdb`. XET_OUT_OF_MEMORY, XET_SHORT. */
+/* Writes the name of the file of the shard with this hash: its 64 digits and `.mdb`, without a zero byte behind them.
+ * XET_OUT_OF_MEMORY, XET_SHORT. */
 uint32_t xet_shard_name(const xet_hash *hash, uint8_t *out, size_t capacity, size_t *written);
 
 /* Reads the hash in the name of a shard file, which is 64 hexadecimal digits of either case and `.mdb`.
