@@ -9,9 +9,10 @@ use Rattle.mdb_report.specs.declared.parts.Parts.{Parts}
 use Rattle.mdb_report.specs.Parts.{PartsAscend}
 use Rattle.mdb_report.specs.Summary.{ArePartsOf}
 
--- the inquiry may find problems: a summary or a check
+-- the inquiry may find problems: a summary, also in a line, or a check
 abbrev pub FindsProblems : Inquiry → Type 0
 FindsProblems Summary = ⊤
+FindsProblems Brief = ⊤
 FindsProblems (Check named) = ⊤
 FindsProblems _ = ⊥
 
@@ -38,5 +39,6 @@ HasAscendingParts bytes =
 -- what an inquiry that may find problems says of the bytes if it finds none
 abbrev pub IsClean : Inquiry → List ℕ → Type 0
 IsClean Summary bytes = HasAscendingParts bytes
+IsClean Brief bytes = HasAscendingParts bytes
 IsClean (Check named) bytes = IsWhole bytes
 IsClean _ bytes = ⊤

@@ -7,6 +7,7 @@ ghost use Rattle.xet_core_structures.specs.TwoShards.ByteResults.{LoadRefusal};
 ghost use Rattle.mdb_report.specs.Brief.{SaysBriefly, AddsTo};
 
 use crate::hex::Hex;
+use crate::parts::Parts;
 use crate::shown::Shown;
 use crate::summary::key_of;
 use serde::Serialize;
@@ -16,12 +17,14 @@ use std::fmt;
 use xet_core_structures::error::Result;
 use xet_core_structures::shard_format::MDBShardInfo;
 
-/// What a shard's header and footer say, without where the parts are.
+/// What a shard's header and footer say, without where the parts are, but for whether they ascend.
 #[derive(Drop, Serialize)]
 pub struct Brief<'a> {
     pub file: &'a str,
     pub version: u64,
     pub bytes: u64,
+    /// Whether the offsets of the footer ascend within the file.
+    pub ascends: bool,
     pub key: Option<Hex>,
     /// The bytes of the xorbs, unpacked.
     pub stored_bytes: u64,
@@ -51,6 +54,7 @@ impl<'a> Brief<'a> {
             file,
             version: info.header.version,
             bytes,
+            ascends: Parts::of_shard(info, bytes).ascend(),
             key: key_of(info),
             stored_bytes: info.metadata.stored_bytes,
             materialized_bytes: info.metadata.materialized_bytes,
@@ -101,8 +105,13 @@ impl fmt::Display for Brief<'_> {
             "{file}: version {version}, {bytes} bytes, stored {stored}, materialized {materialized}"
         )?;
         match self.key {
-            Some(key) => write!(f, ", key {key}"),
-            None => Ok(()),
+            Some(key) => write!(f, ", key {key}")?,
+            None => {}
+        }
+        if self.ascends {
+            Ok(())
+        } else {
+            write!(f, ", offsets do not ascend within the file")
         }
     }
 }

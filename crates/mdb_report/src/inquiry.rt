@@ -144,11 +144,7 @@ pub fn print_answer<W: Write>(
 {
     match inquiry {
         Inquiry::Summary => return summarize(alloc, file, bytes, layout.style, output),
-        Inquiry::Brief => {
-            let brief = Brief::of_bytes(alloc, file, bytes)?;
-            tally.total.add(&brief);
-            print(alloc, &brief, Layout::plain(layout.style), output)?;
-        }
+        Inquiry::Brief => return brief_of(alloc, file, bytes, layout.style, tally, output),
         Inquiry::Check { named } => {
             return check(alloc, file, *named, bytes, layout.style, output);
         }
@@ -240,6 +236,42 @@ pub(crate) fn print_summary<W: Write>(
 {
     print(alloc, summary, Layout::plain(style), output)?;
     if summary.parts.ascend() {
+        Ok(Answer::Printed)
+    } else {
+        Ok(Answer::FoundProblems)
+    }
+}
+
+// The same in a line, which is added to a tally.
+fn brief_of<W: Write>(
+    alloc: Global,
+    file: &str,
+    bytes: &[u8],
+    style: Style,
+    tally: &mut Tally,
+    output: &mut W,
+) -> Result<Answer, Trouble>
+    ensures { IfOk result (λ answer. (answer ≢ Answer.FoundNothing)
+        × (answer ≡ Answer.Printed → HasAscendingParts bytes.now)) }
+{
+    let brief = Brief::of_bytes(alloc, file, bytes)?;
+    print_brief(alloc, &brief, style, tally, output)
+}
+
+// Prints a brief report, adds it to a tally, and answers whether its parts ascend.
+pub(crate) fn print_brief<W: Write>(
+    alloc: Global,
+    brief: &Brief<'_>,
+    style: Style,
+    tally: &mut Tally,
+    output: &mut W,
+) -> Result<Answer, Trouble>
+    ensures { IfOk result (λ answer. (answer ≢ Answer.FoundNothing)
+        × (answer ≡ Answer.Printed → IsTrue brief.now.ascends)) }
+{
+    tally.total.add(brief);
+    print(alloc, brief, Layout::plain(style), output)?;
+    if brief.ascends {
         Ok(Answer::Printed)
     } else {
         Ok(Answer::FoundProblems)

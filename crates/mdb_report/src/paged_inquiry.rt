@@ -5,7 +5,7 @@ ghost use Rattle.mdb_report.specs.Answers.{FindsProblems, LooksUp};
 
 use crate::brief::Brief;
 use crate::inquiry::{
-    Answer, Inquiry, Trouble, print_lookup, print_run, print_summary, print_xorb,
+    Answer, Inquiry, Trouble, print_brief, print_lookup, print_run, print_summary, print_xorb,
 };
 use crate::line::{Layout, print};
 use crate::paged_file::PagedFile;
@@ -23,7 +23,8 @@ use xet_records::record_reader::FormatVersion;
 /// Prints the answer of the shard in a file of so many bytes, as `print_answer` does. Lookups read
 /// the pages that they need, and records are printed as they are read, also those before one that
 /// cannot be read. `None`, with nothing printed, if all of the file is to be read: for a check, for
-/// the chunks of the global index, and for a lookup without the rows of its table.
+/// the chunks of the global index, and for a lookup without the rows of its table. A section whose
+/// offset is past the end of the file ends there, before its bookend.
 pub fn print_paged_answer<F: Read + Seek + Drop, W: Write>(
     alloc: Global,
     inquiry: &Inquiry,
@@ -51,15 +52,14 @@ pub fn print_paged_answer<F: Read + Seek + Drop, W: Write>(
         }
         Inquiry::Brief => {
             let brief = Brief::of_info(name, &info, size);
-            tally.total.add(&brief);
-            print(alloc, &brief, Layout::plain(layout.style), output)?;
+            return Ok(Some(print_brief(alloc, &brief, layout.style, tally, output)?));
         }
         Inquiry::Files { long } => {
-            let reader = file.reader_at(info.metadata.file_info_offset)?;
+            let reader = file.reader_at(info.metadata.file_info_offset.min(size))?;
             list_files(alloc, reader, &info, *long, layout, output)?;
         }
         Inquiry::Xorbs { .. } | Inquiry::Chunks { .. } => {
-            let reader = file.reader_at(info.metadata.xorb_info_offset)?;
+            let reader = file.reader_at(info.metadata.xorb_info_offset.min(size))?;
             list_xorbs(alloc, reader, inquiry, layout, output)?;
         }
         Inquiry::Find { hashes, costs } if info.metadata.file_lookup_num_entry != 0 => {
