@@ -65,7 +65,6 @@ fn taking<'a>(arg: Arg<'a>, takes: Takes) -> Arg<'a> {
         Takes::NeededValue => arg.required(true),
         Takes::NeededNumber => arg.required(true).value_parser(value_parser!(u64)),
         Takes::EachValue => arg.action(ArgAction::Append),
-        Takes::EachValues => arg.num_args(1..).action(ArgAction::Append),
         Takes::Version => arg.value_parser(VERSIONS),
         Takes::Output => arg.short('o').required(true),
         _ => arg,

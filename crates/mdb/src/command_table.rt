@@ -83,8 +83,6 @@ pub enum Takes {
     ValuesOrList,
     /// A value, each time that it is given.
     EachValue,
-    /// Any number of values, each time that it is given.
-    EachValues,
     /// A version of the format.
     Version,
     /// Where to write.
@@ -229,8 +227,8 @@ const COMMANDS: &[Row] = &[
             option!(
                 HASHES,
                 "hash",
-                EachValues,
-                "The files' hashes, of 64 hexadecimal digits each"
+                EachValue,
+                "The hash of a file, of 64 hexadecimal digits; it may be given again"
             ),
             flag!(COSTS, "Prints the seeks and the bytes read of each lookup"),
             JSON,
@@ -247,8 +245,8 @@ const COMMANDS: &[Row] = &[
             option!(
                 HASHES,
                 "hash",
-                EachValues,
-                "The chunks' hashes in order, of 64 hexadecimal digits each"
+                EachValue,
+                "The hash of a chunk, of 64 hexadecimal digits; given again, of those that follow it"
             ),
             JSON,
         ],

@@ -9,7 +9,7 @@ pub const XORBS: &str = "Example:\n  mdb xorbs --json a.mdb";
 pub const CHUNKS: &str = "Example:\n  mdb chunks a.mdb";
 
 pub const FIND_USAGE: &str = "mdb find [OPTIONS] <FILE> <HASH>...
-       mdb find [OPTIONS] <FILE>... --hash <HASH>...";
+       mdb find [OPTIONS] --hash <HASH> <FILE>...";
 
 pub const FIND: &str =
     "With more than one shard, or a folder or a list of them, each line begins with the shard's
@@ -17,10 +17,10 @@ name. A hash that a shard does not have is then reported only if no shard has it
 
 Examples:
   mdb find --costs a.mdb 0000000000000064000000000000000100000000000000000000000000000000
-  mdb find cache --hash 0000000000000064000000000000000100000000000000000000000000000000";
+  mdb find --hash 0000000000000064000000000000000100000000000000000000000000000000 cache";
 
 pub const QUERY_USAGE: &str = "mdb query [OPTIONS] <FILE> <HASH>...
-       mdb query [OPTIONS] <FILE>... --hash <HASH>...";
+       mdb query [OPTIONS] --hash <HASH> <FILE>...";
 
 pub const QUERY: &str =
     "With more than one shard, or a folder or a list of them, each line begins with the shard's
@@ -28,7 +28,7 @@ name. That a shard has no such run is then reported only if no shard has one.
 
 Examples:
   mdb query a.mdb 0000000000000015000000000000000100000000000000000000000000000000
-  mdb query cache --hash 0000000000000015000000000000000100000000000000000000000000000000";
+  mdb query --hash 0000000000000015000000000000000100000000000000000000000000000000 cache";
 
 pub const CHECK: &str = "Example:\n  mdb check cache";
 
