@@ -7,11 +7,16 @@ use crate::run::failed;
 use crate::words::escaped;
 use mdb_report::fault::Fault;
 use std::alloc::{AllocError, AllocFailed, Global};
-use std::fs;
+use std::io::Read;
 use std::rt::Files;
+use std::{fs, io};
 
 /// The end of a shard's name in a folder.
 const ENDING: &str = ".mdb";
+
+/// How many bytes of the names in a folder are read at once. No read ends inside a name, and 4096
+/// have room for any.
+const NAMES_SIZE: usize = 8192;
 
 /// The shards that a command reads.
 #[derive(Drop)]
@@ -79,31 +84,40 @@ impl Inputs {
         Ok(())
     }
 
-    // Adds the shards in a folder, in the order of their names, without those that are hidden.
+    // Adds the shards in a folder, in the order of their names: the regular files, also behind
+    // links, that are not hidden. Reports those whose names are no UTF-8.
     fn add_folder<R: Files + Eprint + AllocGlobal + Clone + Drop>(
         &mut self,
         rt: &R,
         folder: &str,
     ) -> Result<(), OutOfMemory> {
         let alloc = rt.alloc();
-        let entries = match fs::read_dir(rt, folder) {
-            Ok(entries) => entries,
-            Err(error) => {
-                self.report(rt, folder, Fault::from(error));
-                return Ok(());
-            }
-        };
+        let mut names = Vec::new(alloc);
+        if let Err(error) = read_names(rt, folder, &mut names) {
+            self.report(rt, folder, Fault::from(error));
+        }
         let mut found = Vec::new(alloc);
-        for entry in entries {
-            match entry {
-                Ok(entry) => {
-                    let name = entry.file_name();
-                    if name.ends_with(ENDING) && !name.starts_with('.') {
-                        found.push(path_in(alloc, folder, name)?)?;
+        let mut unreadable = Vec::new(alloc);
+        for name in names.as_slice().split(|byte| *byte == 0) {
+            if !name.ends_with(ENDING.as_bytes()) || name.starts_with(b".") {
+                continue;
+            }
+            match str::from_utf8(name) {
+                Ok(name) => {
+                    let path = path_in(alloc, folder, name)?;
+                    if !is_no_file(rt, path.as_str()) {
+                        found.push(path)?;
                     }
                 }
-                Err(error) => self.report(rt, folder, Fault::from(error)),
+                Err(_) => {
+                    let name = escaped(alloc, name)?;
+                    unreadable.push(path_in(alloc, folder, name.as_str())?)?;
+                }
             }
+        }
+        unreadable.as_mut_slice().sort_unstable();
+        for path in &unreadable {
+            self.report(rt, path.as_str(), Fault::NoText);
         }
         found.as_mut_slice().sort_unstable();
         for path in found {
@@ -150,6 +164,32 @@ fn is_folder<R: Files>(rt: &R, path: &str) -> bool {
         Ok(there) => there.is_dir(),
         Err(_) => false,
     }
+}
+
+// Whether there is something at a path that is no regular file, as a folder or a pipe. A link that
+// leads nowhere is none, so that it is reported.
+fn is_no_file<R: Files>(rt: &R, path: &str) -> bool {
+    match fs::metadata(rt, path) {
+        Ok(there) => !there.is_file(),
+        Err(_) => false,
+    }
+}
+
+// Appends the names in a folder, each ended by a zero. `fs::read_dir` does not give names that are
+// no UTF-8.
+fn read_names<R: Files + AllocGlobal>(rt: &R, folder: &str, names: &mut Vec<u8>) -> io::Result<()> {
+    // The slash leads to the folder behind a link.
+    let path = path_in(rt.alloc(), folder, "")?;
+    let mut dir = rt.open_dir(path.as_str())?;
+    let mut block = [0u8; NAMES_SIZE];
+    for _ in 0..u64::MAX {
+        let n = dir.read(&mut block)?;
+        if n == 0 {
+            break;
+        }
+        names.extend_from_slice(&block[..n])?;
+    }
+    Ok(())
 }
 
 fn path_in(alloc: Global, folder: &str, name: &str) -> Result<String, AllocError> {
