@@ -222,8 +222,7 @@ uint32_t xet_export(const uint8_t *shard, size_t length, const xet_export_option
  * and the sections are read, so the shard may end after them.
  *
  * XET_SHARD_VERSION: the tag is another, or the version is neither 2 nor 3.
- * XET_IO: the bytes end before the sections do; or verification rows are asked for and a file has none. Where they are
- *     asked for, it is not proved that there is no other XET_IO.
+ * XET_IO: the bytes end before the sections do; or verification rows are asked for and a file has none.
  * XET_INVALID_SHARD: a file has a row that the version does not have, or a section more than 4294967295 rows.
  * XET_OUT_OF_MEMORY, XET_SHORT. */
 uint32_t xet_minimal(const uint8_t *shard, size_t length, uint64_t now, bool verification, bool aux_rows, uint8_t *out,

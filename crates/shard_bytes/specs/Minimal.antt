@@ -6,13 +6,12 @@ use Rattle.xet_core_structures.specs.declared.error.CoreError.{CoreError}
 use Rattle.xet_core_structures.specs.declared.merklehash.DataHash.{DataHash}
 use Rattle.xet_core_structures.specs.declared.file_structs.KeptParts.{KeptParts}
 use Rattle.xet_core_structures.specs.declared.xorb_structs.MDBXorbInfo.{MDBXorbInfo}
-use Rattle.xet_core_structures.specs.Errors.{IsWriteError}
 use Rattle.xet_core_structures.specs.Input.{ReaderFails}
 use Rattle.xet_core_structures.specs.Layout.{layout_of}
 use Rattle.xet_core_structures.specs.MinimalReading.{ReadsMinimal, MinimalFails, ReaderHeaderFails}
 use Rattle.xet_core_structures.specs.MinimalShard.{MinimalShard, mark_starts, is_start, minimal_options, eligible_hashes, IsKept}
 use Rattle.xet_core_structures.specs.Shard.{xorb_hash_of}
-use Rattle.xet_core_structures.specs.View.{as_kept, LacksVerification}
+use Rattle.xet_core_structures.specs.View.{as_kept, LacksVerification, IsIoOther}
 use Rattle.shard_bytes.specs.Outcomes.{InMemory}
 use Rattle.shard_bytes.specs.declared.minimal.Filter.{Filter}
 use Rattle.shard_bytes.specs.declared.minimal.Filter.TheVariants.{All as all_hashes, Listed as listed}
@@ -79,8 +78,13 @@ abbrev pub EligibleIn : List ℕ → List DataHash → Type 0
 EligibleIn bytes hashes =
     (m : MinimalShard) × HoldsMinimal bytes m × (hashes ≡ eligible_hashes m.files m.xorbs)
 
--- why there is no minimal shard: an allocation failed, or the bytes are not read, or verification
--- rows are wanted, and then writing it fails
+-- verification rows are to be kept, and a file of the shard that the bytes hold has none
+abbrev pub LacksRows : KeptParts → List ℕ → Type 0
+LacksRows kept bytes =
+    (m : MinimalShard) × HoldsMinimal bytes m × Any (LacksVerification kept.verification) m.files
+
+-- why there is no minimal shard: an allocation failed, or the bytes are not read; or they are, and
+-- a file has none of the verification rows that are wanted
 abbrev pub RefusesMinimalBytes : KeptParts → List ℕ → CoreError → Type 0
 RefusesMinimalBytes kept bytes e =
-    InMemory (RefusesMinimal bytes) e ⊎ (IsTrue kept.verification × IsWriteError e)
+    InMemory (RefusesMinimal bytes) e ⊎ (IsIoOther e × LacksRows kept bytes)

@@ -1,8 +1,7 @@
 //! Minimal shards, and the chunks that the global index keeps.
 
 ghost use Rattle.std.specs.List.{Any};
-ghost use Rattle.std.specs.Prelude.{◌≡◌, ◌⊎◌, ◌↔◌, length, IfErr, IfOk, IsErrAnd, IsTrue, MatchResult, map};
-ghost use Rattle.xet_core_structures.specs.Errors.{IsWriteError};
+ghost use Rattle.std.specs.Prelude.{◌≡◌, ◌⊎◌, ◌↔◌, true, length, IfOk, IsErrAnd, IsTrue, MatchResult, map};
 ghost use Rattle.xet_core_structures.specs.MinimalShard.{WritesMinimalKept};
 ghost use Rattle.xet_core_structures.specs.Shard.{xorb_hash_of};
 ghost use Rattle.xet_core_structures.specs.View.{LacksVerification, IsIoOther};
@@ -15,7 +14,8 @@ use crate::memory::in_memory;
 use crate::room::with_room;
 use crate::sorted_hashes::SortedHashes;
 use std::alloc::{AllocError, Global};
-use std::io::Write;
+use std::io;
+use std::io::{ErrorKind, Write};
 use xet_core_structures::error::{CoreError, Result};
 use xet_core_structures::file_structs::KeptParts;
 use xet_core_structures::merklehash::MerkleHash;
@@ -78,11 +78,29 @@ pub fn minimal_bytes(alloc: Global, bytes: &[u8], now: u64, kept: KeptParts) -> 
     ensures size { IfOk result (λ minimal. IsMinimalSize bytes.now (length minimal.items)) }
 {
     let shard = read_minimal(alloc, bytes)?;
+    if kept.verification && lacks_verification(&shard) {
+        return Err(CoreError::Io(io::Error::from(ErrorKind::Other)));
+    }
     let mut minimal = with_room(alloc, bytes.len())?;
     match write_minimal(alloc, &shard, &mut minimal, now, kept) {
         Ok(_) => Ok(minimal),
-        Err(error) => Err(writing_error(kept, error)),
+        // Writing to a vector fails only if it is out of memory.
+        Err(_) => Err(CoreError::OutOfMemory),
     }
+}
+
+// Whether a file has no verification rows.
+fn lacks_verification(shard: &MDBMinimalShard) -> bool
+    ensures { IsTrue result → Any (LacksVerification true) shard.now.files }
+{
+    for index in 0..shard.num_files() {
+        if let Some(file) = shard.file(index) {
+            if !file.contains_verification() {
+                return true;
+            }
+        }
+    }
+    false
 }
 
 // Writes the minimal shard with these parts of its files.
@@ -97,24 +115,11 @@ fn write_minimal<W: Write>(
         (WritesMinimalKept (W.contents writer.old) (W.contents writer.new) kept now shard.now) }
     ensures missing { Any (LacksVerification kept.verification) shard.now.files
         → IsErrAnd result IsIoOther }
-    ensures causes { IfErr result IsWriteError }
 {
     if kept.aux_ext {
         shard.serialize(alloc, writer, now, kept.verification)
     } else {
         shard.serialize_without_aux(alloc, writer, now, kept.verification)
-    }
-}
-
-// The error of writing to a vector: if verification rows are wanted it may be that a file has none.
-fn writing_error(kept: KeptParts, error: CoreError) -> CoreError
-    requires { IsWriteError error }
-    ensures { (result ≡ CoreError.OutOfMemory) ⊎ ((result ≡ error) × IsTrue kept.verification) }
-{
-    if kept.verification {
-        error
-    } else {
-        in_memory(error)
     }
 }
 

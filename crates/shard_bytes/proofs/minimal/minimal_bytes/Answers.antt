@@ -12,11 +12,6 @@ returns-in_err-shard-clause-minimal c =
     let p = err_from_is_err_and c.from_residual.result c.from_residual.ensures.1 in
     rw (p.1, p.2) (inl c.in_err-shard.ensures)
 
-pub returns-in_err-minimal-clause-minimal : goal.returns-in_err-minimal-clause-minimal
-returns-in_err-minimal-clause-minimal c =
-    let p = err_from_is_err_and c.from_residual-in_err-minimal.result c.from_residual-in_err-minimal.ensures.1 in
-    rw (p.1, p.2) (inl (inl c.in_err-minimal.ensures.causes))
-
 pub returns-in-Ok-clause-size : goal.returns-in-Ok-clause-size
 returns-in-Ok-clause-size c =
     let m = c.in_ok-shard.shard in
