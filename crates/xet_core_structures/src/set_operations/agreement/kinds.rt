@@ -11,7 +11,7 @@ ghost use Rattle.xet_core_structures.specs.Steps.Agreement.{AreEqual};
 use super::RecordHash;
 use crate::set_operations::two_shards::record_operation::OfUnion;
 use xet_base::merklehash::MerkleHash;
-use xet_records::file_structs::{FileDataSequenceHeader, MDBFileInfo, SupersetResult};
+use xet_records::file_structs::{FileDataSequenceHeader, MDBFileInfo};
 use xet_records::record_reader::SectionRecord;
 use xet_records::xorb_structs::{MDBXorbInfo, XorbChunkSequenceHeader};
 
@@ -77,10 +77,13 @@ impl Agreement<MDBFileInfo> for OfUnion {
     }
 
     fn has_parts_of(first: &MDBFileInfo, second: &MDBFileInfo) -> bool {
-        match FileDataSequenceHeader::compare_flag_superset(&first.metadata, &second.metadata) {
-            SupersetResult::Equal | SupersetResult::SuperA => true,
-            SupersetResult::SuperB | SupersetResult::Neither => false,
-        }
+        has_if(
+            first.contains_verification(),
+            second.contains_verification(),
+        ) && has_if(
+            first.contains_metadata_ext(),
+            second.contains_metadata_ext(),
+        ) && has_if(first.contains_aux_ext(), second.contains_aux_ext())
     }
 
     fn are_one_header(first: &FileDataSequenceHeader, second: &FileDataSequenceHeader) -> bool {
@@ -93,6 +96,13 @@ impl Agreement<MDBFileInfo> for OfUnion {
       segments = sym agree.segments;
       parts = λ part has also. sym (agree.parts part also has);
     } };
+}
+
+// Whether the first has a part if the second has it.
+fn has_if(first_has: bool, second_has: bool) -> bool
+    ensures { IsTrue result → IsTrue second_has → IsTrue first_has }
+{
+    first_has || !second_has
 }
 
 // Whether a part is absent in one of two records, or the same in both.
