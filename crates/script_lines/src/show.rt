@@ -9,7 +9,7 @@ use xet_core_structures::file_structs::{
     FileVerificationEntry, MDBFileInfo,
 };
 use xet_core_structures::merklehash::{HMACKey, MerkleHash};
-use xet_core_structures::set_operations::{Disagreement, RecordHash};
+use xet_core_structures::set_operations::{Disagreement, MalformedRecord, RecordHash};
 use xet_core_structures::xorb_structs::{
     MDBXorbInfo, XorbChunkSequenceEntry, XorbChunkSequenceHeader,
 };
@@ -309,15 +309,31 @@ impl Show
     }
 }
 
-// Whose the hash is, the hash, and the numbers of the two buffers.
-impl Show for Disagreement {
+// Whose the hash is, and the hash.
+impl Show for RecordHash {
     fn show(&self, out: &mut Vec<u8>) -> io::Result<()> {
-        let (kind, hash) = match self.record_hash {
-            RecordHash::File(hash) => ("file ", hash),
-            RecordHash::Xorb(hash) => ("xorb ", hash),
+        let (kind, hash) = match self {
+            RecordHash::File(hash) => ("file ", *hash),
+            RecordHash::Xorb(hash) => ("xorb ", *hash),
         };
         out.write_all(kind.as_bytes())?;
-        hash.show(out)?;
+        hash.show(out)
+    }
+}
+
+// The same, and the numbers of the two buffers.
+impl Show for Disagreement {
+    fn show(&self, out: &mut Vec<u8>) -> io::Result<()> {
+        self.record_hash.show(out)?;
         write!(out, " {} {}", self.first, self.second)
+    }
+}
+
+// The same, and the number of the buffer.
+impl Show for MalformedRecord {
+    fn show(&self, out: &mut Vec<u8>) -> io::Result<()> {
+        out.write_all(b"malformed ")?;
+        self.record_hash.show(out)?;
+        write!(out, " {}", self.input)
     }
 }

@@ -6,7 +6,8 @@ use script_lines::show::show_line;
 use script_lines::words::parse_u64;
 use std::alloc::Global;
 use xet_core_structures::set_operations::{
-    MergePlan, Merged, find_disagreement, find_disagreements, merge_agreeing, shard_union_tree,
+    MergePlan, Merged, find_disagreement, find_disagreements, find_malformed, merge_agreeing,
+    shard_union_tree,
 };
 
 impl Probe {
@@ -17,6 +18,7 @@ impl Probe {
             ["set_agreeing", name, words @ ..] => self.unite_agreeing(name, words, out),
             ["disagreements", names @ ..] => self.show_disagreements(names, out),
             ["disagreement", names @ ..] => self.show_disagreement(names, out),
+            ["malformed", names @ ..] => self.show_malformed(names, out),
             _ => return Ok(false),
         }?;
         Ok(true)
@@ -41,11 +43,17 @@ impl Probe {
         match merged {
             Merged::Bytes(bytes) => self.put_buffer(name, bytes),
             Merged::Disagreement(found) => Ok(show_line(&found, out)?),
+            Merged::Malformed(found) => Ok(show_line(&found, out)?),
         }
     }
 
     fn show_disagreements(&self, names: &[&str], out: &mut Vec<u8>) -> Result<(), Stop> {
         let found = find_disagreements(self.alloc, self.buffers(names)?.as_slice())?;
+        Ok(show_line(&found, out)?)
+    }
+
+    fn show_malformed(&self, names: &[&str], out: &mut Vec<u8>) -> Result<(), Stop> {
+        let found = find_malformed(self.alloc, self.buffers(names)?.as_slice())?;
         Ok(show_line(&found, out)?)
     }
 

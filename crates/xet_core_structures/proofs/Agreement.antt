@@ -5,3 +5,4 @@ pub mod AgreeingTrees
 pub mod Differing
 pub mod DifferingFound
 pub mod HashRuns
+pub mod Malformed

@@ -11,3 +11,4 @@ pub mod PlacedUnions
 pub mod PlacedWriting
 pub mod Placing
 pub mod Filling
+pub mod SameTrees

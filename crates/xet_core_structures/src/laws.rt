@@ -10,6 +10,7 @@ ghost use Rattle.std.specs.declared.cmp.Ordering.TheVariants.{Equal};
 ghost use Rattle.std.specs.declared.result.Result.{Result};
 ghost use Rattle.std.specs.FinMap.{values};
 ghost use Rattle.std.specs.Hash as fed;
+ghost use Rattle.std.specs.List.{AllZip};
 ghost use Rattle.std.specs.List.Sorted.{IsStrictlySortedBy};
 ghost use Rattle.xet_base.specs.declared.merklehash.DataHash.{DataHash};
 ghost use Rattle.xet_base.specs.declared.error.CoreError.{CoreError};
@@ -24,7 +25,7 @@ ghost use Rattle.xet_core_structures.specs.Records.ByteUnion.{IsByteUnion, HasPa
 ghost use Rattle.xet_core_structures.specs.Records.Equality.{error_eq, derived_eq, derived_partial_cmp, derived_cmp, derived_input};
 ghost use Rattle.xet_core_structures.specs.Trees.ExportTrees.{FitsOptions, IsExportOf, shard_as_wanted};
 ghost use Rattle.xet_core_structures.specs.Records.ShardContents.{Holds, HoldsShard, IsReadInOneWay, IsTruncated, IsMalformed};
-ghost use Rattle.xet_core_structures.specs.Trees.MergeTrees.{HasUnion, TreeWrites, TreeRefusal, HaveXorbs, IsMerge, IsMergeUnder, MergeRefused};
+ghost use Rattle.xet_core_structures.specs.Trees.MergeTrees.{leaves, HasUnion, InputIs, TreeWrites, TreeRefusal, HaveXorbs, IsMerge, IsMergeUnder, MergeRefused};
 ghost use Rattle.xet_core_structures.specs.TwoShards.Readable.{IsBytesUnderKey};
 ghost use Rattle.xet_records.specs.declared.file_structs.MDBFileInfo.{MDBFileInfo};
 ghost use Rattle.xet_shards.specs.declared.shard_format.ends.info.MDBShardInfo.{MDBShardInfo};
@@ -254,7 +255,9 @@ pub fn lookups_on_trees()
 /// if an allocation fails or the join has too many rows (`refusals`). Such bytes are those of a
 /// shard in either version (`written`), its layout with any options whose version has its files
 /// (`any_options`), and its exports under the key, in either version, with any tables and
-/// timestamps (`exports`); and what a tree writes is such again (`again`).
+/// timestamps (`exports`); and what a tree writes is such again (`again`). So two trees with a
+/// union, each over its own inputs, write the same bytes if the leaves of each hold every shard
+/// that those of the other hold, in whatever order and however often, and each two agree (`same`).
 pub fn trees_of_held_shards()
     ensures written { (s : Shard) → (bytes : List ℕ) → IsBytesOf s bytes
         → HoldsShard no_key s bytes }
@@ -276,6 +279,12 @@ pub fn trees_of_held_shards()
         → (shards : List Shard) → (join : Shard) → (e : CoreError)
         → IsMergeUnder key inputs plan shards join → TreeRefusal inputs plan e
         → MergeRefused join e }
+    ensures same { (inputs others : List (List ℕ)) → (plan other : MergePlan) → (key : DataHash)
+        → (xs ys : List Shard) → (x y : List ℕ) → HasUnion plan → HasUnion other
+        → AllZip (λ i s. InputIs inputs (HoldsShard key s) i) (leaves plan) xs
+        → AllZip (λ i s. InputIs others (HoldsShard key s) i) (leaves other) ys
+        → AgreePairwise (Contains xs) → ((s : Shard) → Contains xs s ↔ Contains ys s)
+        → TreeWrites inputs plan x → TreeWrites others other y → x ≡ y }
 {}
 
 /// A reader of a section finds one thing in bytes: a list of records with a bookend after them, or

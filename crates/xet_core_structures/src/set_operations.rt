@@ -15,7 +15,8 @@ mod trees;
 mod two_shards;
 
 pub use agreement::{
-    Disagreement, Merged, RecordHash, find_disagreement, find_disagreements, merge_agreeing,
+    Disagreement, MalformedRecord, Merged, RecordHash, find_disagreement, find_disagreements,
+    find_malformed, merge_agreeing,
 };
 use bumpalo::Bump;
 use std::alloc::Global;

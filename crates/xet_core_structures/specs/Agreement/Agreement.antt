@@ -8,18 +8,21 @@ use Rattle.xet_base.specs.declared.merklehash.DataHash.{DataHash}
 use Rattle.xet_base.specs.Hash.{hash_cmp}
 use Rattle.xet_records.specs.declared.file_structs.MDBFileInfo.{MDBFileInfo}
 use Rattle.xet_records.specs.declared.xorb_structs.MDBXorbInfo.{MDBXorbInfo}
+use Rattle.xet_records.specs.FileRecord.{IsWellFormed}
 use Rattle.xet_records.specs.Merging.{Agree}
+use Rattle.xet_records.specs.XorbRecord.{IsXorb}
 use Rattle.xet_shards.specs.declared.shard_format.ends.info.MDBShardInfo.{MDBShardInfo}
 use Rattle.xet_shards.specs.Ends.Ends.{HasHeaderAndFooter}
 use Rattle.xet_shards.specs.Content.SetOperations.{ShardsAgree}
-use Rattle.xet_shards.specs.Content.Shard.{Shard}
+use Rattle.xet_shards.specs.Content.Shard.{Shard, IsShard}
 use Rattle.xet_core_structures.specs.declared.set_operations.agreement.Disagreement.{Disagreement}
+use Rattle.xet_core_structures.specs.declared.set_operations.agreement.MalformedRecord.{MalformedRecord}
 use Rattle.xet_core_structures.specs.declared.set_operations.agreement.RecordHash.{RecordHash}
 use Rattle.xet_core_structures.specs.declared.set_operations.agreement.RecordHash.TheVariants.{File, Xorb}
 use Rattle.xet_core_structures.specs.declared.set_operations.agreement.differing.Differing.{Differing}
 use Rattle.xet_core_structures.specs.declared.set_operations.MergePlan.{MergePlan}
 use Rattle.xet_core_structures.specs.declared.set_operations.agreement.Merged.{Merged}
-use Rattle.xet_core_structures.specs.declared.set_operations.agreement.Merged.TheVariants.{Bytes, Disagreement as Disagreed}
+use Rattle.xet_core_structures.specs.declared.set_operations.agreement.Merged.TheVariants.{Bytes, Disagreement as Disagreed, Malformed}
 use Rattle.xet_core_structures.specs.TwoShards.ByteResults.{key_of, LoadRefusal}
 use Rattle.xet_core_structures.specs.Records.ShardContents.{HasShard}
 use Rattle.xet_core_structures.specs.Trees.MergeTrees.{leaves, TreeWrites, InputIs}
@@ -39,6 +42,19 @@ HoldsAt inputs i s = InputIs inputs (HasShard s) i
 -- one of the inputs holds a shard
 abbrev pub IsHeld : List (List ℕ) → Shard → Type 0
 IsHeld inputs s = (i : ℕ) × HoldsAt inputs i s
+
+-- a shard has a record with this hash that no shard may have
+abbrev pub HasMalformed : Shard → RecordHash → Type 0
+HasMalformed s (File q) = (r : MDBFileInfo) × (get s.files q ≡ Some r) × (¬ IsWellFormed r)
+HasMalformed s (Xorb q) = (r : MDBXorbInfo) × (get s.xorbs q ≡ Some r) × (¬ IsXorb r)
+
+-- each input holds a shard, which is well-formed
+abbrev pub HoldShards : List (List ℕ) → Type 0
+HoldShards inputs = (i : ℕ) → i < length inputs → (s : Shard) × HoldsAt inputs i s × IsShard s
+
+-- the shard that an input holds has a record that no shard may have
+abbrev pub IsMalformedAt : List (List ℕ) → MalformedRecord → Type 0
+IsMalformedAt inputs m = (s : Shard) × HoldsAt inputs m.input s × HasMalformed s m.record_hash
 
 -- why no shard is read from bytes: header and footer are not read; or they are, and then a section
 -- is not read
@@ -109,7 +125,10 @@ HaveKey inputs plan key =
     (i : ℕ) (bytes : List ℕ) → Contains (leaves plan) i → slice_get inputs i ≡ Some bytes
     → HasKey bytes key
 
--- what a merge of inputs that have to agree gives: the bytes that the tree writes, if they do
+-- what a merge of inputs that have to agree gives: the bytes that the tree writes, if the inputs hold
+-- well-formed shards and these agree
 abbrev pub IsMerged : List (List ℕ) → MergePlan → Merged → Type 0
-IsMerged inputs plan (Bytes bytes) = InputsAgree inputs × TreeWrites inputs plan bytes.items
+IsMerged inputs plan (Bytes bytes) =
+    HoldShards inputs × InputsAgree inputs × TreeWrites inputs plan bytes.items
 IsMerged inputs plan (Disagreed d) = InputsDisagree inputs d
+IsMerged inputs plan (Malformed m) = IsMalformedAt inputs m

@@ -1,12 +1,25 @@
 -- Steps towards what `Agreement` defines, which only contracts inside the crate speak of.
-use Rattle.std.specs.Prelude.{◌≡◌, ℕ, List, map}
+use Rattle.std.specs.Prelude.{◌≡◌, ℕ, ◌≤◌, List, map, All, Contains, Option, MatchOption}
 use Rattle.std.specs.List.{AllZip}
+use Rattle.xet_base.specs.declared.merklehash.DataHash.{DataHash}
+use Rattle.xet_records.specs.declared.file_structs.header.FileDataSequenceHeader.{FileDataSequenceHeader}
+use Rattle.xet_records.specs.declared.file_structs.MDBFileInfo.{MDBFileInfo}
 use Rattle.xet_records.specs.declared.xorb_structs.MDBXorbInfo.{MDBXorbInfo}
+use Rattle.xet_records.specs.Part.{announces, flags_of}
+use Rattle.xet_records.specs.RecordKind.{RecordKind}
+use Rattle.xet_records.specs.XorbRecord.{size_of_chunks}
 use Rattle.xet_shards.specs.declared.shard_format.ends.info.MDBShardInfo.{MDBShardInfo}
+use Rattle.xet_shards.specs.Content.Shard.{Shard, IsShard}
 use Rattle.xet_shards.specs.Ends.Ends.{HasHeaderAndFooter}
 use Rattle.xet_core_structures.specs.declared.set_operations.agreement.PlacedInputs.{PlacedInputs}
 use Rattle.xet_core_structures.specs.declared.set_operations.trees.parts.PlacedShard.{PlacedShard}
+use Rattle.xet_core_structures.specs.declared.set_operations.trees.placed.PlacedRecord.{PlacedRecord}
+use Rattle.xet_core_structures.specs.Records.RecordPairs.{key_of_record}
+use Rattle.xet_core_structures.specs.declared.set_operations.agreement.RecordHash.{RecordHash}
+use Rattle.xet_core_structures.specs.Agreement.Agreement.{HasMalformed}
+use Rattle.xet_core_structures.specs.Records.ShardContents.{HasShard}
 use Rattle.xet_core_structures.specs.Steps.Parts.{PlacesShard}
+use Rattle.xet_core_structures.specs.Steps.Placed.{PlacesAll}
 
 -- two xorbs agree if they are equal
 abbrev pub AreEqual : MDBXorbInfo → MDBXorbInfo → Type 0
@@ -23,3 +36,30 @@ pub record ArePlaced (inputs : List (List ℕ)) (placed : PlacedInputs) : Type 0
   pub each : AllZip IsPlacedOf shards inputs
   pub files : placed.files.items ≡ map (λ s. s.files) shards
   pub xorbs : placed.xorbs.items ≡ map (λ s. s.xorbs) shards
+
+-- the flags of a file's header announce optional parts and nothing else, and its reserved word is
+-- zero
+abbrev pub IsPlainHeader : FileDataSequenceHeader → Type 0
+IsPlainHeader h = (h.file_flags ≡ flags_of (announces h.file_flags)) × (h._unused ≡ 0)
+
+-- of a file that is read, this is all that a shard wants beside
+abbrev pub IsPlainFile : MDBFileInfo → Type 0
+IsPlainFile r = IsPlainHeader r.metadata
+
+-- of a xorb that is read, this is all that a shard wants beside
+abbrev pub HasFewBytes : MDBXorbInfo → Type 0
+HasFewBytes r = size_of_chunks r ≤ 4294967295
+
+-- all records in place are allowed, or this is the hash of one that is not
+abbrev pub FindsMalformed : {H R : Type 0} → RecordKind H R → (R → Type 0) → List (PlacedRecord H)
+    → Option DataHash → Type 0
+FindsMalformed {R = R} K allowed placed found =
+    (rs : List R) → PlacesAll K placed rs
+    → MatchOption found (All allowed rs)
+    (λ q. (r : R) × Contains rs r × (key_of_record K r ≡ q) × (¬ allowed r))
+
+-- bytes hold a well-formed shard, or one with a record with this hash that no shard may have
+abbrev pub FindsMalformedIn : List ℕ → Option RecordHash → Type 0
+FindsMalformedIn bytes found =
+    MatchOption found ((s : Shard) × HasShard s bytes × IsShard s)
+    (λ h. (s : Shard) × HasShard s bytes × HasMalformed s h)

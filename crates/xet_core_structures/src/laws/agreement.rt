@@ -7,17 +7,19 @@ ghost use Rattle.xet_shards.specs.Content.Joins.{IsJoinOf, AgreePairwise};
 ghost use Rattle.xet_shards.specs.Content.Shard.{Shard, IsShard};
 ghost use Rattle.xet_core_structures.specs.declared.set_operations.agreement.Disagreement.{Disagreement};
 ghost use Rattle.xet_core_structures.specs.declared.set_operations.MergePlan.{MergePlan};
-ghost use Rattle.xet_core_structures.specs.Agreement.Agreement.{HoldsAt, IsHeld, HaveKey, InputsAgree, InputsDisagree};
+ghost use Rattle.xet_core_structures.specs.Agreement.Agreement.{HoldsAt, IsHeld, HaveKey, HoldShards, InputsAgree, InputsDisagree};
 ghost use Rattle.xet_core_structures.specs.TwoShards.ByteResults.{keyed_layout};
 ghost use Rattle.xet_core_structures.specs.Trees.MergeTrees.{leaves, HasUnion, TreeWrites};
 
 /// Of inputs, each of which holds a shard, either each two agree or two do not. If they agree, the
 /// bytes that a tree with a union writes are the layout, under the key that all its leaves have, of
 /// the join of the shards that its leaves hold, whatever tables, timestamps and sums the inputs
-/// have.
+/// have. What inputs hold is well-formed if `find_malformed` finds nothing in them (`formed`).
 pub fn merges_of_agreeing_inputs()
     ensures not_both { (inputs : List (List ℕ)) → (d : Disagreement) → InputsDisagree inputs d
         → ¬ InputsAgree inputs }
+    ensures formed { (inputs : List (List ℕ)) → HoldShards inputs → (s : Shard) → IsHeld inputs s
+        → IsShard s }
     ensures pairwise { (inputs : List (List ℕ)) → InputsAgree inputs
         → ((s : Shard) → IsHeld inputs s → IsShard s) → AgreePairwise (IsHeld inputs) }
     ensures joined { (inputs : List (List ℕ)) → InputsAgree inputs

@@ -14,11 +14,12 @@
 ghost use Rattle.std.specs.Prelude.{◌≡◌, ◌⊎◌, ◌<◌, ◌++◌, ℕ, List, length, map, Some, slice_get, MatchOption, MatchResult, OnOk, IfErr};
 ghost use Rattle.xet_base.specs.declared.error.CoreError.TheVariants.{OutOfMemory};
 ghost use Rattle.xet_core_structures.specs.Trees.MergeTrees.{TreeRefusal};
-ghost use Rattle.xet_core_structures.specs.Agreement.Agreement.{InputsAgree, InputsDisagree, HasAllDisagreements, InputsRefusal, ShardRefusal, IsMerged, disagreement_of};
-ghost use Rattle.xet_core_structures.specs.Steps.Agreement.{ArePlaced, IsPlacedOf};
+ghost use Rattle.xet_core_structures.specs.Agreement.Agreement.{InputsAgree, InputsDisagree, HasAllDisagreements, InputsRefusal, ShardRefusal, HoldShards, IsMalformedAt, IsMerged, disagreement_of};
+ghost use Rattle.xet_core_structures.specs.Steps.Agreement.{ArePlaced, IsPlacedOf, FindsMalformedIn};
 
 mod differing;
 mod kinds;
+mod malformed;
 mod runs;
 
 use super::{MergePlan, shard_union_tree};
@@ -27,6 +28,7 @@ use crate::set_operations::trees::placed::PlacedRecord;
 use crate::set_operations::two_shards::record_operation::OfUnion;
 use differing::{Differing, find_differing};
 use kinds::Agreement;
+use malformed::find_malformed_record;
 use std::alloc::Global;
 use xet_base::error::Result;
 use xet_base::merklehash::MerkleHash;
@@ -52,6 +54,16 @@ pub struct Disagreement {
     pub first: usize,
     /// The number of the other.
     pub second: usize,
+}
+
+/// A record that no shard may have: a file whose header has flags beside those of its parts, or a
+/// reserved word that is not zero, or a xorb whose chunks have more than 4294967295 bytes together.
+#[derive(Clone, Copy)]
+pub struct MalformedRecord {
+    /// The hash, and whose it is.
+    pub record_hash: RecordHash,
+    /// The number of the input that holds it.
+    pub input: usize,
 }
 
 /// The records of all inputs, a list for each input.
@@ -113,6 +125,48 @@ pub fn find_disagreement(alloc: Global, inputs: &[&[u8]]) -> Result<Option<Disag
     Ok(Some(found[0]))
 }
 
+/// A record that no shard may have, of the first input that holds one, or `None` if each input
+/// holds a well-formed shard. Of such shards, if they agree, each tree of unions gives the same
+/// bytes.
+pub fn find_malformed(alloc: Global, inputs: &[&[u8]]) -> Result<Option<MalformedRecord>>
+    ensures { MatchResult result
+        (λ found. MatchOption found (HoldShards (map (λ x. x.now) inputs.now))
+        (IsMalformedAt (map (λ x. x.now) inputs.now)))
+        (InputsRefusal (map (λ x. x.now) inputs.now)) }
+{
+    let mut at = 0;
+    while at < inputs.len() {
+        let shard = place_input(alloc, input_at(inputs, at))?;
+        match malformed_in(alloc, &shard)? {
+            Some(record_hash) => {
+                return Ok(Some(MalformedRecord {
+                    record_hash,
+                    input: at,
+                }));
+            }
+            None => at += 1,
+        }
+    }
+    Ok(None)
+}
+
+// The hash of a record of a shard that no shard may have.
+fn malformed_in(alloc: Global, shard: &PlacedShard<'_>) -> Result<Option<RecordHash>>
+    ensures { MatchResult result
+        (λ found. (bytes : List ℕ) → IsPlacedOf shard.now bytes → FindsMalformedIn bytes found)
+        (λ e. e ≡ OutOfMemory) }
+{
+    let file = find_malformed_record::<MDBFileInfo, OfUnion>(alloc, shard.files.as_slice())?;
+    let xorb = find_malformed_record::<MDBXorbInfo, OfUnion>(alloc, shard.xorbs.as_slice())?;
+    match file {
+        Some(hash) => Ok(Some(RecordHash::File(hash))),
+        None => match xorb {
+            Some(hash) => Ok(Some(RecordHash::Xorb(hash))),
+            None => Ok(None),
+        },
+    }
+}
+
 // The records of the inputs.
 fn place_inputs<'a>(alloc: Global, inputs: &[&'a [u8]]) -> Result<PlacedInputs<'a>>
     ensures { MatchResult result (ArePlaced (map (λ x. x.now) inputs.now))
@@ -155,15 +209,21 @@ pub enum Merged {
     Bytes(Vec<u8>),
     /// Two inputs that do not agree.
     Disagreement(Disagreement),
+    /// A record that no shard may have.
+    Malformed(MalformedRecord),
 }
 
-/// Unites the inputs at the leaves of a tree, if each two of the shards that the inputs hold agree.
+/// Unites the inputs at the leaves of a tree, if each input holds a well-formed shard and each two
+/// of these agree.
 pub fn merge_agreeing(alloc: Global, plan: &MergePlan, inputs: &[&[u8]]) -> Result<Merged>
     ensures { MatchResult result
         (IsMerged (map (λ x. x.now) inputs.now) plan.now)
         (λ e. InputsRefusal (map (λ x. x.now) inputs.now) e
         ⊎ TreeRefusal (map (λ x. x.now) inputs.now) plan.now e) }
 {
+    if let Some(found) = find_malformed(alloc, inputs)? {
+        return Ok(Merged::Malformed(found));
+    }
     match find_disagreement(alloc, inputs)? {
         Some(found) => Ok(Merged::Disagreement(found)),
         None => Ok(Merged::Bytes(shard_union_tree(alloc, plan, inputs)?)),

@@ -1,5 +1,6 @@
 use Rattle.xet_core_structures.proofs.Records.ByteUnions.{form_held, written_held}
 use Rattle.xet_core_structures.proofs.Trees.MergeTrees.{keyed_tree, tree_refused}
+use Rattle.xet_core_structures.proofs.Trees.SameTrees.{same_trees}
 use Rattle.xet_core_structures.proofs.Trees.TreesOfExports.{any_export_held}
 use Rattle.xet_core_structures.proofs.laws.trees_of_held_shards.Goals as goal
 
@@ -20,3 +21,6 @@ returns-clause-again c = λ inputs plan key shards join out merge writes. (keyed
 
 pub returns-clause-refusals : goal.returns-clause-refusals
 returns-clause-refusals c = λ inputs plan key shards join e merge refusal. tree_refused inputs key plan shards join e merge.inputs_are merge.agree merge.is_join refusal
+
+pub returns-clause-same : goal.returns-clause-same
+returns-clause-same c = same_trees

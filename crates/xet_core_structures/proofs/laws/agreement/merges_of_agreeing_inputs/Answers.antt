@@ -1,8 +1,12 @@
 use Rattle.xet_core_structures.proofs.Agreement.AgreeingTrees.{not_both, held_agree, agreeing_tree}
+use Rattle.xet_core_structures.proofs.Agreement.Malformed.{held_formed}
 use Rattle.xet_core_structures.proofs.laws.agreement.merges_of_agreeing_inputs.Goals as goal
 
 pub returns-clause-not_both : goal.returns-clause-not_both
 returns-clause-not_both c = not_both
+
+pub returns-clause-formed : goal.returns-clause-formed
+returns-clause-formed c = held_formed
 
 pub returns-clause-pairwise : goal.returns-clause-pairwise
 returns-clause-pairwise c = held_agree

@@ -1,0 +1,29 @@
+use Rattle.std.proofs.Common.{inl, inr, ℕ, ◌≤◌, List, length, map, Bor, rules, sym, arith, subst}
+use Rattle.std.proofs.lemmas.List.{length-map}
+use Rattle.xet_shards.specs.Content.Shard.{Shard, IsShard}
+use Rattle.xet_core_structures.specs.Agreement.Agreement.{HoldsAt, HasMalformed}
+use Rattle.xet_core_structures.specs.Records.ShardContents.{HasShard}
+use Rattle.xet_core_structures.specs.Steps.Agreement.{FindsMalformedIn}
+use Rattle.xet_core_structures.proofs.Records.Items.{below_or_at}
+use Rattle.xet_core_structures.proofs.set_operations.agreement.find_malformed.Goals as goal
+
+pub returns-in-Some : goal.returns-in-Some
+returns-in-Some c =
+    let found : (s : Shard) × HasShard s c.input_at.result.now × HasMalformed s c.in-Some.record_hash =
+    subst (FindsMalformedIn c.input_at.result.now) c.in-Some.is (c.in_ok-record_hash.ensures c.input_at.result.now c.in_ok-shard.ensures) in
+    (found.0, (c.input_at.result.now, c.input_at.ensures, found.1), found.2)
+
+pub loop-at-preserved : goal.loop-at-preserved
+loop-at-preserved c = λ i low.
+    let inputs : List (List ℕ) = map (λ (x : Bor (List ℕ)). x.now) c.args.inputs.now in
+    let found : (s : Shard) × HasShard s c.input_at.result.now × IsShard s =
+    subst (FindsMalformedIn c.input_at.result.now) c.in-None.is (c.in_ok-record_hash.ensures c.input_at.result.now c.in_ok-shard.ensures) in
+    elim (below_or_at i c.loop-at.at low) [
+      | inl less ↦ c.loop-at.invariant i less
+      | inr same ↦ subst (λ j. (s : Shard) × HoldsAt inputs j s × IsShard s) (sym same) (found.0, (c.input_at.result.now, c.input_at.ensures, found.1), found.2)
+    ]
+
+pub returns : goal.returns
+returns c = λ i below.
+    let past : length c.args.inputs.now ≤ c.loop-at.at = search rules in
+    c.loop-at.invariant i (omega (arith, past, below, length-map c.args.inputs.now (λ (x : Bor (List ℕ)). x.now)))

@@ -1,0 +1,109 @@
+//! Records that no shard may have, though reading passes over them: a file whose flags say more
+//! than its parts, or whose header's reserved word is not zero, and a xorb whose chunks have more
+//! than 4294967295 bytes together. A union keeps flags and reserved words of one of its inputs, so
+//! of such files its bytes depend on the order.
+
+ghost use Rattle.std.specs.Prelude.{◌≡◌, ◌↔◌, IsTrue, MatchResult};
+ghost use Rattle.xet_base.specs.declared.error.CoreError.TheVariants.{OutOfMemory};
+ghost use Rattle.xet_records.specs.XorbRecord.{HasItsChunks, size_of_chunks};
+ghost use Rattle.xet_core_structures.specs.Steps.Agreement.{IsPlainHeader, IsPlainFile, HasFewBytes, FindsMalformed};
+ghost use Rattle.xet_core_structures.specs.Steps.Placed.{Places};
+
+use crate::set_operations::trees::placed::PlacedRecord;
+use crate::set_operations::two_shards::record_operation::OfUnion;
+use std::alloc::Global;
+use xet_base::error::{CoreError, Result};
+use xet_base::input::OfSource;
+use xet_base::merklehash::MerkleHash;
+use xet_base::source::MemorySource;
+use xet_records::file_structs::{FileDataSequenceHeader, MDBFileInfo};
+use xet_records::record_reader::SectionRecord;
+use xet_records::xorb_structs::{MDBXorbInfo, XorbChunkSequenceHeader};
+
+/// Which records a shard may have, of those that are read.
+pub trait Allowed<R: SectionRecord> {
+    ghost allowed: { R → Type 0 };
+
+    /// Whether a shard may have the record.
+    fn is_allowed(alloc: Global, placed: &PlacedRecord<'_, R::Header>) -> Result<bool>
+        ensures { MatchResult result
+            (λ yes. (r : R) → Places R.kind placed.now r → IsTrue yes ↔ allowed r)
+            (λ e. e ≡ OutOfMemory) };
+}
+
+/// The hash of the first of these records that no shard may have.
+pub fn find_malformed_record<R: SectionRecord, A: Allowed<R>>(
+    alloc: Global,
+    placed: &[PlacedRecord<'_, R::Header>],
+) -> Result<Option<MerkleHash>>
+    ensures { MatchResult result (FindsMalformed R.kind A.allowed placed.now)
+        (λ e. e ≡ OutOfMemory) }
+{
+    R::laws();
+    for one in placed {
+        let allowed = A::is_allowed(alloc, one)?;
+        if !allowed {
+            return Ok(Some(R::hash(&one.header)));
+        }
+    }
+    Ok(None)
+}
+
+impl Allowed<MDBFileInfo> for OfUnion {
+    ghost allowed = { IsPlainFile };
+
+    fn is_allowed(
+        _alloc: Global,
+        placed: &PlacedRecord<'_, FileDataSequenceHeader>,
+    ) -> Result<bool> {
+        Ok(is_plain(&placed.header))
+    }
+}
+
+// Whether the flags announce parts and nothing else, and the reserved word is zero.
+fn is_plain(header: &FileDataSequenceHeader) -> bool
+    ensures { IsTrue result ↔ IsPlainHeader header.now }
+{
+    header.file_flags == header.known_flags() && header._unused == 0
+}
+
+impl Allowed<MDBXorbInfo> for OfUnion {
+    ghost allowed = { HasFewBytes };
+
+    fn is_allowed(
+        alloc: Global,
+        placed: &PlacedRecord<'_, XorbChunkSequenceHeader>,
+    ) -> Result<bool> {
+        let mut rows = MemorySource::new(placed.rows);
+        match MDBXorbInfo::read_rows_after::<OfSource, MemorySource<'_>>(
+            alloc,
+            &mut rows,
+            placed.header,
+        ) {
+            Ok(xorb) => Ok(has_few_bytes(&xorb)),
+            // The rows are there to be read.
+            Err(_) => Err(CoreError::OutOfMemory),
+        }
+    }
+}
+
+// Whether the bytes of a xorb's chunks fit `u32`.
+fn has_few_bytes(xorb: &MDBXorbInfo) -> bool
+    requires { HasItsChunks xorb.now }
+    ensures { IsTrue result ↔ HasFewBytes xorb.now }
+{
+    bytes_of(xorb) <= u64::from(u32::MAX)
+}
+
+// The bytes of a xorb's chunks.
+fn bytes_of(xorb: &MDBXorbInfo) -> u64
+    requires { HasItsChunks xorb.now }
+    ensures { result ≡ size_of_chunks xorb.now }
+{
+    prove!(xorb.chunks.len() as u64 == u64::from(xorb.metadata.num_entries));
+    let mut bytes = 0;
+    for chunk in xorb.chunks.as_slice() {
+        bytes += u64::from(chunk.unpacked_segment_bytes);
+    }
+    bytes
+}
