@@ -1,22 +1,44 @@
 -- The merge of a list of byte strings whose shards have to agree.
-use Rattle.std.specs.Prelude.{ℕ, ◌<◌, List, length, Contains}
-use Rattle.xet_core_structures.specs.Agreement.Agreement.{InputsAgree, HasAllDisagreements}
+use Rattle.std.specs.Prelude.{◌≡◌, ℕ, ◌<◌, List, length, Contains}
+use Rattle.std.specs.List.{AllZip}
+use Rattle.xet_core_structures.specs.declared.merklehash.DataHash.{DataHash}
+use Rattle.xet_core_structures.specs.Agreement.Agreement.{HoldShards, IsMalformedAt, InputsAgree, HasAllDisagreements}
 use Rattle.xet_core_structures.specs.Joins.{IsJoinOf, AgreePairwise}
+use Rattle.xet_core_structures.specs.Records.ShardContents.{HasShard, HoldsShard}
 use Rattle.xet_core_structures.specs.Shard.{Shard}
-use Rattle.xet_core_structures.specs.WrittenShard.{IsBytesWithoutExpiry}
+use Rattle.xet_core_structures.specs.TwoShards.ByteResults.{keyed_layout}
 use Rattle.shard_bytes.specs.declared.agree.AgreeingMerge.{AgreeingMerge}
-use Rattle.shard_bytes.specs.declared.agree.AgreeingMerge.TheVariants.{Bytes, Disagreements}
+use Rattle.shard_bytes.specs.declared.agree.AgreeingMerge.TheVariants.{Bytes, Disagreements, Malformed}
 use Rattle.shard_bytes.specs.Merging.{MergesBytes}
 
--- what the merge gives: its bytes, if each two inputs agree, else all that disagrees
+-- what the merge gives: its bytes, if each input holds a well-formed shard and each two agree; else
+-- all that disagrees, or a record that no shard may have
 abbrev pub MergesAgreeing : List (List ℕ) → AgreeingMerge → Type 0
-MergesAgreeing inputs (Bytes bytes) = InputsAgree inputs × MergesBytes inputs bytes.items
+MergesAgreeing inputs (Bytes bytes) =
+    HoldShards inputs × InputsAgree inputs × MergesBytes inputs bytes.items
 MergesAgreeing inputs (Disagreements found) =
     (0 < length found.items) × HasAllDisagreements inputs found.items
+MergesAgreeing inputs (Malformed m) = IsMalformedAt inputs m
 
--- of these shards the merge gives the bytes of their join, if they agree pairwise, else no bytes
-abbrev pub GivesJoin : List Shard → AgreeingMerge → Type 0
-GivesJoin shards (Bytes bytes) =
-    AgreePairwise (Contains shards)
-    × ((join : Shard) → IsJoinOf (Contains shards) join → IsBytesWithoutExpiry join bytes.items)
-GivesJoin shards (Disagreements found) = ¬ AgreePairwise (Contains shards)
+-- the byte strings hold well-formed shards under one key, each two of which agree, and these are the
+-- bytes of their join under the key, with all tables, creation 0 and no expiry
+pub record IsMergeOfAgreeing (inputs : List (List ℕ)) (out : List ℕ) : Type 0 where
+  pub key : DataHash
+  pub shards : List Shard
+  pub join : Shard
+  pub are_held : AllZip (HoldsShard key) shards inputs
+  pub agree : AgreePairwise (Contains shards)
+  pub is_join : IsJoinOf (Contains shards) join
+  pub bytes_are : out ≡ keyed_layout join key
+
+-- shards that the byte strings hold are not all well-formed, or do not agree pairwise
+abbrev pub HoldNoneAgreeing : List (List ℕ) → Type 0
+HoldNoneAgreeing inputs =
+    (shards : List Shard) → AllZip HasShard shards inputs → ¬ AgreePairwise (Contains shards)
+
+-- the merge gives bytes of inputs that hold well-formed shards which agree pairwise, those of the
+-- shards' join, and of other inputs none
+abbrev pub GivesJoin : List (List ℕ) → AgreeingMerge → Type 0
+GivesJoin inputs (Bytes bytes) = IsMergeOfAgreeing inputs bytes.items
+GivesJoin inputs (Disagreements found) = HoldNoneAgreeing inputs
+GivesJoin inputs (Malformed m) = HoldNoneAgreeing inputs

@@ -1,7 +1,7 @@
 -- How large results are.
 use Rattle.std.specs.Prelude.{⊤, ℕ, ◌+◌, ◌*◌, ◌≤◌, List, [], ◌∷◌, length, sum_by}
 use Rattle.shard_bytes.specs.declared.agree.AgreeingMerge.{AgreeingMerge}
-use Rattle.shard_bytes.specs.declared.agree.AgreeingMerge.TheVariants.{Bytes, Disagreements}
+use Rattle.shard_bytes.specs.declared.agree.AgreeingMerge.TheVariants.{Bytes, Disagreements, Malformed}
 use Rattle.shard_bytes.specs.declared.combine.Operation.{Operation}
 use Rattle.shard_bytes.specs.declared.combine.Operation.TheVariants.{Union, Difference}
 
@@ -18,6 +18,7 @@ sources_of Difference x y = y ∷ []
 abbrev pub HasResultSize : List (List ℕ) → AgreeingMerge → Type 0
 HasResultSize inputs (Bytes bytes) = IsResultSize inputs (length bytes.items)
 HasResultSize inputs (Disagreements found) = ⊤
+HasResultSize inputs (Malformed m) = ⊤
 
 -- what is written again of the records in a byte string, with lookup tables, has at most so many
 -- bytes: 344, and 4/3 of its

@@ -1,11 +1,7 @@
 //! The merge of a list of shards that have to agree.
 
-ghost use Rattle.std.specs.Prelude.{◌⊎◌, List, map, Contains, IfOk, MatchResult};
-ghost use Rattle.std.specs.List.{AllZip};
-ghost use Rattle.xet_core_structures.specs.Agreement.Agreement.{InputsRefusal};
-ghost use Rattle.xet_core_structures.specs.Records.ShardContents.{HoldsShard};
-ghost use Rattle.xet_core_structures.specs.KeyedHash.{no_key};
-ghost use Rattle.xet_core_structures.specs.Shard.{Shard};
+ghost use Rattle.std.specs.Prelude.{◌⊎◌, map, IfOk, MatchResult};
+ghost use Rattle.xet_core_structures.specs.Agreement.Agreement.{HoldShards, InputsRefusal};
 ghost use Rattle.shard_bytes.specs.Agreeing.{MergesAgreeing, GivesJoin};
 ghost use Rattle.shard_bytes.specs.Merging.{RefusesMerge};
 ghost use Rattle.shard_bytes.specs.Sizes.{HasResultSize};
@@ -13,32 +9,51 @@ ghost use Rattle.shard_bytes.specs.Sizes.{HasResultSize};
 use crate::merge::merge_bytes;
 use std::alloc::Global;
 use xet_core_structures::error::Result;
-use xet_core_structures::set_operations::{Disagreement, find_disagreements};
+use xet_core_structures::set_operations::{
+    Disagreement, MalformedRecord, find_disagreements, find_malformed,
+};
 
 /// What a merge of shards that have to agree gives.
 #[derive(Drop)]
 pub enum AgreeingMerge {
-    /// The bytes of the merge: each two of the shards agree.
+    /// The bytes of the merge: each input holds a well-formed shard, and each two of these agree.
     Bytes(Vec<u8>),
     /// The hashes under which two of the shards have records that do not agree, with two such
     /// shards for each: at least one.
     Disagreements(Vec<Disagreement>),
+    /// A record that no shard may have, of the first input that holds one.
+    Malformed(MalformedRecord),
 }
 
 /// The bytes of the union of one shard or more, from their bytes, as [`merge_bytes`] makes it, if
-/// each two of the shards agree. Of shards without a key they are the bytes of the join, whatever
-/// the order of the list.
+/// each input holds a well-formed shard and each two of these agree. Then they are the bytes of the
+/// join, under the key that all have, whatever the order of the list: nothing need be known of the
+/// inputs. What is wrong with a record that no shard may have comes first, then what disagrees.
 ///
-/// `InvalidArguments` if the list is empty. Else the errors are those of [`find_disagreements`] and
-/// [`merge_bytes`].
+/// `InvalidArguments` if the list is empty or the keys differ. Else the errors are those of
+/// [`find_disagreements`] and [`merge_bytes`].
 pub fn merge_agreeing_bytes(alloc: Global, shards: &[&[u8]]) -> Result<AgreeingMerge>
     ensures any_bytes { MatchResult result
         (MergesAgreeing (map (λ x. x.now) shards.now))
         (λ e. InputsRefusal (map (λ x. x.now) shards.now) e
         ⊎ RefusesMerge (map (λ x. x.now) shards.now) e) }
-    ensures one_byte_string { (all : List Shard)
-        → AllZip (HoldsShard no_key) all (map (λ x. x.now) shards.now)
-        → IfOk result (GivesJoin all) }
+    ensures one_byte_string { IfOk result (GivesJoin (map (λ x. x.now) shards.now)) }
+    ensures size { IfOk result (HasResultSize (map (λ x. x.now) shards.now)) }
+{
+    match find_malformed(alloc, shards)? {
+        Some(malformed) => Ok(AgreeingMerge::Malformed(malformed)),
+        None => merge_well_formed(alloc, shards),
+    }
+}
+
+// The same of inputs that hold well-formed shards.
+fn merge_well_formed(alloc: Global, shards: &[&[u8]]) -> Result<AgreeingMerge>
+    requires { HoldShards (map (λ x. x.now) shards.now) }
+    ensures any_bytes { MatchResult result
+        (MergesAgreeing (map (λ x. x.now) shards.now))
+        (λ e. InputsRefusal (map (λ x. x.now) shards.now) e
+        ⊎ RefusesMerge (map (λ x. x.now) shards.now) e) }
+    ensures one_byte_string { IfOk result (GivesJoin (map (λ x. x.now) shards.now)) }
     ensures size { IfOk result (HasResultSize (map (λ x. x.now) shards.now)) }
 {
     let found = find_disagreements(alloc, shards)?;

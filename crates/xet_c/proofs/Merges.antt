@@ -3,7 +3,7 @@ use Rattle.std.proofs.Common.{◌≡◌, ℕ, List, Ok, Err, sym, subst}
 use Rattle.std.specs.Prelude.{IfOk}
 use Rattle.xet_core_structures.specs.Errors.{CoreResult}
 use Rattle.shard_bytes.specs.declared.agree.AgreeingMerge.{AgreeingMerge}
-use Rattle.shard_bytes.specs.declared.agree.AgreeingMerge.TheVariants.{Bytes, Disagreements}
+use Rattle.shard_bytes.specs.declared.agree.AgreeingMerge.TheVariants.{Bytes, Disagreements, Malformed}
 use Rattle.shard_bytes.specs.Sizes.{IsResultSize, HasResultSize}
 use Rattle.xet_c.specs.declared.agree.XetDisagreement.{XetDisagreement}
 use Rattle.xet_c.specs.Agreeing.{ShowsMerge}
@@ -12,4 +12,5 @@ pub size_of_merge : (inputs : List (List ℕ)) (merged : CoreResult AgreeingMerg
     → IfOk merged (HasResultSize inputs) → IsResultSize inputs 0 → ShowsMerge merged before after written old new count result → IsResultSize inputs written
 size_of_merge inputs (Ok (Bytes bytes)) before after written old new count result says none shows = subst (IsResultSize inputs) (sym shows.0.0) says
 size_of_merge inputs (Ok (Disagreements all)) before after written old new count result says none shows = subst (IsResultSize inputs) (sym shows.1) none
+size_of_merge inputs (Ok (Malformed m)) before after written old new count result says none shows = subst (IsResultSize inputs) (sym shows.1) none
 size_of_merge inputs (Err e) before after written old new count result says none shows = subst (IsResultSize inputs) (sym shows.0.1) none

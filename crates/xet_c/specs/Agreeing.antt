@@ -1,17 +1,14 @@
 -- How disagreements of shards, and a merge of those that agree, are shown.
-use Rattle.std.specs.Prelude.{◌≡◌, ◌⊎◌, ℕ, true, false, List, [], ◌∷◌, length, Ok, Err, IfOk, MatchResult}
-use Rattle.std.specs.List.{AllZip}
+use Rattle.std.specs.Prelude.{◌≡◌, ◌⊎◌, ℕ, Bool, true, false, List, [], ◌∷◌, length, Option, None, Some, Ok, Err, IfOk, MatchResult}
 use Rattle.xet_core_structures.specs.declared.set_operations.agreement.Disagreement.{Disagreement}
+use Rattle.xet_core_structures.specs.declared.set_operations.agreement.MalformedRecord.{MalformedRecord}
 use Rattle.xet_core_structures.specs.declared.set_operations.agreement.RecordHash.{RecordHash}
 use Rattle.xet_core_structures.specs.declared.set_operations.agreement.RecordHash.TheVariants.{File, Xorb}
 use Rattle.xet_core_structures.specs.Agreement.Agreement.{InputsRefusal}
 use Rattle.xet_core_structures.specs.Errors.{CoreResult}
 use Rattle.xet_core_structures.specs.Hash.{words_of}
-use Rattle.xet_core_structures.specs.Records.ShardContents.{HoldsShard}
-use Rattle.xet_core_structures.specs.KeyedHash.{no_key}
-use Rattle.xet_core_structures.specs.Shard.{Shard}
 use Rattle.shard_bytes.specs.declared.agree.AgreeingMerge.{AgreeingMerge}
-use Rattle.shard_bytes.specs.declared.agree.AgreeingMerge.TheVariants.{Bytes, Disagreements}
+use Rattle.shard_bytes.specs.declared.agree.AgreeingMerge.TheVariants.{Bytes, Disagreements, Malformed}
 use Rattle.shard_bytes.specs.Agreeing.{MergesAgreeing, GivesJoin}
 use Rattle.shard_bytes.specs.Merging.{RefusesMerge}
 use Rattle.xet_c.specs.declared.agree.XetDisagreement.{XetDisagreement}
@@ -29,18 +26,28 @@ c_record (Xorb q) first second =
 abbrev pub c_disagreement : Disagreement → XetDisagreement
 c_disagreement d = c_record d.record_hash d.first d.second
 
+-- a record that no shard may have as it is shown: its hash, whether it is that of a xorb, and the
+-- number of the byte string that holds it twice
+abbrev pub c_malformed : MalformedRecord → XetDisagreement
+c_malformed m = c_record m.record_hash m.input m.input
+
+-- whether there is a record that no shard may have, and the record; if there is none it stays
+abbrev pub ShowsMalformed : Option MalformedRecord → (old new : XetDisagreement) → Bool → Type 0
+ShowsMalformed None old new malformed = (malformed ≡ false) × (new ≡ old)
+ShowsMalformed (Some m) old new malformed = (malformed ≡ true) × (new ≡ c_malformed m)
+
 -- a count and a disagreement show how many there are, and the first; if there is none it stays
 abbrev pub ShowsFirst : List Disagreement → (old new : XetDisagreement) → ℕ → Type 0
 ShowsFirst [] old new count = (count ≡ 0) × (new ≡ old)
 ShowsFirst (d ∷ ds) old new count = (count ≡ length (d ∷ ds)) × (new ≡ c_disagreement d)
 
--- shards that have to agree were merged: of any bytes; and of those that hold shards without a key
+-- byte strings were merged whose shards have to agree: what was given of them, and that it is the
+-- bytes of the shards' join
 pub record MergesIfAgreeing (inputs : List (List ℕ)) (merged : CoreResult AgreeingMerge) : Type 0
   where
     pub any_bytes : MatchResult merged (MergesAgreeing inputs)
         (λ e. InputsRefusal inputs e ⊎ RefusesMerge inputs e)
-    pub one_byte_string : (all : List Shard) → AllZip (HoldsShard no_key) all inputs
-        → IfOk merged (GivesJoin all)
+    pub one_byte_string : IfOk merged (GivesJoin inputs)
 
 -- how a merge of shards that have to agree is shown
 abbrev pub ShowsMerge : CoreResult AgreeingMerge → (before after : List ℕ) → ℕ
@@ -49,5 +56,7 @@ ShowsMerge (Ok (Bytes bytes)) before after written old new count result =
     Delivers bytes.items before after written result × (count ≡ 0) × (new ≡ old)
 ShowsMerge (Ok (Disagreements all)) before after written old new count result =
     (after ≡ before) × (written ≡ 0) × ShowsFirst all.items old new count × (result ≡ 20)
+ShowsMerge (Ok (Malformed m)) before after written old new count result =
+    (after ≡ before) × (written ≡ 0) × (count ≡ 0) × (new ≡ c_malformed m) × (result ≡ 21)
 ShowsMerge (Err e) before after written old new count result =
     Refuses e before after written result × (count ≡ 0) × (new ≡ old)

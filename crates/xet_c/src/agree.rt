@@ -1,19 +1,22 @@
-//! Whether shards agree, and the union of those that do.
+//! Whether shards are well-formed and agree, and the union of those that are and do.
 
-ghost use Rattle.std.specs.Prelude.{◌≡◌, ◌⊎◌, List, map};
+ghost use Rattle.std.specs.Prelude.{◌≡◌, ◌⊎◌, false, List, Option, map, MatchOption};
 ghost use Rattle.xet_core_structures.specs.declared.error.CoreError.{CoreError};
 ghost use Rattle.xet_core_structures.specs.declared.set_operations.agreement.Disagreement.{Disagreement};
-ghost use Rattle.xet_core_structures.specs.Agreement.Agreement.{HasAllDisagreements, InputsRefusal};
+ghost use Rattle.xet_core_structures.specs.declared.set_operations.agreement.MalformedRecord.{MalformedRecord};
+ghost use Rattle.xet_core_structures.specs.Agreement.Agreement.{HasAllDisagreements, HoldShards, IsMalformedAt, InputsRefusal};
 ghost use Rattle.xet_core_structures.specs.Errors.{CoreResult, variant_number};
 ghost use Rattle.shard_bytes.specs.declared.agree.AgreeingMerge.{AgreeingMerge};
 ghost use Rattle.shard_bytes.specs.Sizes.{IsResultSize};
-ghost use Rattle.xet_c.specs.Agreeing.{c_disagreement, ShowsFirst, MergesIfAgreeing, ShowsMerge};
+ghost use Rattle.xet_c.specs.Agreeing.{c_record, c_disagreement, c_malformed, ShowsFirst, ShowsMalformed, MergesIfAgreeing, ShowsMerge};
 
-use crate::output::{XET_DISAGREE, error_number, give};
+use crate::output::{XET_DISAGREE, XET_MALFORMED, error_number, give};
 use shard_bytes::agree::{AgreeingMerge, merge_agreeing_bytes};
 use std::alloc::Global;
 use xet_core_structures::error::Result;
-use xet_core_structures::set_operations::{Disagreement, RecordHash, find_disagreements};
+use xet_core_structures::set_operations::{
+    Disagreement, MalformedRecord, RecordHash, find_disagreements, find_malformed,
+};
 
 /// A hash under which two shards have records that do not agree, a xorb's or a file's, and the
 /// numbers of two such shards in the list.
@@ -51,10 +54,40 @@ pub extern "C" fn xet_find_disagreement(
     }
 }
 
-/// The union of one shard or more, as `xet_merge` makes it, to the front of `out`, if each two of
-/// the shards agree. If the result is 20, two of them do not: `written` is 0, `out` stays as it is,
-/// and `differing` and `found` are as `xet_find_disagreement` sets them. Else `differing` is 0 and
-/// `found` stays as it is.
+/// Looks for a record that no shard may have, of the first of the byte strings that holds one.
+/// `malformed` says whether there is one, and `found` is its hash, and the number of the byte
+/// string twice. If there is none, or the result is not 0, `malformed` is false and `found` stays
+/// as it is.
+#[unsafe(no_mangle)]
+pub extern "C" fn xet_find_malformed(
+    alloc: Global,
+    shards: &[&[u8]],
+    malformed: &mut bool,
+    found: &mut XetDisagreement,
+) -> u32
+    ensures { ((one : Option MalformedRecord)
+        × MatchOption one (HoldShards (map (λ x. x.now) shards.now))
+        (IsMalformedAt (map (λ x. x.now) shards.now))
+        × ShowsMalformed one found.old found.new malformed.new × (result ≡ 0))
+        ⊎ ((e : CoreError) × InputsRefusal (map (λ x. x.now) shards.now) e
+        × (found.new ≡ found.old) × (malformed.new ≡ false) × (result ≡ variant_number e)) }
+{
+    *malformed = false;
+    match find_malformed(alloc, shards) {
+        Ok(one) => {
+            show_malformed(&one, malformed, found);
+            0
+        }
+        Err(error) => error_number(&error),
+    }
+}
+
+/// The union of one shard or more, as `xet_merge` makes it, to the front of `out`, if each of the
+/// byte strings holds a well-formed shard and each two of these agree. If the result is 21, one
+/// holds a record that no shard may have: `written` and `differing` are 0, `out` stays as it is,
+/// and `found` is as `xet_find_malformed` sets it. If it is 20, two of the shards do not agree:
+/// `written` is 0, `out` stays as it is, and `differing` and `found` are as `xet_find_disagreement`
+/// sets them. Else `differing` is 0 and `found` stays as it is.
 #[unsafe(no_mangle)]
 pub extern "C" fn xet_merge_agreeing(
     alloc: Global,
@@ -91,6 +124,10 @@ fn show_merge(
             show_first(all.as_slice(), differing, found);
             XET_DISAGREE
         }
+        Ok(AgreeingMerge::Malformed(one)) => {
+            *found = malformed_of(one);
+            XET_MALFORMED
+        }
         Err(error) => error_number(error),
     }
 }
@@ -105,17 +142,44 @@ fn show_first(all: &[Disagreement], differing: &mut usize, found: &mut XetDisagr
     }
 }
 
+// Shows a record that no shard may have, if there is one.
+fn show_malformed(one: &Option<MalformedRecord>, malformed: &mut bool, found: &mut XetDisagreement)
+    requires { malformed.old ≡ false }
+    ensures { ShowsMalformed one.now found.old found.new malformed.new }
+{
+    if let Some(record) = one {
+        *malformed = true;
+        *found = malformed_of(record);
+    }
+}
+
 fn disagreement_of(disagreement: &Disagreement) -> XetDisagreement
     ensures { result ≡ c_disagreement disagreement.now }
 {
-    let (hash, is_xorb) = match disagreement.record_hash {
+    shown(
+        disagreement.record_hash,
+        disagreement.first,
+        disagreement.second,
+    )
+}
+
+fn malformed_of(record: &MalformedRecord) -> XetDisagreement
+    ensures { result ≡ c_malformed record.now }
+{
+    shown(record.record_hash, record.input, record.input)
+}
+
+fn shown(record_hash: RecordHash, first: usize, second: usize) -> XetDisagreement
+    ensures { result ≡ c_record record_hash first second }
+{
+    let (hash, is_xorb) = match record_hash {
         RecordHash::File(hash) => (hash, false),
         RecordHash::Xorb(hash) => (hash, true),
     };
     XetDisagreement {
         hash: [hash.word0, hash.word1, hash.word2, hash.word3],
         is_xorb,
-        first: disagreement.first,
-        second: disagreement.second,
+        first,
+        second,
     }
 }

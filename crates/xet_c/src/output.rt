@@ -12,6 +12,9 @@ pub const XET_SHORT: u32 = 19;
 /// Two shards that have to agree do not.
 pub const XET_DISAGREE: u32 = 20;
 
+/// A shard that has to be well-formed holds a record that no shard may have.
+pub const XET_MALFORMED: u32 = 21;
+
 /// The number of an error, 1 to 18.
 pub fn error_number(error: &CoreError) -> u32
     ensures { result ≡ variant_number error.now }

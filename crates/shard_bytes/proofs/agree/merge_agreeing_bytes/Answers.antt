@@ -1,27 +1,20 @@
-use Rattle.std.proofs.Common.{◌≡◌, ◌<◌, ℕ, List, length, map, Bor, rules}
-use Rattle.std.proofs.lemmas.List.{nil_from_length}
-use Rattle.xet_core_structures.specs.Agreement.Agreement.{InputsAgree}
-use Rattle.xet_core_structures.proofs.Agreement.AgreeingInputs.{none_found}
-use Rattle.shard_bytes.proofs.Agreeing.{all_agree, some_disagree, have_join}
+use Rattle.std.proofs.Common.{ℕ, List, map, Bor, subst}
+use Rattle.std.specs.Prelude.{MatchOption}
+use Rattle.xet_core_structures.specs.Agreement.Agreement.{HoldShards, IsMalformedAt}
+use Rattle.shard_bytes.proofs.Agreeing.{one_malformed}
 use Rattle.shard_bytes.proofs.agree.merge_agreeing_bytes.Goals as goal
 
-pub returns-then-not-is_empty-clause-one_byte_string : goal.returns-then-not-is_empty-clause-one_byte_string
-returns-then-not-is_empty-clause-one_byte_string c = λ all hold.
+pub merge_well_formed-requires : goal.merge_well_formed-requires
+merge_well_formed-requires c =
     let inputs : List (List ℕ) = map (λ (x : Bor (List ℕ)). x.now) c.args.shards.now in
-    let some : 0 < length c.in_ok-found.found.items = search rules in
-    some_disagree all inputs hold c.in_ok-found.found.items some c.in_ok-found.ensures
+    subst (λ o. MatchOption o (HoldShards inputs) (IsMalformedAt inputs)) c.in-None.is c.in_ok-malformed.ensures
 
-pub returns-clause-any_bytes : goal.returns-clause-any_bytes
-returns-clause-any_bytes c =
+pub returns-in-Some-clause-any_bytes : goal.returns-in-Some-clause-any_bytes
+returns-in-Some-clause-any_bytes c =
     let inputs : List (List ℕ) = map (λ (x : Bor (List ℕ)). x.now) c.args.shards.now in
-    let none : length c.in_ok-found.found.items ≡ 0 = search rules in
-    (none_found inputs c.in_ok-found.found.items c.in_ok-found.ensures (nil_from_length c.in_ok-found.found.items none), c.in_ok-merge_bytes.ensures.any_bytes)
+    subst (λ o. MatchOption o (HoldShards inputs) (IsMalformedAt inputs)) c.in-Some.is c.in_ok-malformed.ensures
 
-pub returns-clause-one_byte_string : goal.returns-clause-one_byte_string
-returns-clause-one_byte_string c = λ all hold.
+pub returns-in-Some-clause-one_byte_string : goal.returns-in-Some-clause-one_byte_string
+returns-in-Some-clause-one_byte_string c =
     let inputs : List (List ℕ) = map (λ (x : Bor (List ℕ)). x.now) c.args.shards.now in
-    let none : length c.in_ok-found.found.items ≡ 0 = search rules in
-    let agree : InputsAgree inputs = none_found inputs c.in_ok-found.found.items c.in_ok-found.ensures (nil_from_length c.in_ok-found.found.items none) in (
-      all_agree all inputs hold agree,
-      λ join is_join. c.in_ok-merge_bytes.ensures.one_byte_string all join (have_join all inputs hold c.in_ok-merge_bytes.field-0.items agree c.in_ok-merge_bytes.ensures.any_bytes join is_join),
-    )
+    one_malformed inputs c.in-Some.malformed (subst (λ o. MatchOption o (HoldShards inputs) (IsMalformedAt inputs)) c.in-Some.is c.in_ok-malformed.ensures)
