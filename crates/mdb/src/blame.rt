@@ -8,7 +8,7 @@ use shard_bytes::load::load_bytes;
 use std::alloc::Global;
 use xet_core_structures::error::CoreError;
 use xet_core_structures::merklehash::MerkleHash;
-use xet_core_structures::set_operations::{Disagreement, find_disagreements};
+use xet_core_structures::set_operations::{Disagreement, find_disagreements, find_malformed};
 
 /// Why a union or a difference failed: the first input that cannot be read, else what is wrong with
 /// the inputs together.
@@ -124,6 +124,29 @@ pub fn disagreement<'a>(
     Ok(Some(Failure {
         subject: subject_of(files, first),
         fault: Fault::Disagree(found.len(), first.record_hash),
+    }))
+}
+
+/// The first of the files that has a record which no shard may have, and the record, or `None`.
+pub fn malformed<'a>(
+    alloc: Global,
+    files: &[&'a str],
+    inputs: &[&[u8]],
+) -> Result<Option<Failure<'a>>, Failure<'a>> {
+    let found = match find_malformed(alloc, inputs) {
+        Ok(found) => found,
+        Err(error) => return Err(blamed(alloc, files, inputs, error)),
+    };
+    let Some(record) = found else {
+        return Ok(None);
+    };
+    let subject = match files.get(record.input) {
+        Some(file) => Subject::File(file),
+        None => Subject::StandardOutput,
+    };
+    Ok(Some(Failure {
+        subject,
+        fault: Fault::Malformed(record.record_hash),
     }))
 }
 

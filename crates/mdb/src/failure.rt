@@ -33,9 +33,9 @@ impl<'a> Failure<'a> {
         }
     }
 
-    /// Whether shards that have to agree do not.
+    /// Whether shards that have to be well-formed and to agree are not, or do not.
     pub fn is_disagreement(&self) -> bool {
-        matches!(self.fault, Fault::Disagree(..))
+        matches!(self.fault, Fault::Disagree(..) | Fault::Malformed(_))
     }
 
     /// Whether nobody reads standard output any more.

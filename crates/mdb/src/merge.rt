@@ -1,7 +1,7 @@
 //! The command that merges shards.
 
 use crate::arguments::{Merge, Strictness};
-use crate::blame::{blamed, disagreement, on_all};
+use crate::blame::{blamed, disagreement, malformed, on_all};
 use crate::failure::Failure;
 use crate::files::STANDARD_STREAM;
 use crate::make::{bytes_of, in_version, put};
@@ -197,8 +197,8 @@ fn merged<'a, R: Eprint + AllocGlobal>(
     }
 }
 
-// The union of the inputs. Records that differ are a failure, even if there is no union, or
-// reported.
+// The union of the inputs. A record that no shard may have, and records that differ, are a failure,
+// even if there is no union, or reported.
 fn united<'a, R: Eprint + AllocGlobal>(
     rt: &R,
     files: &[&'a str],
@@ -207,12 +207,20 @@ fn united<'a, R: Eprint + AllocGlobal>(
     progress: &mut Progress,
 ) -> Result<Vec<u8>, Failure<'a>> {
     let alloc = rt.alloc();
+    let oddity = match (malformed(alloc, files, inputs)?, strictness) {
+        (Some(malformed), Strictness::Strict) => return Err(malformed),
+        (found, _) => found,
+    };
     let choice = match (disagreement(alloc, files, inputs)?, strictness) {
         (Some(disagreement), Strictness::Strict) => return Err(disagreement),
         (found, _) => found,
     };
     match merge_bytes(alloc, inputs) {
         Ok(bytes) => {
+            if let Some(malformed) = &oddity {
+                progress.clear(rt);
+                report_oddity(rt, malformed);
+            }
             if let Some(disagreement) = &choice {
                 progress.clear(rt);
                 report_choice(rt, disagreement);
@@ -235,6 +243,13 @@ fn expiring(alloc: Global, bytes: Vec<u8>, expiry: Option<u64>) -> Result<Vec<u8
 fn report_size<R: Eprint>(rt: &R, file: &str, bytes: usize) {
     let file = Shown(file);
     let _ = rt.eprintln(format_args!("{file}: {bytes} bytes"));
+}
+
+// Says of a record that no shard may have what it means for a merge.
+fn report_oddity<R: Eprint>(rt: &R, malformed: &Failure<'_>) {
+    let _ = rt.eprintln(format_args!(
+        "{malformed}; what the merge writes may depend on the order of the files"
+    ));
 }
 
 // Says which of two records that differ a merge keeps.

@@ -32,6 +32,8 @@ pub enum Fault {
     /// Two shards that are to be merged have records with this hash that do not agree, the first of
     /// so many hashes.
     Disagree(usize, RecordHash),
+    /// A shard has a record with this hash that no shard may have.
+    Malformed(RecordHash),
     /// The shard has a key and can't be exported under another.
     HasKey,
     /// The expiry is past the last timestamp.
@@ -80,6 +82,13 @@ impl fmt::Display for Fault {
             Fault::Disagree(1, first) => write!(f, "a record differs, of {}", Named(*first)),
             Fault::Disagree(count, first) => {
                 write!(f, "{count} records differ, the first of {}", Named(*first))
+            }
+            Fault::Malformed(hash) => {
+                write!(
+                    f,
+                    "it has a record that no shard may have, of {}",
+                    Named(*hash)
+                )
             }
             Fault::HasKey => write!(f, "its chunk hashes are under a key already"),
             Fault::LateExpiry => write!(f, "the expiry is past the last timestamp"),
