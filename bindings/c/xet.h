@@ -64,7 +64,8 @@ enum xet_error {
     XET_CHUNK_HEADER_PARSE = 17,      /* * */
     XET_OUT_OF_MEMORY = 18,           /* an allocation failed */
     XET_SHORT = 19,                   /* the output does not fit the room that was given */
-    XET_DISAGREE = 20                 /* two shards that have to agree do not */
+    XET_DISAGREE = 20,                /* two shards that have to agree do not */
+    XET_MALFORMED = 21                /* a shard that has to be well-formed is not */
 };
 
 /* The name of an error, as "InvalidShard"; "Ok" of 0 and "Unknown" of other numbers. */
@@ -73,7 +74,7 @@ static inline const char *xet_error_name(uint32_t error) {
         "Ok", "Io", "InternalError", "Other", "TruncatedHashCollision", "ShardVersion", "BadFilename", "ShardNotFound",
         "FileNotFound", "QueryFailed", "SmudgeQueryPolicy", "InvalidShard", "InvalidRange", "InvalidArguments",
         "MalformedData", "HashMismatch", "HashParsing", "ChunkHeaderParse", "OutOfMemory", "Short",
-        "Disagree",
+        "Disagree", "Malformed",
     };
     return error < sizeof names / sizeof *names ? names[error] : "Unknown";
 }
@@ -146,8 +147,9 @@ static inline size_t xet_minimal_room(size_t bytes) {
     return bytes > SIZE_MAX - 200 ? SIZE_MAX : bytes + 200;
 }
 
-/* Writes the union of two shards of one key: the records of both. Creation is 0, and there is no expiry. Of shards that
- * agree it is the same bytes in either order and any grouping of several.
+/* Writes the union of two shards of one key: the records of both. Creation is 0, and there is no expiry. Of well-formed
+ * shards that agree, as xet_find_malformed and xet_find_disagreement tell, it is the same bytes in either order and any
+ * grouping of several.
  *
  * Of two files with one hash it has the record whose flags have all of the other's, the first's if both do; else the
  * first's segments, with each optional part from the first where it has it, else from the second. Of two xorbs with one
@@ -164,9 +166,9 @@ uint32_t xet_union(const uint8_t *first, size_t first_length, const uint8_t *sec
 
 /* Writes the union of one shard or more: that of the first half of the list with that of the second, each made in the
  * same way, down to single shards; if only one is given it is united with itself. If the sections of the inputs hold
- * shards that agree pairwise, without a key, it is the bytes of their join, which has no order, or fails for memory or
- * for too many rows. It is written to `out` itself, when all that can fail is done; the other calls make what they write
- * first, and copy it.
+ * well-formed shards that agree pairwise, under one key, it is the bytes of their join, which has no order, or fails
+ * for memory or for too many rows. xet_merge_agreeing finds out whether they do. It is written to `out` itself, when
+ * all that can fail is done; the other calls make what they write first, and copy it.
  *
  * Where several inputs are refused, the error may be that of another than xet_union tells.
  *
@@ -193,11 +195,25 @@ typedef struct xet_disagreement {
  * XET_OUT_OF_MEMORY. */
 uint32_t xet_find_disagreement(const xet_bytes *shards, size_t count, size_t *differing, xet_disagreement *found);
 
-/* Writes the union of one shard or more as xet_merge does, if each two of the shards agree. If they have no key it is
- * the bytes of their join, whatever the order of the list.
+/* Looks for a record that no shard may have: a file whose header has a reserved word that is not 0, or flags but those
+ * of verification rows, a metadata row and an auxiliary row (bits 31, 30 and 29), or a xorb whose chunks have more than
+ * 4294967295 bytes together. Shards without such are well-formed. A union keeps these words and flags of one of its
+ * inputs, and xet_find_disagreement does not compare them, so without this the order of a merge may count. `*malformed`
+ * says whether one of the shards has such a record, and `found` is one of the first that does: its hash, and the place
+ * of the shard in the list as `first` and as `second`. If there is none, `found` stays as it is. With an error
+ * `*malformed` is false, and `found` stays.
  *
+ * The errors are those of xet_find_disagreement. */
+uint32_t xet_find_malformed(const xet_bytes *shards, size_t count, bool *malformed, xet_disagreement *found);
+
+/* Writes the union of one shard or more as xet_merge does, if each is well-formed and each two agree. It is the bytes
+ * of their join under the key that all have, without expiry, whatever the order of the list; nothing else need be known
+ * of the inputs.
+ *
+ * XET_MALFORMED: one of them has a record that no shard may have. `found` is as xet_find_malformed sets it, and
+ *     `*written` and `*differing` are 0.
  * XET_DISAGREE: two of them do not agree. `*differing` and `found` are as xet_find_disagreement sets them, and
- *     `*written` is 0. With any other result `*differing` is 0, and `found` stays as it is.
+ *     `*written` is 0. With any other result but these two `*differing` is 0, and `found` stays as it is.
  * The other errors are those of xet_merge. */
 uint32_t xet_merge_agreeing(const xet_bytes *shards, size_t count, uint8_t *out, size_t capacity, size_t *written,
                             size_t *differing, xet_disagreement *found);
@@ -218,8 +234,9 @@ uint32_t xet_export(const uint8_t *shard, size_t length, const xet_export_option
                     size_t capacity, size_t *written);
 
 /* Writes the records of a shard without tables, created at `now`, in seconds, with expiry 0, and with a mark at each
- * chunk at which a file starts. Files keep verification rows and auxiliary rows if these are asked for. Only the header
- * and the sections are read, so the shard may end after them.
+ * chunk at which a file starts. So it agrees with the shard, and so does a subset of it, only if each such chunk had
+ * its mark before. Files keep verification rows and auxiliary rows if these are asked for. Only the header and the
+ * sections are read, so the shard may end after them.
  *
  * XET_SHARD_VERSION: the tag is another, or the version is neither 2 nor 3.
  * XET_IO: the bytes end before the sections do; or verification rows are asked for and a file has none.

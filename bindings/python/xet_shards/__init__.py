@@ -24,10 +24,10 @@ from dataclasses import dataclass
 from typing import Any, Callable, Dict, Iterable, Iterator, List, Optional, Sequence, Tuple, Union
 
 __all__ = [
-    "Buffer", "Chunk", "Disagreement", "DisagreementError", "File", "Finding", "Info", "ListedFile", "NO_EXPIRY",
-    "NO_KEY", "Run", "Segment", "XetError", "Xorb", "check", "difference", "eligible", "export", "files",
-    "find_disagreement", "find_file", "hash_of_name", "load", "merge", "minimal", "query_chunks", "shard_name", "subset",
-    "union", "write_v2", "xorbs",
+    "Buffer", "Chunk", "Disagreement", "DisagreementError", "File", "Finding", "Info", "ListedFile", "MalformedError",
+    "MalformedRecord", "NO_EXPIRY", "NO_KEY", "Run", "Segment", "XetError", "Xorb", "check", "difference", "eligible",
+    "export", "files", "find_disagreement", "find_file", "find_malformed", "hash_of_name", "load", "merge", "minimal",
+    "query_chunks", "shard_name", "subset", "union", "write_v2", "xorbs",
 ]
 
 __version__ = "0.1.0"
@@ -45,6 +45,7 @@ _NAMES = (
     "Io", "InternalError", "Other", "TruncatedHashCollision", "ShardVersion", "BadFilename", "ShardNotFound",
     "FileNotFound", "QueryFailed", "SmudgeQueryPolicy", "InvalidShard", "InvalidRange", "InvalidArguments",
     "MalformedData", "HashMismatch", "HashParsing", "ChunkHeaderParse", "OutOfMemory", "Short", "Disagree",
+    "Malformed",
 )
 # What enum xet_finding_kind and enum xet_part of xet.h name, and the kinds that have a number.
 _KINDS = "no_tag other_version no_footer too_short cut refused out_of_order differs other_size".split()
@@ -54,6 +55,7 @@ _INVALID_SHARD = 11
 _INVALID_ARGUMENTS = 13
 _SHORT = 19
 _DISAGREE = 20
+_MALFORMED = 21
 # Of the errors that calls raise.
 _SENTENCES = {
     "Io": "the bytes end too early, or verification rows are missing",
@@ -66,6 +68,7 @@ _SENTENCES = {
     "HashParsing": "the text is not the 64 hexadecimal digits of a hash",
     "OutOfMemory": "an allocation failed",
     "Disagree": "two shards that have to agree do not",
+    "Malformed": "a shard that has to be well-formed is not",
 }
 
 
@@ -121,6 +124,35 @@ class DisagreementError(XetError):
 
     def __reduce__(self) -> Tuple[Any, ...]:
         return DisagreementError, (self.disagreement,)
+
+
+@dataclass(frozen=True)
+class MalformedRecord:
+    """A record that no shard may have, though it can be read.
+
+    It is a file whose header has a reserved word that is not 0 or flags that announce nothing, or a xorb whose chunks
+    have more than 4294967295 bytes together. `kind` is "file" or "xorb", and `index` is the place of the shard in the
+    list.
+    """
+
+    kind: str
+    hash: str
+    index: int
+
+
+class MalformedError(XetError):
+    """A shard that has to be well-formed is not: `record` is why."""
+
+    def __init__(self, record: MalformedRecord) -> None:
+        super().__init__(_MALFORMED, record.index)
+        self.record = record
+
+    def __str__(self) -> str:
+        it = self.record
+        return f"the shard at {it.index} has a record that no shard may have, of {it.kind} {it.hash} ({self.name})"
+
+    def __reduce__(self) -> Tuple[Any, ...]:
+        return MalformedError, (self.record,)
 
 
 @dataclass(frozen=True)
@@ -304,6 +336,7 @@ _CALLS = {
     "xet_merge": [*_LIST, *_OUT],
     "xet_merge_agreeing": [*_LIST, *_OUT, POINTER(c_size_t), POINTER(_Disagreement)],
     "xet_find_disagreement": [*_LIST, POINTER(c_size_t), POINTER(_Disagreement)],
+    "xet_find_malformed": [*_LIST, POINTER(c_bool), POINTER(_Disagreement)],
     "xet_difference": [*_SHARD, *_SHARD, *_OUT],
     "xet_export": [*_SHARD, POINTER(_Export), *_OUT],
     "xet_minimal": [*_SHARD, c_uint64, c_bool, c_bool, *_OUT],
@@ -555,17 +588,18 @@ def _combined(operation: Callable[..., Any], first: Buffer, second: Buffer) -> b
 def merge(shards: Iterable[Buffer], strict: bool = False) -> bytes:
     """Returns the union of one shard or more, by a balanced tree of unions; a single one is united with itself.
 
-    If the sections of the inputs hold shards that agree pairwise, without a key, it is the bytes of their join, which
-    has no order, and any other tree of unions gives the same. Shards agree if files with one hash have equal segments,
-    and an equal optional part wherever both have it, and xorbs with one hash are equal. With `strict` it is a
-    `DisagreementError` if two of the shards do not agree.
+    If the sections of the inputs hold well-formed shards that agree pairwise, under one key, it is the bytes of their
+    join, which has no order, and any other tree of unions gives the same. Shards agree if files with one hash have
+    equal segments, and an equal optional part wherever both have it, and xorbs with one hash are equal. They are
+    well-formed if `find_malformed` finds nothing. With `strict` it is a `MalformedError` if one of the shards is not
+    well-formed, and a `DisagreementError` if two do not agree; so what it returns has no order, whatever is given.
     """
     shards = list(shards)
     if not shards:
         raise ValueError("no shard is given")
     try:
         return _merged(shards, strict)
-    except DisagreementError:
+    except (DisagreementError, MalformedError):
         raise
     except XetError as error:
         raise XetError(error.number, _to_blame(shards, error.number)) from None
@@ -604,8 +638,11 @@ def _merged(shards: Sequence[Buffer], strict: bool) -> bytes:
                 ),
             )
         except XetError as error:
-            if error.number != _DISAGREE:
+            if error.number not in (_DISAGREE, _MALFORMED):
                 raise
+            malformed = error.number == _MALFORMED
+    if malformed:
+        raise MalformedError(_malformed(found))
     raise DisagreementError(_disagreement(found, differing.value))
 
 
@@ -615,6 +652,22 @@ def find_disagreement(shards: Iterable[Buffer]) -> Optional[Disagreement]:
     with _Addresses(*shards) as data:
         _check(_library.xet_find_disagreement(_list(data), len(data), byref(differing), byref(found)))
     return _disagreement(found, differing.value) if differing.value else None
+
+
+def find_malformed(shards: Sequence[Buffer]) -> Optional[MalformedRecord]:
+    """Returns a record that no shard may have, of the first of the shards that has one, or None if each is well-formed.
+
+    A union keeps reserved words and flags of one of its inputs, and `find_disagreement` does not compare them. So only
+    of well-formed shards that agree the order of a merge does not count.
+    """
+    malformed, found = c_bool(), _Disagreement()
+    with _Addresses(*shards) as data:
+        _check(_library.xet_find_malformed(_list(data), len(data), byref(malformed), byref(found)))
+    return _malformed(found) if malformed.value else None
+
+
+def _malformed(found: _Disagreement) -> MalformedRecord:
+    return MalformedRecord("xorb" if found.is_xorb else "file", _text(found.hash), found.first)
 
 
 def _list(data: Sequence[Tuple[int, int]]) -> ctypes.Array[Any]:

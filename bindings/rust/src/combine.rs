@@ -9,6 +9,9 @@ use std::fmt;
 /// The number of the error that tells a disagreement.
 const DISAGREE: u32 = 20;
 
+/// The number of the error that tells a record that no shard may have.
+const MALFORMED: u32 = 21;
+
 /// The hash of a file or of a xorb.
 #[derive(Clone, Copy, Debug, PartialEq, Eq, Hash)]
 pub enum RecordHash {
@@ -16,6 +19,25 @@ pub enum RecordHash {
     File(Hash),
     /// Of a xorb.
     Xorb(Hash),
+}
+
+impl RecordHash {
+    fn of(found: &calls::Disagreement) -> RecordHash {
+        if found.is_xorb {
+            RecordHash::Xorb(found.hash)
+        } else {
+            RecordHash::File(found.hash)
+        }
+    }
+}
+
+impl fmt::Display for RecordHash {
+    fn fmt(&self, f: &mut fmt::Formatter<'_>) -> fmt::Result {
+        match self {
+            RecordHash::File(hash) => write!(f, "file {hash}"),
+            RecordHash::Xorb(hash) => write!(f, "xorb {hash}"),
+        }
+    }
 }
 
 /// A hash under which two shards have records that do not agree.
@@ -33,18 +55,13 @@ pub struct Disagreement {
 
 impl Disagreement {
     fn of(found: &calls::Disagreement, count: usize) -> Disagreement {
-        let record_hash = if found.is_xorb { RecordHash::Xorb(found.hash) } else { RecordHash::File(found.hash) };
-        Disagreement { record_hash, first: found.first, second: found.second, count }
+        Disagreement { record_hash: RecordHash::of(found), first: found.first, second: found.second, count }
     }
 }
 
 impl fmt::Display for Disagreement {
     fn fmt(&self, f: &mut fmt::Formatter<'_>) -> fmt::Result {
-        let (kind, hash) = match self.record_hash {
-            RecordHash::File(hash) => ("file", hash),
-            RecordHash::Xorb(hash) => ("xorb", hash),
-        };
-        write!(f, "the shards at {} and {} do not agree on {kind} {hash}", self.first, self.second)?;
+        write!(f, "the shards at {} and {} do not agree on {}", self.first, self.second, self.record_hash)?;
         match self.count {
             0 | 1 => Ok(()),
             count => write!(f, ", the first of {count} hashes"),
@@ -52,10 +69,32 @@ impl fmt::Display for Disagreement {
     }
 }
 
+/// A record that no shard may have, though it can be read: a file whose header has a reserved word that is not 0 or
+/// flags that announce nothing, or a xorb whose chunks have more than 4294967295 bytes together.
+#[derive(Clone, Copy, Debug, PartialEq, Eq, Hash)]
+pub struct MalformedRecord {
+    /// The hash of the record.
+    pub record_hash: RecordHash,
+    /// The index of the shard in the list.
+    pub index: usize,
+}
+
+impl MalformedRecord {
+    fn of(found: &calls::Disagreement) -> MalformedRecord {
+        MalformedRecord { record_hash: RecordHash::of(found), index: found.first }
+    }
+}
+
+impl fmt::Display for MalformedRecord {
+    fn fmt(&self, f: &mut fmt::Formatter<'_>) -> fmt::Result {
+        write!(f, "the shard at {} has a record that no shard may have, of {}", self.index, self.record_hash)
+    }
+}
+
 /// The union of two shards of one key: the records of both.
 ///
-/// Of shards that agree it is the same bytes in either order and any grouping of several. `xet.h` says which of two
-/// records with one hash it has where they do not agree.
+/// Of well-formed shards that agree it is the same bytes in either order and any grouping of several. `xet.h` says
+/// which of two records with one hash it has where they do not agree.
 ///
 /// # Errors
 ///
@@ -99,8 +138,9 @@ pub fn difference(first: &[u8], second: &[u8]) -> Result<Vec<u8>> {
 }
 
 /// The union of one shard or more: that of the first half of the list with that of the second, each made in the same
-/// way, down to single shards; if only one is given it is united with itself. Of shards that agree pairwise and have no
-/// key it is the same bytes in any order.
+/// way, down to single shards; if only one is given it is united with itself. Of well-formed shards that agree
+/// pairwise, under one key, it is the same bytes in any order: [`find_malformed`] and [`find_disagreement`] tell
+/// whether they do.
 ///
 /// # Errors
 ///
@@ -119,11 +159,13 @@ pub fn merge<T: AsRef<[u8]>>(shards: &[T]) -> Result<Vec<u8>> {
     bytes_of(length, |out, written| calls::xet_merge(&list, out, written))
 }
 
-/// The union of one shard or more as [`merge`] makes it, if each two of the shards agree.
+/// The union of one shard or more as [`merge`] makes it, if each of the shards is well-formed and each two agree. It is
+/// the bytes of their join, whatever the order of the list; nothing else need be known of the shards.
 ///
 /// # Errors
 ///
-/// `Disagree`: two of them do not. Else those of [`merge`].
+/// `Malformed`: one of them has a record that no shard may have. `Disagree`: two of them do not agree. Else those of
+/// [`merge`].
 ///
 /// ```
 /// use xet_shards::{Error, RecordHash};
@@ -146,11 +188,15 @@ pub fn merge_agreeing<T: AsRef<[u8]>>(shards: &[T]) -> Result<Vec<u8>> {
     let merged = bytes_of(length, |out, written| {
         let (mut count, mut first) = (0, calls::Disagreement::default());
         let number = calls::xet_merge_agreeing(&list, out, written, &mut count, &mut first);
-        found = (number == DISAGREE).then(|| Disagreement::of(&first, count));
+        found = match number {
+            DISAGREE => Some(Error::Disagree(Disagreement::of(&first, count))),
+            MALFORMED => Some(Error::Malformed(MalformedRecord::of(&first))),
+            _ => None,
+        };
         number
     });
     match found {
-        Some(disagreement) => Err(Error::Disagree(disagreement)),
+        Some(error) => Err(error),
         None => merged,
     }
 }
@@ -179,6 +225,19 @@ pub fn find_disagreement<T: AsRef<[u8]>>(shards: &[T]) -> Result<Option<Disagree
     let (mut count, mut found) = (0, calls::Disagreement::default());
     check(calls::xet_find_disagreement(&list, &mut count, &mut found))?;
     Ok((count > 0).then(|| Disagreement::of(&found, count)))
+}
+
+/// Looks for a record that no shard may have, of the first of the shards that has one. If there is none, each is
+/// well-formed, and if they agree too the order of a merge does not count.
+///
+/// # Errors
+///
+/// Those of [`find_disagreement`].
+pub fn find_malformed<T: AsRef<[u8]>>(shards: &[T]) -> Result<Option<MalformedRecord>> {
+    let (list, _) = listed(shards)?;
+    let (mut malformed, mut found) = (false, calls::Disagreement::default());
+    check(calls::xet_find_malformed(&list, &mut malformed, &mut found))?;
+    Ok(malformed.then(|| MalformedRecord::of(&found)))
 }
 
 /// The shards as the library takes a list of them, and the sum of their lengths.

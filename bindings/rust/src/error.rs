@@ -1,4 +1,4 @@
-use crate::{Disagreement, Result};
+use crate::{Disagreement, MalformedRecord, Result};
 use std::fmt;
 
 /// Why a call failed. The cause is in the inputs, but for `OutOfMemory`; `xet.h` says it of each call.
@@ -33,6 +33,8 @@ pub enum Error {
     OutOfMemory,
     /// Two shards that have to agree do not.
     Disagree(Disagreement),
+    /// A shard that has to be well-formed is not.
+    Malformed(MalformedRecord),
     /// A number that by `xet.h` no call returns.
     Unknown(u32),
 }
@@ -67,6 +69,7 @@ impl fmt::Display for Error {
             Error::HashParsing => "not the 64 hexadecimal digits of a hash",
             Error::OutOfMemory => "out of memory",
             Error::Disagree(disagreement) => return disagreement.fmt(f),
+            Error::Malformed(record) => return record.fmt(f),
             Error::Unknown(number) => return write!(f, "error {number} of the library"),
         })
     }

@@ -28,7 +28,10 @@ mod output;
 mod walk;
 mod write;
 
-pub use combine::{difference, find_disagreement, merge, merge_agreeing, union, Disagreement, RecordHash};
+pub use combine::{
+    difference, find_disagreement, find_malformed, merge, merge_agreeing, union, Disagreement, MalformedRecord,
+    RecordHash,
+};
 pub use error::Error;
 pub use finding::{check, Finding, Part};
 pub use hash::Hash;
