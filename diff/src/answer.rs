@@ -131,6 +131,8 @@ pub enum Answer {
     Hashes(Vec<Hash>),
     /// How many hashes have records that do not agree, and the first; none if all agree.
     Disagreement(Option<(usize, Disagreement)>),
+    /// A record that no shard may have, and its shard twice.
+    Malformed(Disagreement),
     Error(Error),
     /// The original panicked.
     Panic,
@@ -174,6 +176,7 @@ impl std::fmt::Debug for Answer {
             Answer::Shard(bytes) => write!(f, "a shard of {} bytes", bytes.len()),
             Answer::Hashes(hashes) => hashes.fmt(f),
             Answer::Disagreement(found) => found.fmt(f),
+            Answer::Malformed(found) => write!(f, "malformed, {found:?}"),
             Answer::Error(error) => error.fmt(f),
             Answer::Panic => f.write_str("a panic"),
         }

@@ -95,10 +95,17 @@ fn call_original(call: &Call, first: &[u8], second: &[u8]) -> Result<Answer> {
         Call::Union => Answer::Shard(combine(first, second, true)?),
         Call::Difference => Answer::Shard(combine(first, second, false)?),
         Call::FindDisagreement => Answer::Disagreement(disagreement(first, second)?),
-        Call::MergeAgreeing => match disagreement(first, second)? {
-            None => Answer::Shard(combine(first, second, true)?),
-            found => Answer::Disagreement(found),
-        },
+        Call::MergeAgreeing => {
+            for (at, shard) in [first, second].into_iter().enumerate() {
+                if let Some(found) = malformed(at, &records(shard)?) {
+                    return Ok(Answer::Malformed(found));
+                }
+            }
+            match disagreement(first, second)? {
+                None => Answer::Shard(combine(first, second, true)?),
+                found => Answer::Disagreement(found),
+            }
+        }
         Call::Export(options) => Answer::Shard(export(first, options)?),
         Call::Minimal { verification, .. } => {
             let mut bytes = Vec::new();
@@ -184,6 +191,27 @@ fn records(shard: &[u8]) -> Result<Records> {
         xorbs.insert(xorb.metadata.xorb_hash, xorb);
     }
     Ok(Records { files, xorbs })
+}
+
+/// A record that no shard may have, of the shard at this place: the first file, else the first xorb. The original has no
+/// call for it.
+fn malformed(at: usize, records: &Records) -> Option<Disagreement> {
+    let is_odd =
+        |file: &MDBFileInfo| file.metadata.file_flags & 0x1fff_ffff != 0 || file.metadata._unused != 0;
+    let bytes = |xorb: &MDBXorbInfo| {
+        let sizes = xorb.chunks.iter().map(|chunk| u64::from(chunk.unpacked_segment_bytes));
+        sizes.sum::<u64>()
+    };
+    let found = |hash: &MerkleHash, is_xorb| Disagreement {
+        hash: **hash,
+        is_xorb,
+        first: at,
+        second: at,
+    };
+    let file = records.files.iter().find(|(_, file)| is_odd(file));
+    let xorb = records.xorbs.iter().find(|(_, xorb)| bytes(xorb) > u64::from(u32::MAX));
+    file.map(|(hash, _)| found(hash, false))
+        .or(xorb.map(|(hash, _)| found(hash, true)))
 }
 
 /// What the records of both shards say: the original has no call for it.

@@ -153,6 +153,7 @@ unsafe extern "C" {
 
 const SHORT: u32 = 19;
 const DISAGREE: u32 = 20;
+const MALFORMED: u32 = 21;
 const NO_HASH: Hash = Hash { words: [0; 4] };
 
 /// What the port answers. Each pointer below is that of a slice or a value that outlives the call,
@@ -366,6 +367,10 @@ fn merge_agreeing(first: &[u8], second: &[u8]) -> Answer {
         };
         result
     });
+    if result == MALFORMED {
+        assert_eq!(differing, 0, "a record that no shard may have is counted");
+        return Answer::Malformed(found);
+    }
     let found = shown(differing, found);
     assert_eq!(
         found.is_some(),
