@@ -1,9 +1,8 @@
 -- Files that are in two stores: whether they can be joined, and the loop that joins them.
-use Rattle.std.proofs.Common.{◌≡◌, ◌+◌, length, false, T, List, [], ◌∷◌, ◌++◌, None, Some, refl, sym, ap, ◌∙◌, subst, cond, arith}
-use Rattle.std.specs.Prelude.{All}
-use Rattle.std.specs.Option.{option_or}
+use Rattle.std.proofs.Common.{◌≡◌, ◌+◌, length, false, Option, T, List, [], ◌∷◌, ◌++◌, None, Some, refl, sym, ap, ◌∙◌, subst, cond, arith}
+use Rattle.std.specs.Prelude.{All, IfSome}
 use Rattle.std.specs.Ordering.{eq_by_cmp, is_lt, is_eq, ordering_reverse}
-use Rattle.std.specs.FinMap.{FinMap, empty, get-empty, entries, get-entries, get, insert, from_sorted, is_sorted, get-insert, get-from_sorted}
+use Rattle.std.specs.FinMap.{FinMap, entries, get-entries, get, insert, from_sorted, is_sorted, get-insert, get-from_sorted}
 use Rattle.std.specs.FinMap.Entries.{below_all}
 use Rattle.std.proofs.lemmas.List.{length-append, get_or-append-add}
 use Rattle.std.proofs.lemmas.List.Elements.{All-push}
@@ -15,8 +14,8 @@ use Rattle.xet_records.specs.FileRecord.{IsWellFormed}
 use Rattle.xet_records.specs.Merging.{merged}
 use Rattle.xet_records.proofs.Merging.{merged_well_formed}
 use Rattle.xet_shards.specs.Content.Shard.{FileMap, file_hash_of}
-use Rattle.xet_shards.specs.Content.Joining.{unless_in, entry, either_file}
-use Rattle.xet_shards.specs.Steps.Joining.{CanJoinFile, CanJoinFiles, own_file}
+use Rattle.xet_shards.specs.Content.Joining.{entry, either_file}
+use Rattle.xet_shards.specs.Steps.Joining.{CanJoinFile, CanJoinFiles, IsJoinedFile}
 use Rattle.xet_shards.proofs.Content.Found.{found_entry, entry_found}
 use Rattle.xet_shards.proofs.Content.Maps.{less, both_left, both_right}
 use Rattle.xet_shards.proofs.Content.Joining.{entry-append}
@@ -63,38 +62,38 @@ pub can_join_more : (es fs : List (DataHash × MDBFileInfo)) (e : DataHash × MD
     → ((s : MDBFileInfo) → get b e.0 ≡ Some s → CanJoinFile e.1 s) → CanJoinEntries fs b
 can_join_more es fs e b push before new = subst (λ gs. CanJoinEntries gs b) (sym push) (All-push (λ d. (s : MDBFileInfo) → get b d.0 ≡ Some s → CanJoinFile d.1 s) es e before new)
 
--- the record of this iteration
-pub record IsOwn (b : FileMap) (k : DataHash) (r m : MDBFileInfo) : Type 0 where
-  pub file : Some m ≡ either_file (Some r) (get b k)
-  pub hash : file_hash_of m ≡ file_hash_of r
-  pub well_formed : IsWellFormed m
-
-pub own_merged : (b : FileMap) (k : DataHash) (r s m : MDBFileInfo) → Some s ≡ get b k → m ≡ merged r s → IsWellFormed r → IsWellFormed s → CanJoinFile r s → IsOwn b k r m
-own_merged b k r s m there is r_formed s_formed can =
+-- the record that is put where a store has one of this file, or none
+pub joined_file : (o : Option MDBFileInfo) (own file joined : MDBFileInfo) → Some own ≡ o → joined ≡ merged own file → IsWellFormed own → IsWellFormed file → CanJoinFile own file → file_hash_of own ≡ file_hash_of file → IsJoinedFile o file joined
+joined_file o own file joined there is own_formed formed can hash =
     record {
-      file = ap Some is ∙ ap (either_file (Some r)) there;
-      hash = ap file_hash_of is;
-      well_formed = subst IsWellFormed (sym is) (merged_well_formed r s r_formed s_formed can.same can.rows);
+      file = ap Some is ∙ ap (λ p. either_file p (Some file)) there;
+      hash = ap file_hash_of is ∙ hash;
+      well_formed = subst IsWellFormed (sym is) (merged_well_formed own file own_formed formed can.same can.rows);
     }
 
-pub own_copied : (b : FileMap) (k : DataHash) (r m : MDBFileInfo) → None ≡ get b k → m ≡ r → IsWellFormed r → IsOwn b k r m
-own_copied b k r m absent is formed = record {
-  file = ap Some is ∙ ap (either_file (Some r)) absent;
-  hash = ap file_hash_of is;
-  well_formed = subst IsWellFormed (sym is) formed;
-}
+pub if_some : {X : Type 0} (P : X → Type 0) (o : Option X) → ((x : X) → o ≡ Some x → P x) → IfSome o P
+if_some P None holds = tt
+if_some P (Some x) holds = holds x refl
 
--- the loop has joined these entries with those of `b`
-abbrev pub IsMerged : List (DataHash × MDBFileInfo) → FileMap → FileMap → Type 0
-IsMerged es b c = (q : DataHash) → get c q ≡ own_file (entry es q) (get b q)
+pub of_some : {X : Type 0} (P : X → Type 0) (o : Option X) (x : X) → Some x ≡ o → IfSome o P → P x
+of_some P o x is holds = subst (λ p. IfSome p P) (sym is) holds
 
-pub merged-more : (front rest : List (DataHash × MDBFileInfo)) (k : DataHash) (r m : MDBFileInfo) (b c : FileMap) → T (is_sorted hash_cmp (front ++ (k, r) ∷ rest))
-    → Some m ≡ either_file (Some r) (get b k) → IsMerged front b c → IsMerged (front ++ (k, r) ∷ []) b (insert c k m)
-merged-more front rest k r m b c sorted is before = λ q.
-    grind (arith, get-insert hash_cmp-IsTotalOrder c k m q, before q, entry-append front k r q, entry-before front rest (k, r) sorted, same_key q k)
+-- the loop has joined these entries with the files of `a`, which makes `m`
+abbrev pub IsJoined : FileMap → FileMap → List (DataHash × MDBFileInfo) → Type 0
+IsJoined a m es = (q : DataHash) → get m q ≡ either_file (get a q) (entry es q)
 
--- own files merged, then the missing ones
+pub either_none : (o : Option MDBFileInfo) → either_file o None ≡ o
+either_none None = refl
+either_none (Some a) = refl
 
-pub united : (a b m n none : FileMap) → none ≡ empty → ((q : DataHash) → get m q ≡ own_file (get a q) (get b q))
-    → ((q : DataHash) → get n q ≡ option_or (get m q) (unless_in none (get b) q)) → (q : DataHash) → get n q ≡ either_file (get a q) (get b q)
-united a b m n none is merged filled q = grind (arith, merged q, filled q, ap (λ e. get e q) is, get-empty {X = MDBFileInfo} hash_cmp q)
+module _ (front rest : List (DataHash × MDBFileInfo)) (k : DataHash) (v : MDBFileInfo) (a m : FileMap) (sorted : T (is_sorted hash_cmp (front ++ (k, v) ∷ rest))) (before : IsJoined a m front) where
+  pub joined_before : get m k ≡ get a k
+  joined_before = before k ∙ ap (either_file (get a k)) (entry-before front rest (k, v) sorted) ∙ either_none (get a k)
+
+  pub joined_put : (j : MDBFileInfo) → Some j ≡ either_file (get m k) (Some v) → IsJoined a (insert m k j) (front ++ (k, v) ∷ [])
+  joined_put j is = λ q.
+      grind (arith, get-insert hash_cmp-IsTotalOrder m k j q, before q, entry-append front k v q, entry-before front rest (k, v) sorted, same_key q k, is ∙ ap (λ o. either_file o (Some v)) joined_before)
+
+  pub joined_kept : get m k ≡ either_file (get m k) (Some v) → IsJoined a m (front ++ (k, v) ∷ [])
+  joined_kept is = λ q.
+      grind (arith, before q, entry-append front k v q, entry-before front rest (k, v) sorted, same_key q k, is ∙ ap (λ o. either_file o (Some v)) joined_before)

@@ -1,11 +1,11 @@
 -- Steps towards what `Joining` defines, which only contracts inside the crate speak of.
-use Rattle.std.specs.Prelude.{◌≡◌, ◌≤◌, Option, None, Some}
+use Rattle.std.specs.Prelude.{◌≡◌, ◌≤◌, Option, Some}
 use Rattle.std.specs.FinMap.{get}
 use Rattle.xet_base.specs.declared.merklehash.DataHash.{DataHash}
 use Rattle.xet_records.specs.declared.file_structs.MDBFileInfo.{MDBFileInfo}
-use Rattle.xet_records.specs.FileRecord.{row_count}
+use Rattle.xet_records.specs.FileRecord.{row_count, IsWellFormed}
 use Rattle.xet_records.specs.Merging.{IsSameFile, merged}
-use Rattle.xet_shards.specs.Content.Shard.{FileMap}
+use Rattle.xet_shards.specs.Content.Shard.{FileMap, file_hash_of}
 use Rattle.xet_records.specs.Limits.{MAX_ROWS}
 use Rattle.xet_shards.specs.Content.Joining.{either_file}
 
@@ -19,7 +19,9 @@ abbrev pub CanJoinFiles : FileMap → FileMap → Type 0
 CanJoinFiles a b =
     (q : DataHash) → (r s : MDBFileInfo) → get a q ≡ Some r → get b q ≡ Some s → CanJoinFile r s
 
--- the first file, if any, with the parts that only the second has, if any
-abbrev pub own_file : Option MDBFileInfo → Option MDBFileInfo → Option MDBFileInfo
-own_file None b = None
-own_file (Some a) b = either_file (Some a) b
+-- a well-formed record under the hash of the second file: that file, or the first with the parts that
+-- only the second has
+pub record IsJoinedFile (own : Option MDBFileInfo) (twin joined : MDBFileInfo) : Type 0 where
+  pub file : Some joined ≡ either_file own (Some twin)
+  pub hash : file_hash_of joined ≡ file_hash_of twin
+  pub well_formed : IsWellFormed joined

@@ -1,6 +1,6 @@
 //! The files of a shard in memory. Their rows are not limited here.
 
-ghost use Rattle.std.specs.Prelude.{[], ◌∷◌, ◌≡◌, ◌≤◌, ◌↔◌, ◌⊎◌, T, IsTrue, is_some, IfSome, OnOk, OnErr, IfOk, IfErr, IsErrOf, unwrap_or, option_map};
+ghost use Rattle.std.specs.Prelude.{[], ◌∷◌, ◌≡◌, ◌≤◌, ◌↔◌, ◌⊎◌, T, Some, MatchOption, IsTrue, is_some, IfSome, OnOk, OnErr, IfOk, IfErr, IsErrOf, unwrap_or, option_map};
 ghost use Rattle.std.specs.Option.{option_or};
 ghost use Rattle.std.specs.FinMap as finite;
 ghost use Rattle.std.specs.FinMap.{is_sorted, from_sorted};
@@ -12,7 +12,7 @@ ghost use Rattle.xet_records.specs.Part.{rows_of, optional_rows};
 ghost use Rattle.xet_shards.specs.Steps.FileStore.{HasAnnounced, AreClear};
 ghost use Rattle.xet_shards.specs.Content.Shard.{AreFiles, file_hash_of};
 ghost use Rattle.xet_shards.specs.Content.Joining.{unless_in, entry, either_file};
-ghost use Rattle.xet_shards.specs.Steps.Joining.{CanJoinFile, CanJoinFiles, own_file};
+ghost use Rattle.xet_shards.specs.Steps.Joining.{CanJoinFile, CanJoinFiles, IsJoinedFile};
 
 use std::alloc::Global;
 use std::collections::BTreeMap;
@@ -131,9 +131,55 @@ impl FileStore {
             ≡ either_file (finite.get self.now q) (finite.get other.now q)) }
         ensures causes { IfErr result (λ e. e ≡ CoreError.OutOfMemory) }
     {
-        let mut joined = merged_files(alloc, &self.content, other)?;
-        joined.append_missing(alloc, other.content(), &FileStore::new(alloc))?;
+        let mut joined = self.try_clone()?;
+        joined.join_all(alloc, &other.content)?;
         Ok(joined)
+    }
+
+    // Joins each of these files with the one that has its hash, and inserts the others.
+    // `OutOfMemory` if an allocation fails; then some of them are joined.
+    fn join_all(&mut self, alloc: Global, others: &BTreeMap<MerkleHash, MDBFileInfo>) -> Result<()>
+        requires sorted { T (is_sorted hash_cmp others.now.entries) }
+        requires files { AreFiles others.now.entries }
+        requires joins { CanJoinFiles self.old (from_sorted others.now.entries) }
+        ensures ok { OnOk result ((q : DataHash) → finite.get self.new q
+            ≡ either_file (finite.get self.old q) (entry others.now.entries q)) }
+        ensures causes { IfErr result (λ e. e ≡ CoreError.OutOfMemory) }
+    {
+        for (file_hash, file_info) in others {
+            if let Some(joined) = self.joined_with(alloc, file_hash, file_info)? {
+                self.put(joined)?;
+            }
+        }
+        Ok(())
+    }
+
+    // The file joined with this store's that has its hash, if any; `None` if that is this store's
+    // as it is. `OutOfMemory` if an allocation fails.
+    fn joined_with(
+        &self,
+        alloc: Global,
+        file_hash: &MerkleHash,
+        file_info: &MDBFileInfo,
+    ) -> Result<Option<MDBFileInfo>>
+        requires formed { IsWellFormed file_info.now }
+        requires joins { IfSome (finite.get self.now file_hash.now)
+            (λ own. CanJoinFile own file_info.now) }
+        ensures made { IfOk result (λ made. MatchOption made
+            (finite.get self.now file_hash.now
+            ≡ either_file (finite.get self.now file_hash.now) (Some file_info.now))
+            (IsJoinedFile (finite.get self.now file_hash.now) file_info.now)) }
+        ensures causes { IfErr result (λ e. e ≡ CoreError.OutOfMemory) }
+    {
+        let Some(own) = self.get(file_hash) else {
+            return Ok(Some(file_info.try_clone(alloc)?));
+        };
+        if has_its_parts(own, file_info) {
+            return Ok(None);
+        }
+        let mut joined = own.try_clone(alloc)?;
+        joined.merge_from(alloc, file_info)?;
+        Ok(Some(joined))
     }
 
     /// The files of `other` whose hashes this store does not have. `OutOfMemory` if an allocation
@@ -192,28 +238,15 @@ pub fn joined_rows(file_info: &MDBFileInfo, twin: &MDBFileInfo) -> u64
     1 + file_info.metadata.mixed(&twin.metadata).rows_after()
 }
 
-// These files, each with the optional parts that only `other` has for it.
-fn merged_files(
-    alloc: Global,
-    files: &BTreeMap<MerkleHash, MDBFileInfo>,
-    other: &FileStore,
-) -> Result<FileStore>
-    requires sorted { T (is_sorted hash_cmp files.now.entries) }
-    requires files { AreFiles files.now.entries }
-    requires joins { CanJoinFiles (from_sorted files.now.entries) other.now }
-    ensures ok { IfOk result (λ t. (q : DataHash) → finite.get t q
-        ≡ own_file (entry files.now.entries q) (finite.get other.now q)) }
-    ensures causes { IfErr result (λ e. e ≡ CoreError.OutOfMemory) }
+// Whether the first of two records has each optional part that the second has.
+fn has_its_parts(file_info: &MDBFileInfo, twin: &MDBFileInfo) -> bool
+    ensures { IsTrue result → merged file_info.now twin.now ≡ file_info.now }
 {
-    let mut joined = FileStore::new(alloc);
-    for (file_hash, file_info) in files {
-        let mut copy = file_info.try_clone(alloc)?;
-        if let Some(twin) = other.get(file_hash) {
-            copy.merge_from(alloc, twin)?;
-        }
-        joined.put(copy)?;
-    }
-    Ok(joined)
+    let own = &file_info.metadata;
+    let other = &twin.metadata;
+    (own.contains_verification() | !other.contains_verification())
+        & (own.contains_metadata_ext() | !other.contains_metadata_ext())
+        & (own.contains_aux_ext() | !other.contains_aux_ext())
 }
 
 /// Whether a record can be in a store.
