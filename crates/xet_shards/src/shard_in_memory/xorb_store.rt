@@ -151,6 +151,31 @@ impl XorbStore {
         Ok(())
     }
 
+    // How many chunks those of these xorbs have whose hashes are neither in this store nor in
+    // `except`.
+    fn missing_chunks(
+        &self,
+        others: &BTreeMap<MerkleHash, Rc<MDBXorbInfo>>,
+        except: &XorbStore,
+    ) -> usize {
+        let mut chunks: usize = 0;
+        for (xorb_hash, xorb) in others {
+            if !self.contains(xorb_hash) && !except.contains(xorb_hash) {
+                chunks = chunks.saturating_add(xorb.chunks.len());
+            }
+        }
+        chunks
+    }
+
+    // Reserves room in the lookup for so many chunks more.
+    fn reserve(&mut self, chunks: usize) -> Result<()>
+        ensures same { self.new ≡ self.old }
+        ensures causes { IfErr result (λ e. e ≡ CoreError.OutOfMemory) }
+    {
+        self.lookup.reserve(chunks)?;
+        Ok(())
+    }
+
     /// A store with the same xorbs and the same lookup. `OutOfMemory` if an allocation fails.
     pub fn try_clone(&self) -> Result<XorbStore>
         ensures ok { IfOk result (λ t. t ≡ self.now) }
@@ -182,6 +207,7 @@ impl XorbStore {
         ensures causes { IfErr result (λ e. e ≡ CoreError.OutOfMemory) }
     {
         let mut rest = XorbStore::new(alloc);
+        rest.reserve(rest.missing_chunks(other.content(), self))?;
         rest.append_missing(alloc, other.content(), self)?;
         Ok(rest)
     }
