@@ -6,6 +6,7 @@ pub mod Layouts
 pub mod RowOrder
 pub mod XorbLayouts
 pub mod Tables
+pub mod Ranges
 pub mod TableOrder
 pub mod ChunkTableRows
 pub mod ChunkSorting

@@ -2,6 +2,7 @@
 
 pub mod Section
 pub mod Tables
+pub mod Ranges
 pub mod Layout
 pub mod WithOptions
 pub mod WrittenShard
