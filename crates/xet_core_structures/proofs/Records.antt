@@ -4,6 +4,8 @@ pub mod ShardContents
 pub mod ListMaps
 pub mod Lists
 pub mod RecordPairs
+pub mod Ranges
+pub mod Parts
 pub mod RecordsAsRead
 pub mod SmallerShards
 pub mod ByteUnions

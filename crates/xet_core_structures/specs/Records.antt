@@ -2,6 +2,7 @@
 
 pub mod ShardContents
 pub mod RecordPairs
+pub mod Ranges
 pub mod ByteUnion
 pub mod Equality
 pub mod Sizes

@@ -47,6 +47,7 @@ ghost use Rattle.xet_shards.specs.Write.WrittenShard.{HasFilesIn, IsBytesOf, IsB
 mod agreement;
 mod exports;
 mod minimal;
+mod ranges;
 mod sizes;
 
 pub use agreement::merges_of_agreeing_inputs;
@@ -55,6 +56,7 @@ pub use exports::{
     keyed_shards_are_exported, keys_pass_to_joins, merges_keep_runs,
 };
 pub use minimal::{minimal_shards_are_written_again, subsets_keep_eligible_chunks};
+pub use ranges::{joins_pass_to_parts, unions_of_ranges_follow_one_another};
 pub use sizes::results_are_bounded;
 
 /// Each two shards have exactly one union.

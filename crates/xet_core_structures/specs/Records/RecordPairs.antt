@@ -48,3 +48,15 @@ module _ {H R : Type 0} (K : RecordKind H R) where
     pub stored : K.IsStored r
     pub rows : K.row_count r ≤ rows_in a + rows_in b
     pub hash : (x : R) → ((a ≡ Some x) ⊎ (b ≡ Some x)) → key_of_record r ≡ key_of_record x
+
+  -- no record of a list has a smaller hash
+  abbrev pub ComeFrom : DataHash → List R → Type 0
+  ComeFrom k rs =
+      AllByRecursion (λ r. (hash_cmp k (key_of_record r) ≡ Less) ⊎ (key_of_record r ≡ k)) rs
+
+  -- the records of three lists come before a hash, and those of three others do not
+  pub record AreApart (xs ys zs us vs ws : List R) (k : DataHash) : Type 0 where
+    pub below : ArePassed xs ys zs k
+    pub first : ComeFrom k us
+    pub second : ComeFrom k vs
+    pub combined : ComeFrom k ws

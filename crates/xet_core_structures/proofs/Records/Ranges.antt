@@ -1,0 +1,79 @@
+-- Unions of lists whose records come before a hash, and of lists whose records do not.
+use Rattle.std.proofs.Common.{◌≡◌, ◌⊎◌, inl, inr, Bool, List, [], ◌∷◌, ◌++◌, map, Option, None, Some, refl, sym, ap, ◌∙◌, subst, cond}
+use Rattle.std.specs.Prelude.{All}
+use Rattle.std.specs.List.{AllByRecursion}
+use Rattle.std.specs.List.Sorted.{IsStrictlySortedBy}
+use Rattle.std.specs.Ordering.{eq_by_cmp, ordering_reverse}
+use Rattle.std.specs.declared.cmp.Ordering.{Ordering}
+use Rattle.std.specs.declared.cmp.Ordering.TheVariants.{Less, Equal, Greater}
+use Rattle.std.proofs.lemmas.List.Elements.{All-append}
+use Rattle.xet_base.specs.declared.merklehash.DataHash.{DataHash}
+use Rattle.xet_base.specs.Hash.{hash_cmp}
+use Rattle.xet_base.proofs.HashOrder.{hash_cmp-IsTotalOrder, hash_cmp-IsAntisymmetric}
+use Rattle.xet_records.specs.RecordKind.{RecordKind}
+use Rattle.xet_shards.specs.Write.WithOptions.{Ascends}
+use Rattle.xet_core_structures.specs.Records.RecordPairs.{key_of_record, with_hash, ComeBefore, ComeFrom, AreApart, Combines}
+use Rattle.xet_core_structures.proofs.Records.RecordPairs.{ComeAfter, same_before, apart}
+
+module _ {H R : Type 0} (K : RecordKind H R) where
+  after_from : (k q : DataHash) (rs : List R) → hash_cmp q k ≡ Less → ComeFrom K k rs → ComeAfter K q rs
+  after_from k q [] less from = tt
+  after_from k q (r ∷ rs) less from = (here from.0, after_from k q rs less from.1) where
+    here : ((hash_cmp k (key_of_record K r) ≡ Less) ⊎ (key_of_record K r ≡ k)) → hash_cmp q (key_of_record K r) ≡ Less
+    here (inl above) = hash_cmp-IsTotalOrder.trans q k (key_of_record K r) less above
+    here (inr same) = subst (λ j. hash_cmp q j ≡ Less) (sym same) less
+
+  -- a hash that is not below another is that one or above it
+  abbrev IsFrom : DataHash → DataHash → Type 0
+  IsFrom k q = (q ≡ k) ⊎ (hash_cmp k q ≡ Less)
+
+  passes : (k q j : DataHash) → IsFrom k q → hash_cmp j k ≡ Less → hash_cmp j q ≡ Less
+  passes k q j (inl same) less = subst (λ i. hash_cmp j i ≡ Less) (sym same) less
+  passes k q j (inr above) less = hash_cmp-IsTotalOrder.trans j k q less above
+
+  -- a list that begins with smaller hashes has the same record under a hash that is not smaller
+  same_after : (k q : DataHash) (xs us : List R) → IsFrom k q → ComeBefore K k xs → with_hash K (xs ++ us) q ≡ with_hash K us q
+  same_after k q [] us from before = refl
+  same_after k q (x ∷ xs) us from before =
+      ap (λ b. cond b (Some x) (with_hash K (xs ++ us) q)) (apart K q (key_of_record K x) (passes k q (key_of_record K x) from before.0) (eq_by_cmp hash_cmp q (key_of_record K x)) refl)
+      ∙ same_after k q xs us from before.1
+
+  below_all : (k j : DataHash) (us : List R) → hash_cmp j k ≡ Less → ComeFrom K k us → AllByRecursion (λ i. hash_cmp j i ≡ Less) (map (key_of_record K) us)
+  below_all k j [] less from = tt
+  below_all k j (u ∷ us) less from = (here from.0, below_all k j us less from.1) where
+    here : ((hash_cmp k (key_of_record K u) ≡ Less) ⊎ (key_of_record K u ≡ k)) → hash_cmp j (key_of_record K u) ≡ Less
+    here (inl above) = hash_cmp-IsTotalOrder.trans j k (key_of_record K u) less above
+    here (inr same) = subst (λ i. hash_cmp j i ≡ Less) (sym same) less
+
+  pub ascends_append : (k : DataHash) (xs us : List R) → ComeBefore K k xs → ComeFrom K k us → Ascends K xs → Ascends K us → Ascends K (xs ++ us)
+  unfolding IsStrictlySortedBy
+  ascends_append k [] us before from one other = other
+  ascends_append k (x ∷ xs) us before from one other = (goes_on xs one.0, ascends_append k xs us before.1 from one.1 other) where
+    goes_on : (xs : List R) → AllByRecursion (λ i. hash_cmp (key_of_record K x) i ≡ Less) (map (key_of_record K) xs)
+        → AllByRecursion (λ i. hash_cmp (key_of_record K x) i ≡ Less) (map (key_of_record K) (xs ++ us))
+    goes_on [] all = below_all k (key_of_record K x) us before.0 from
+    goes_on (y ∷ ys) all = (all.0, goes_on ys all.1)
+
+  pub combines_append : (E : Option R → Option R → Option R → Type 0) (k : DataHash) (xs ys zs us vs ws : List R) → AreApart K xs ys zs us vs ws k
+      → Combines K E xs ys zs → Combines K E us vs ws → Combines K E (xs ++ us) (ys ++ vs) (zs ++ ws)
+  combines_append E k xs ys zs us vs ws far one other = record {
+    ascends = ascends_append k zs ws far.below.combined far.combined one.ascends other.ascends;
+    each = each;
+    stored = All-append K.IsStored zs ws one.stored other.stored;
+  } where
+    moved : (a b c a' b' c' : Option R) → a ≡ a' → b ≡ b' → c ≡ c' → E a' b' c' → E a b c
+    moved a b c a' b' c' p q r e = subst (λ t. t) (λ i. E (sym p i) (sym q i) (sym r i)) e
+
+    low : (q : DataHash) → hash_cmp q k ≡ Less → E (with_hash K (xs ++ us) q) (with_hash K (ys ++ vs) q) (with_hash K (zs ++ ws) q)
+    low q less = moved _ _ _ _ _ _ (same_before K q xs us (after_from k q us less far.first)) (same_before K q ys vs (after_from k q vs less far.second)) (same_before K q zs ws (after_from k q ws less far.combined)) (one.each q)
+
+    high : (q : DataHash) → IsFrom k q → E (with_hash K (xs ++ us) q) (with_hash K (ys ++ vs) q) (with_hash K (zs ++ ws) q)
+    high q from = moved _ _ _ _ _ _ (same_after k q xs us from far.below.first) (same_after k q ys vs from far.below.second) (same_after k q zs ws from far.below.combined) (other.each q)
+
+    at : (q : DataHash) (o : Ordering) → hash_cmp q k ≡ o → E (with_hash K (xs ++ us) q) (with_hash K (ys ++ vs) q) (with_hash K (zs ++ ws) q)
+    at q Less is = low q is
+    at q Equal is = high q (inl (hash_cmp-IsAntisymmetric q k is))
+    at q Greater is = high q (inr (hash_cmp-IsTotalOrder.antisymm k q ∙ ap ordering_reverse is))
+
+    each : (q : DataHash) → E (with_hash K (xs ++ us) q) (with_hash K (ys ++ vs) q) (with_hash K (zs ++ ws) q)
+    each q = at q (hash_cmp q k) refl
