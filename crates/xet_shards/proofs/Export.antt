@@ -1,4 +1,9 @@
 -- Shards that are written again of what is read.
 
 pub mod KeyedExport
+pub mod PartSplit
 pub mod Rewriting
+pub mod ChunkMerging
+pub mod Gathering
+pub mod InARow
+pub mod SectionParts

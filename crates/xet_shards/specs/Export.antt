@@ -3,3 +3,4 @@
 pub mod KeyedExport
 pub mod ExportLaws
 pub mod Rewriting
+pub mod InARow

@@ -2,6 +2,8 @@
 
 pub mod ChunkLookup
 pub mod FileStore
+pub mod Gathering
+pub mod InARow
 pub mod Joining
 pub mod KeyedExport
 pub mod Lookup

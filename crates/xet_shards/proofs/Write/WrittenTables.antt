@@ -39,16 +39,16 @@ use Rattle.xet_shards.proofs.Write.Tables.{length-starts, chunk_table_row_total}
 use Rattle.xet_shards.proofs.Write.XorbLayouts.{length-chunk_table, xorb_rows-chunks}
 
 -- the bytes of a row determine it
-length-start : (row : ℕ × ℕ) → FitsStart row → length (start_row row) ≡ 12
+pub length-start : (row : ℕ × ℕ) → FitsStart row → length (start_row row) ≡ 12
 length-start row fits = length-append (u64_bytes row.0) (u32_bytes row.1) ∙ omega (arith, length-u64_bytes row.0, length-u32_bytes row.1)
 
-start_injective : (a b : ℕ × ℕ) → FitsStart a → FitsStart b → start_row a ≡ start_row b → a ≡ b
+pub start_injective : (a b : ℕ × ℕ) → FitsStart a → FitsStart b → start_row a ≡ start_row b → a ≡ b
 start_injective a b a_fits b_fits same = search (rules, u64_bytes-front, u32_bytes-injective)
 
 length-triple : (row : ℕ × (ℕ × ℕ)) → FitsTriple row → length (triple_row row) ≡ 16
 length-triple row fits = search (rules, length-append, length-u64_bytes, length-u32_bytes)
 
-triple_injective : (a b : ℕ × (ℕ × ℕ)) → FitsTriple a → FitsTriple b → triple_row a ≡ triple_row b → a ≡ b
+pub triple_injective : (a b : ℕ × (ℕ × ℕ)) → FitsTriple a → FitsTriple b → triple_row a ≡ triple_row b → a ≡ b
 triple_injective a b a_fits b_fits same =
     search (rules, u64_bytes-front, append_assoc, u32_bytes-front, u32_bytes-injective)
 
@@ -125,7 +125,7 @@ module _ (files : List MDBFileInfo) (xorbs : List MDBXorbInfo) (options : Layout
 abbrev FitsTableRow : ChunkTableRow → Type 0
 FitsTableRow p = FitsTriple (triple_of p)
 
-starts_fit : {H R : Type 0} (K : RecordKind H R) (front records : List R) → All (λ r. (hash_in K r).word0 < 2 ^ 64) records → ((r : R) → 0 < K.row_count r)
+pub starts_fit : {H R : Type 0} (K : RecordKind H R) (front records : List R) → All (λ r. (hash_in K r).word0 < 2 ^ 64) records → ((r : R) → 0 < K.row_count r)
     → total_rows K front + total_rows K records ≤ 4294967295 → All FitsStart (map (start_of K) (with_fronts front records))
 starts_fit K front [] fit some few = All-nil FitsStart
 starts_fit K front (x ∷ records) fit some few =
@@ -155,7 +155,7 @@ table_rows_fit front (x ∷ xorbs) fit few =
 
 -- the tables of a list of xorbs that may be in a section
 module _ (xorbs : List MDBXorbInfo) (fit : All FitsXorb xorbs) (few : total_rows xorb_records xorbs ≤ 4294967295) where
-  xorb_starts_fit : All FitsStart (starts xorb_records xorbs)
+  pub xorb_starts_fit : All FitsStart (starts xorb_records xorbs)
   xorb_starts_fit = starts_fit xorb_records [] xorbs (λ k r below. (fit k r below).metadata.xorb_hash.word0) (λ r. omega arith) (omega (arith, few))
 
   pub chunk_table_fits : All FitsTriple (map triple_of (chunk_table xorbs))

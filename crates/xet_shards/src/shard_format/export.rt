@@ -6,6 +6,11 @@
 //! the rows of the tables. The loop's invariant is `HasExported`: the records that were read, and
 //! what was made of them.
 
+pub(super) mod chunk_merging;
+pub(super) mod gathering;
+pub(crate) mod in_a_row;
 pub(super) mod keyed_chunks;
 pub(super) mod keyed_export;
+pub(super) mod part_split;
 pub(crate) mod rewriting;
+pub(super) mod section_parts;

@@ -1,0 +1,148 @@
+-- Gathering the parts of shards.
+use Rattle.std.proofs.Common.{◌≡◌, ℕ, ◌+◌, ◌/◌, ◌-◌, List, [], ◌∷◌, ◌++◌, length, map, flat_map, take, get_or, Bor, ◌<◌, ◌≤◌, refl, sym, ap, ◌∙◌, subst, arith}
+use Rattle.std.specs.Prelude.{All, sum_by}
+use Rattle.std.specs.List.Sorted.{IsPermutation}
+use Rattle.std.proofs.Math.Nat.{mul-div_cancel_left}
+use Rattle.std.proofs.lemmas.List.{length-append, length-map, get_or-map, take_more, take_all}
+use Rattle.std.proofs.lemmas.List.Elements.{All-nil, All-push}
+use Rattle.std.proofs.lemmas.List.Sorted.{IsPermutation-refl, IsPermutation-append, IsPermutation-map}
+use Rattle.std.proofs.lemmas.List.Sums.{sum_by-append}
+use Rattle.xet_base.specs.KeyedHash.{no_key}
+use Rattle.xet_records.specs.declared.record_reader.FormatVersion.TheVariants.{V3}
+use Rattle.xet_base.specs.declared.merklehash.DataHash.{DataHash}
+use Rattle.xet_records.specs.declared.file_structs.MDBFileInfo.{MDBFileInfo}
+use Rattle.xet_records.specs.declared.xorb_structs.MDBXorbInfo.{MDBXorbInfo}
+use Rattle.xet_records.specs.RecordKind.{RecordKind}
+use Rattle.xet_records.specs.FileRecord.{file_records, FitsRecord, size_of_file}
+use Rattle.xet_records.specs.XorbRecord.{xorb_records, FitsXorb}
+use Rattle.xet_records.proofs.Lengths.{length-file_record_bytes, length-xorb_record_bytes, length-all_record_bytes}
+use Rattle.xet_shards.specs.declared.shard_format.ends.footer.MDBShardFileFooter.{MDBShardFileFooter}
+use Rattle.xet_shards.specs.declared.shard_format.export.chunk_merging.Cursor.{Cursor}
+use Rattle.xet_shards.specs.declared.shard_format.export.gathering.Totals.{Totals}
+use Rattle.xet_shards.specs.declared.shard_format.export.part_split.Split.{Split}
+use Rattle.xet_shards.specs.declared.shard_format.export.section_parts.SectionPart.{SectionPart}
+use Rattle.xet_shards.specs.Export.InARow.{Laid, laid_out, IsPartUnder, files_in, xorbs_in}
+use Rattle.xet_shards.specs.Steps.InARow.{HoldSections, HoldsRows, rows_held, FitsTableRow, IsSplitOf}
+use Rattle.xet_shards.specs.Steps.Gathering.{AddsPart, HoldTables, HasGathered}
+use Rattle.xet_shards.specs.Read.TableReading.{FitsStart, FitsTriple, triple_of}
+use Rattle.xet_shards.specs.Write.Ranges.{chunk_row_later}
+use Rattle.xet_shards.specs.Write.Section.{total_rows}
+use Rattle.xet_shards.specs.Write.Tables.{ChunkTableRow, starts, table_bytes, chunk_table, chunk_table_rows, chunk_table_bytes}
+use Rattle.xet_shards.proofs.ShardInMemory.Walks.{flat_map-push}
+use Rattle.xet_shards.proofs.Export.SectionParts.{map-push}
+use Rattle.xet_shards.proofs.Write.ChunkSorting.{table_moved}
+use Rattle.xet_shards.proofs.Write.Ranges.{chunk_table_rows-append}
+use Rattle.xet_shards.proofs.Write.Sections.{fits_ever}
+use Rattle.xet_shards.proofs.Write.Tables.{length-starts}
+use Rattle.xet_shards.proofs.Write.WrittenTables.{starts_fit, xorb_starts_fit, chunk_table_fits}
+
+-- a section more
+hold_more : {H R : Type 0} (K : RecordKind H R) (sections : List SectionPart) (records : List (List R)) (section : SectionPart) (rs : List R) → HoldSections K sections records
+    → section.rows.now ≡ flat_map K.record_bytes rs → section.count ≡ total_rows K rs → section.table.now ≡ table_bytes K rs → All FitsStart (starts K rs)
+    → HoldSections K (sections ++ section ∷ []) (records ++ rs ∷ [])
+hold_more K sections records section rs hold rows count table fit = record {
+  rows = map-push (λ (s : SectionPart). s.rows.now) sections section ∙ (λ i. hold.rows i ++ rows i ∷ []) ∙ sym (map-push (flat_map K.record_bytes) records rs);
+  counts = map-push (λ (s : SectionPart). s.count) sections section ∙ (λ i. hold.counts i ++ count i ∷ []) ∙ sym (map-push (total_rows K) records rs);
+  tables = map-push (λ (s : SectionPart). s.table.now) sections section ∙ (λ i. hold.tables i ++ table i ∷ []) ∙ sym (map-push (table_bytes K) records rs);
+  fits = All-push (λ rs. All FitsStart (starts K rs)) records rs hold.fits fit;
+}
+
+all_fit : (rows : List ChunkTableRow) → All FitsTriple (map triple_of rows) → All FitsTableRow rows
+all_fit rows fit = All-unmap rows fit
+  where
+    All-unmap : (rows : List ChunkTableRow) → All FitsTriple (map triple_of rows) → All FitsTableRow rows
+    All-unmap rows fit k d below = subst FitsTriple (get_or-map triple_of rows k d (triple_of d) below) (fit k (triple_of d) (omega (arith, below, length-map rows triple_of)))
+
+-- a table more
+table_more : (cursors : List Cursor) (before xorbs : List MDBXorbInfo) (cursor : Cursor) → HoldTables cursors before → cursor.rest.now ≡ chunk_table_bytes xorbs → cursor.first ≡ total_rows xorb_records before
+    → All FitsTableRow (chunk_table xorbs) → HoldTables (cursors ++ cursor ∷ []) (before ++ xorbs)
+unfolding chunk_table_bytes
+table_more cursors before xorbs cursor hold bytes first fit = record {
+  held = hold.held ++ (cursor, chunk_table xorbs) ∷ [];
+  cursors_are = map-push (λ (h : Cursor × List ChunkTableRow). h.0) hold.held (cursor, chunk_table xorbs) ∙ ap (λ cs. cs ++ cursor ∷ []) hold.cursors_are;
+  hold = All-push HoldsRows hold.held (cursor, chunk_table xorbs) hold.hold (record { bytes = bytes; fits = fit });
+  moved =
+      subst (IsPermutation (chunk_table_rows (before ++ xorbs))) (sym (flat_map-push rows_held hold.held (cursor, chunk_table xorbs)))
+      (subst (λ rows. IsPermutation rows (flat_map rows_held hold.held ++ rows_held (cursor, chunk_table xorbs)))
+      (ap (λ n. chunk_table_rows before ++ map (chunk_row_later n) (chunk_table_rows xorbs)) first ∙ sym (chunk_table_rows-append before xorbs))
+      (IsPermutation-append (chunk_table_rows before) (flat_map rows_held hold.held) (map (chunk_row_later cursor.first) (chunk_table_rows xorbs)) (rows_held (cursor, chunk_table xorbs)) hold.moved
+      (IsPermutation-map (chunk_row_later cursor.first) (chunk_table_rows xorbs) (chunk_table xorbs) (table_moved xorbs))));
+}
+
+length-file_rows : (files : List MDBFileInfo) → All FitsRecord files → length (flat_map file_records.record_bytes files) / 48 ≡ total_rows file_records files
+length-file_rows files fit =
+    ap (λ n. n / 48) (length-all_record_bytes file_records.record_bytes file_records.row_count FitsRecord length-file_record_bytes files fit) ∙ mul-div_cancel_left (total_rows file_records files) (omega arith)
+
+length-xorb_rows : (xorbs : List MDBXorbInfo) → length (flat_map xorb_records.record_bytes xorbs) / 48 ≡ total_rows xorb_records xorbs
+length-xorb_rows xorbs =
+    ap (λ n. n / 48) (length-all_record_bytes xorb_records.record_bytes xorb_records.row_count (λ r. Unit {0}) (λ r any. length-xorb_record_bytes r) xorbs (λ i r below. tt)) ∙ mul-div_cancel_left (total_rows xorb_records xorbs) (omega arith)
+
+pub nothing_gathered : (totals : Totals) → totals ≡ record { files = 0; file_rows = 0; xorbs = 0; xorb_rows = 0; materialized_bytes = 0; stored_bytes = 0; stored_bytes_on_disk = 0 } → HasGathered [] [] [] totals []
+nothing_gathered totals is = subst (λ ts. HasGathered [] [] [] ts []) (sym is) (record {
+  files_held = record { rows = refl; counts = refl; tables = refl; fits = All-nil _ };
+  xorbs_held = record { rows = refl; counts = refl; tables = refl; fits = All-nil _ };
+  tables_held = record { held = []; cursors_are = refl; hold = All-nil _; moved = IsPermutation-refl [] };
+  totals_are = record { files_are = refl; file_rows = refl; xorbs_are = refl; xorb_rows = refl; materialized_bytes = refl; stored_bytes = refl; stored_bytes_on_disk = refl };
+})
+
+pub one_gathered : (key : DataHash) (files xorbs : List SectionPart) (cursors : List Cursor) (totals more : Totals) (parts : List Laid) (part : Laid) (split : Split) (file_part xorb_part : SectionPart) (cursor : Cursor)
+    → HasGathered files xorbs cursors totals parts → IsPartUnder key part → IsSplitOf part split → AddsPart totals split more
+    → file_part.rows.now ≡ split.files.now → file_part.count ≡ more.file_rows - totals.file_rows → file_part.table.now ≡ split.file_table.now
+    → xorb_part.rows.now ≡ split.xorbs.now → xorb_part.count ≡ more.xorb_rows - totals.xorb_rows → xorb_part.table.now ≡ split.xorb_table.now
+    → cursor.rest.now ≡ split.chunk_table.now → cursor.first ≡ totals.xorb_rows
+    → HasGathered (files ++ file_part ∷ []) (xorbs ++ xorb_part ∷ []) (cursors ++ cursor ∷ []) more (parts ++ part ∷ [])
+one_gathered key files xorbs cursors totals more parts part split file_part xorb_part cursor before fits is adds file_rows file_count file_table xorb_rows xorb_count xorb_table rest first =
+    let file_fits = fits_ever file_records part.version part.files fits.files_fit in
+    let file_widths : All FitsRecord part.files = λ k r below. (file_fits.stored k r below).widths in
+    let xorb_widths : All FitsXorb part.xorbs = λ k r below. (fits.xorbs_fit.stored k r below).widths in
+    let more_file_rows : more.file_rows ≡ totals.file_rows + total_rows file_records part.files = adds.file_rows ∙ ap (λ n. totals.file_rows + n) (ap (λ (bs : List ℕ). length bs / 48) is.files ∙ length-file_rows part.files file_widths) in
+    let more_xorb_rows : more.xorb_rows ≡ totals.xorb_rows + total_rows xorb_records part.xorbs = adds.xorb_rows ∙ ap (λ n. totals.xorb_rows + n) (ap (λ (bs : List ℕ). length bs / 48) is.xorbs ∙ length-xorb_rows part.xorbs) in
+    let all_files : files_in (parts ++ part ∷ []) ≡ files_in parts ++ part.files = flat_map-push (λ (p : Laid). p.files) parts part in
+    let all_xorbs : xorbs_in (parts ++ part ∷ []) ≡ xorbs_in parts ++ part.xorbs = flat_map-push (λ (p : Laid). p.xorbs) parts part in
+    let footer = is.footer_is in
+    let ts = before.totals_are in
+    record {
+      files_held = subst (HoldSections file_records (files ++ file_part ∷ [])) (sym (map-push (λ (p : Laid). p.files) parts part))
+          (hold_more file_records files (map (λ p. p.files) parts) file_part part.files before.files_held (file_rows ∙ is.files) (file_count ∙ omega (arith, more_file_rows)) (file_table ∙ is.file_table)
+          (starts_fit file_records [] part.files (λ k r below. (file_widths k r below).metadata.file_hash.word0) (λ r. omega arith) (omega (arith, file_fits.rows))));
+      xorbs_held = subst (HoldSections xorb_records (xorbs ++ xorb_part ∷ [])) (sym (map-push (λ (p : Laid). p.xorbs) parts part))
+          (hold_more xorb_records xorbs (map (λ p. p.xorbs) parts) xorb_part part.xorbs before.xorbs_held (xorb_rows ∙ is.xorbs) (xorb_count ∙ omega (arith, more_xorb_rows)) (xorb_table ∙ is.xorb_table)
+          (xorb_starts_fit part.xorbs xorb_widths fits.xorbs_fit.rows));
+      tables_held = subst (HoldTables (cursors ++ cursor ∷ [])) (sym all_xorbs)
+          (table_more cursors (xorbs_in parts) part.xorbs cursor before.tables_held (rest ∙ is.chunk_table) (first ∙ ts.xorb_rows)
+          (all_fit (chunk_table part.xorbs) (chunk_table_fits part.xorbs xorb_widths fits.xorbs_fit.rows)));
+      totals_are = record {
+        files_are = adds.files ∙ omega (arith, ts.files_are, ap (λ (f : MDBShardFileFooter). f.file_lookup_num_entry) footer, length-starts file_records part.files, length-append (files_in parts) part.files) ∙ ap length (sym all_files);
+        file_rows = more_file_rows ∙ omega (arith, ts.file_rows, sum_by-append file_records.row_count (files_in parts) part.files) ∙ ap (total_rows file_records) (sym all_files);
+        xorbs_are = adds.xorbs ∙ omega (arith, ts.xorbs_are, ap (λ (f : MDBShardFileFooter). f.xorb_lookup_num_entry) footer, length-starts xorb_records part.xorbs, length-append (xorbs_in parts) part.xorbs) ∙ ap length (sym all_xorbs);
+        xorb_rows = more_xorb_rows ∙ omega (arith, ts.xorb_rows, sum_by-append xorb_records.row_count (xorbs_in parts) part.xorbs) ∙ ap (total_rows xorb_records) (sym all_xorbs);
+        materialized_bytes = adds.materialized_bytes ∙ omega (arith, ts.materialized_bytes, ap (λ (f : MDBShardFileFooter). f.materialized_bytes) footer, sum_by-append size_of_file (files_in parts) part.files) ∙ ap (sum_by size_of_file) (sym all_files);
+        stored_bytes = adds.stored_bytes ∙ omega (arith, ts.stored_bytes, ap (λ (f : MDBShardFileFooter). f.stored_bytes) footer, sum_by-append (λ (x : MDBXorbInfo). x.metadata.num_bytes_in_xorb) (xorbs_in parts) part.xorbs)
+            ∙ ap (sum_by (λ (x : MDBXorbInfo). x.metadata.num_bytes_in_xorb)) (sym all_xorbs);
+        stored_bytes_on_disk = adds.stored_bytes_on_disk ∙ omega (arith, ts.stored_bytes_on_disk, ap (λ (f : MDBShardFileFooter). f.stored_bytes_on_disk) footer, sum_by-append (λ (x : MDBXorbInfo). x.metadata.num_bytes_on_disk) (xorbs_in parts) part.xorbs)
+            ∙ ap (sum_by (λ (x : MDBXorbInfo). x.metadata.num_bytes_on_disk)) (sym all_xorbs);
+      };
+    }
+
+abbrev no_part : Laid
+no_part = record { files = []; xorbs = []; version = V3; key = no_key; creation = 0; expiry = 0 }
+
+module _ (key : DataHash) (parts : List Laid) (shards : List (Bor (List ℕ))) (fit : All (IsPartUnder key) parts) (are : map laid_out parts ≡ map (λ x. x.now) shards) where
+  lens : length parts ≡ length shards
+  lens = sym (length-map parts laid_out) ∙ ap length are ∙ length-map shards (λ (x : Bor (List ℕ)). x.now)
+
+  pub gathered_next : (files xorbs : List SectionPart) (cursors : List Cursor) (totals more : Totals) (i : ℕ) (d : Bor (List ℕ)) (split : Split) → i < length shards → HasGathered files xorbs cursors totals (take i parts)
+      → ((key : DataHash) (part : Laid) → IsPartUnder key part → (get_or shards i d).now ≡ laid_out part → IsSplitOf part split) → AddsPart totals split more
+      → HasGathered (files ++ record { rows = split.files; count = more.file_rows - totals.file_rows; table = split.file_table } ∷ []) (xorbs ++ record { rows = split.xorbs; count = more.xorb_rows - totals.xorb_rows; table = split.xorb_table } ∷ [])
+      (cursors ++ record { rest = split.chunk_table; first = totals.xorb_rows } ∷ []) more (take (i + 1) parts)
+  gathered_next files xorbs cursors totals more i d split below before splits adds =
+      let within : i < length parts = omega (arith, below, lens) in
+      let part : Laid = get_or parts i no_part in
+      let bytes : (get_or shards i d).now ≡ laid_out part =
+      sym (get_or-map (λ (x : Bor (List ℕ)). x.now) shards i d [] below) ∙ ap (λ bs. get_or bs i []) (sym are) ∙ get_or-map laid_out parts i no_part [] within in
+      let here : IsPartUnder key part = fit i no_part within in
+      subst (HasGathered _ _ _ more) (sym (take_more parts i no_part within))
+      (one_gathered key files xorbs cursors totals more (take i parts) part split _ _ _ before here (splits key part here bytes) adds refl refl refl refl refl refl refl refl)
+
+  pub all_gathered : (files xorbs : List SectionPart) (cursors : List Cursor) (totals : Totals) (i : ℕ) → length shards ≤ i → HasGathered files xorbs cursors totals (take i parts) → HasGathered files xorbs cursors totals parts
+  all_gathered files xorbs cursors totals i past before = subst (HasGathered files xorbs cursors totals) (take_all i parts (omega (arith, past, lens))) before

@@ -1,0 +1,129 @@
+-- Parts one after another are the layout of all records.
+use Rattle.std.proofs.Common.{◌≡◌, ℕ, List, [], ◌∷◌, ◌++◌, map, flat_map, get_or, length, Bor, ◌<◌, Option, refl, sym, ap, ◌∙◌, subst, append_assoc, arith}
+use Rattle.std.specs.Prelude.{All, unwrap_or}
+use Rattle.std.specs.Io.KnownBytes.{Appends}
+use Rattle.std.specs.List.Sorted.{IsPermutation}
+use Rattle.std.proofs.KnownBytes.{Appends-trans}
+use Rattle.std.proofs.lemmas.Grind.{flat_map-append}
+use Rattle.std.proofs.lemmas.List.Folds.{flat_map-map}
+use Rattle.std.proofs.lemmas.List.Elements.{All-nil, All-cons, All-append, All-drop}
+use Rattle.std.proofs.lemmas.List.Sorted.{IsPermutation-trans}
+use Rattle.xet_base.specs.declared.merklehash.DataHash.{DataHash}
+use Rattle.xet_records.specs.declared.file_structs.MDBFileInfo.{MDBFileInfo}
+use Rattle.xet_records.specs.declared.xorb_structs.MDBXorbInfo.{MDBXorbInfo}
+use Rattle.xet_records.specs.declared.record_reader.FormatVersion.TheVariants.{V3}
+use Rattle.xet_records.specs.FileRecord.{file_records, FitsRecord}
+use Rattle.xet_records.specs.XorbRecord.{xorb_records}
+use Rattle.xet_shards.specs.declared.shard_format.ends.footer.MDBShardFileFooter.{MDBShardFileFooter}
+use Rattle.xet_shards.specs.declared.shard_format.export.chunk_merging.Cursor.{Cursor}
+use Rattle.xet_shards.specs.declared.shard_format.export.gathering.Totals.{Totals}
+use Rattle.xet_shards.specs.declared.shard_format.export.part_split.Split.{Split}
+use Rattle.xet_shards.specs.declared.shard_format.export.section_parts.SectionPart.{SectionPart}
+use Rattle.xet_shards.specs.Export.InARow.{Laid, laid_out, IsPartUnder, files_in, xorbs_in, options_under, AreBytesOf}
+use Rattle.xet_shards.specs.Steps.Gathering.{HasGathered}
+use Rattle.xet_shards.specs.Steps.InARow.{HoldSections, HoldsRows, rows_held, Merges, all_of, IsSplitOf}
+use Rattle.xet_shards.specs.Write.Layout.{header_value, footer_value, shard_header_bytes, shard_footer_bytes, layout_of}
+use Rattle.xet_shards.specs.Write.Section.{section_bytes}
+use Rattle.xet_shards.specs.Write.Tables.{ChunkTableRow, table_bytes, chunk_table_rows, chunk_table_bytes, chunk_table_row_bytes}
+use Rattle.xet_shards.proofs.Write.ChunkSorting.{sorted_is_table}
+use Rattle.xet_shards.proofs.Write.Sections.{fits_ever, files_fit_in, xorbs_fit}
+use Rattle.xet_shards.proofs.Ends.EndsUnique.{ends_of_bytes}
+use Rattle.std.specs.FinMap.{values}
+use Rattle.xet_base.specs.KeyedHash.{no_key}
+use Rattle.xet_shards.specs.Content.Shard.{Shard}
+
+-- the rows of all parts are those of all their records
+rows_joined : {R : Type 0} (bytes : R → List ℕ) (records : List (List R)) → flat_map (flat_map bytes) records ≡ flat_map bytes (all_of records)
+rows_joined bytes [] = refl
+rows_joined bytes (rs ∷ records) = ap (λ more. flat_map bytes rs ++ more) (rows_joined bytes records) ∙ sym (flat_map-append bytes rs (all_of records))
+
+rows_of_parts : {R : Type 0} (bytes : R → List ℕ) (sections : List SectionPart) (records : List (List R)) → map (λ s. s.rows.now) sections ≡ map (flat_map bytes) records
+    → flat_map (λ s. s.rows.now) sections ≡ flat_map bytes (all_of records)
+rows_of_parts bytes sections records are =
+    sym (flat_map-map (λ (bs : List ℕ). bs) (λ (s : SectionPart). s.rows.now) sections) ∙ ap (flat_map (λ bs. bs)) are ∙ flat_map-map (λ (bs : List ℕ). bs) (flat_map bytes) records ∙ rows_joined bytes records
+
+all_files : (parts : List Laid) → all_of (map (λ p. p.files) parts) ≡ files_in parts
+all_files parts = flat_map-map (λ (rs : List MDBFileInfo). rs) (λ (p : Laid). p.files) parts
+
+all_xorbs : (parts : List Laid) → all_of (map (λ p. p.xorbs) parts) ≡ xorbs_in parts
+all_xorbs parts = flat_map-map (λ (rs : List MDBXorbInfo). rs) (λ (p : Laid). p.xorbs) parts
+
+layout_from_parts : (files : List MDBFileInfo) (xorbs : List MDBXorbInfo) (key : DataHash) → (((((((shard_header_bytes (header_value V3) ++ flat_map file_records.record_bytes files) ++ file_records.header_bytes file_records.bookend)
+    ++ flat_map xorb_records.record_bytes xorbs) ++ xorb_records.header_bytes xorb_records.bookend) ++ table_bytes file_records files) ++ table_bytes xorb_records xorbs) ++ chunk_table_bytes xorbs) ++ shard_footer_bytes (footer_value files xorbs (options_under key))
+    ≡ layout_of files xorbs (options_under key)
+unfolding layout_of section_bytes
+layout_from_parts files xorbs key = simp (append_assoc)
+
+-- the rows that were merged are the chunk table
+merged_table : (xorbs : List MDBXorbInfo) (rows : List ChunkTableRow) (old new : Option (List ℕ)) → IsPermutation (chunk_table_rows xorbs) rows → Merges rows old new → Appends old new (chunk_table_bytes xorbs)
+unfolding chunk_table_bytes
+merged_table xorbs rows old new moved merges =
+    subst (λ rs. Appends old new (flat_map chunk_table_row_bytes rs))
+    (sym (sorted_is_table xorbs (chunk_table_rows xorbs) merges.sorted refl (IsPermutation-trans (chunk_table_rows xorbs) rows merges.sorted moved merges.moved) merges.in_order)) merges.written
+
+pub all_written : (files xorbs : List SectionPart) (cursors : List Cursor) (totals : Totals) (parts : List Laid) (key : DataHash) (footer : MDBShardFileFooter) (o a b c d e f g h i : Option (List ℕ)) → HasGathered files xorbs cursors totals parts
+    → Appends o a (shard_header_bytes (header_value V3)) → Appends a b (flat_map (λ s. s.rows.now) files) → Appends b c (file_records.header_bytes file_records.bookend)
+    → Appends c d (flat_map (λ s. s.rows.now) xorbs) → Appends d e (xorb_records.header_bytes xorb_records.bookend)
+    → ((records : List (List MDBFileInfo)) → HoldSections file_records files records → Appends e f (table_bytes file_records (all_of records)))
+    → ((records : List (List MDBXorbInfo)) → HoldSections xorb_records xorbs records → Appends f g (table_bytes xorb_records (all_of records)))
+    → ((held : List (Cursor × List ChunkTableRow)) → map (λ h. h.0) held ≡ cursors → All HoldsRows held → Merges (flat_map rows_held held) g h)
+    → Appends h i (shard_footer_bytes footer) → footer ≡ footer_value (files_in parts) (xorbs_in parts) (options_under key) → Appends o i (layout_of (files_in parts) (xorbs_in parts) (options_under key))
+all_written files xorbs cursors totals parts key footer o a b c d e f g h i held header file_rows file_end xorb_rows xorb_end file_table xorb_table merges end footer_is =
+    let fs = files_in parts in
+    let xs = xorbs_in parts in
+    let one : Appends a b (flat_map file_records.record_bytes fs) =
+    subst (Appends a b) (rows_of_parts file_records.record_bytes files (map (λ p. p.files) parts) held.files_held.rows ∙ ap (flat_map file_records.record_bytes) (all_files parts)) file_rows in
+    let two : Appends c d (flat_map xorb_records.record_bytes xs) =
+    subst (Appends c d) (rows_of_parts xorb_records.record_bytes xorbs (map (λ p. p.xorbs) parts) held.xorbs_held.rows ∙ ap (flat_map xorb_records.record_bytes) (all_xorbs parts)) xorb_rows in
+    let three : Appends e f (table_bytes file_records fs) = subst (λ rs. Appends e f (table_bytes file_records rs)) (all_files parts) (file_table (map (λ p. p.files) parts) held.files_held) in
+    let four : Appends f g (table_bytes xorb_records xs) = subst (λ rs. Appends f g (table_bytes xorb_records rs)) (all_xorbs parts) (xorb_table (map (λ p. p.xorbs) parts) held.xorbs_held) in
+    let tables = held.tables_held in
+    let five : Appends g h (chunk_table_bytes xs) = merged_table xs (flat_map rows_held tables.held) g h tables.moved (merges tables.held tables.cursors_are tables.hold) in
+    let six : Appends h i (shard_footer_bytes (footer_value fs xs (options_under key))) = subst (λ ft. Appends h i (shard_footer_bytes ft)) footer_is end in
+    subst (Appends o i) (layout_from_parts fs xs key)
+    (Appends-trans o h i _ _ (Appends-trans o g h _ _ (Appends-trans o f g _ _ (Appends-trans o e f _ _ (Appends-trans o d e _ _ (Appends-trans o c d _ _ (Appends-trans o b c _ _ (Appends-trans o a b _ _ header one) file_end) two) xorb_end) three) four) five) six)
+
+-- the files of parts have their widths
+pub parts_fit : (key : DataHash) (parts : List Laid) → All (IsPartUnder key) parts → All FitsRecord (files_in parts)
+parts_fit key [] fit = All-nil FitsRecord
+parts_fit key (part ∷ parts) fit =
+    let stored = (fits_ever file_records part.version part.files (fit 0 part (omega arith)).files_fit).stored in
+    All-append FitsRecord part.files (files_in parts) (λ k r below. (stored k r below).widths) (parts_fit key parts (All-drop (IsPartUnder key) 1 (part ∷ parts) fit))
+
+-- the key of the first part is that of all
+pub first_key : (key : DataHash) (parts : List Laid) (shards : List (Bor (List ℕ))) (d : Bor (List ℕ)) (split : Split) → All (IsPartUnder key) parts → map laid_out parts ≡ map (λ x. x.now) shards → 0 < length shards
+    → ((key : DataHash) (part : Laid) → IsPartUnder key part → (get_or shards 0 d).now ≡ laid_out part → IsSplitOf part split) → split.footer.chunk_hash_hmac_key ≡ key
+first_key key [] [] d split fit are some splits = absurd (omega (arith, some))
+first_key key [] (shard ∷ shards) d split fit are some splits = absurd (omega (arith, ap length are))
+first_key key (part ∷ parts) [] d split fit are some splits = absurd (omega (arith, some))
+first_key key (part ∷ parts) (shard ∷ shards) d split fit are some splits =
+    let here : IsPartUnder key part = fit 0 part (omega arith) in
+    ap (λ (f : MDBShardFileFooter). f.chunk_hash_hmac_key) (splits key part here (ap (λ bs. get_or bs 0 []) (sym are))).footer_is ∙ here.key_is
+
+-- the bytes of shards are parts without a key
+pub record ArePartsOf (shards : List Shard) (bytes : List (List ℕ)) : Type 0 where
+  pub parts : List Laid
+  pub fit : All (IsPartUnder no_key) parts
+  pub are : map laid_out parts ≡ bytes
+  pub files_are : files_in parts ≡ flat_map (λ s. values s.files) shards
+  pub xorbs_are : xorbs_in parts ≡ flat_map (λ s. values s.xorbs) shards
+
+pub parts_of : (shards : List Shard) (bytes : List (List ℕ)) → AreBytesOf shards bytes → ArePartsOf shards bytes
+parts_of [] [] is = record { parts = []; fit = All-nil (IsPartUnder no_key); are = refl; files_are = refl; xorbs_are = refl }
+parts_of [] (b ∷ bytes) is = absurd is
+parts_of (s ∷ shards) [] is = absurd is
+parts_of (s ∷ shards) (b ∷ bytes) (is, others) =
+    let rest = parts_of shards bytes others in
+    let part : Laid = record { files = values s.files; xorbs = values s.xorbs; version = is.version; key = no_key; creation = 0; expiry = unwrap_or is.expiry 18446744073709551615 } in
+    record {
+      parts = part ∷ rest.parts;
+      fit = All-cons (IsPartUnder no_key) part rest.parts (record {
+        key_is = refl;
+        files_fit = files_fit_in is.version s is.shard is.files;
+        xorbs_fit = xorbs_fit s is.shard;
+        widths = (ends_of_bytes s b is).footer_widths;
+      }) rest.fit;
+      are = λ i. sym is.bytes_are i ∷ rest.are i;
+      files_are = ap (λ fs. values s.files ++ fs) rest.files_are;
+      xorbs_are = ap (λ xs. values s.xorbs ++ xs) rest.xorbs_are;
+    }

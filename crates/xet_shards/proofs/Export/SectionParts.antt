@@ -1,0 +1,111 @@
+-- The turns of the loops that write the tables of parts.
+use Rattle.std.proofs.Common.{◌≡◌, ℕ, ◌+◌, ◌<◌, ◌^◌, List, [], ◌∷◌, ◌++◌, length, map, flat_map, take, get_or, Option, refl, sym, ap, ◌∙◌, subst, append_assoc, append-nil, arith}
+use Rattle.std.specs.Prelude.{All}
+use Rattle.std.specs.Io.KnownBytes.{Appends}
+use Rattle.std.proofs.KnownBytes.{Appends-nil, Appends-trans}
+use Rattle.std.proofs.lemmas.List.{length-append, length-map, get_or-map, take_more}
+use Rattle.std.proofs.lemmas.List.Elements.{All-drop}
+use Rattle.std.proofs.lemmas.List.Sums.{sum_by-append}
+use Rattle.std.proofs.lemmas.Grind.{flat_map-append}
+use Rattle.xet_base.specs.Bytes.{u32_bytes, u64_bytes}
+use Rattle.xet_base.proofs.Bytes.{u32_bytes-front, u64_bytes-front, length-u64_bytes}
+use Rattle.xet_records.specs.RecordKind.{RecordKind}
+use Rattle.xet_shards.specs.declared.shard_format.export.section_parts.SectionPart.{SectionPart}
+use Rattle.xet_shards.specs.Read.TableReading.{FitsStart}
+use Rattle.xet_shards.specs.Steps.InARow.{HoldSections, all_of}
+use Rattle.xet_shards.specs.Write.Ranges.{start_later}
+use Rattle.xet_shards.specs.Write.Section.{total_rows}
+use Rattle.xet_shards.specs.Write.Tables.{start_row, starts, table_bytes}
+use Rattle.xet_shards.proofs.ShardInMemory.Walks.{flat_map-push}
+use Rattle.xet_shards.proofs.Write.Ranges.{starts-append}
+use Rattle.xet_shards.proofs.Write.Tables.{table_bytes-nil}
+use Rattle.xet_shards.proofs.Write.WrittenTables.{length-start}
+
+-- rows of a table were written, so many rows later, and the others are left
+pub record HasWrittenStarts (first : ℕ) (rows : List (ℕ × ℕ)) (rest : List ℕ) (old now : Option (List ℕ)) : Type 0 where
+  pub done : List (ℕ × ℕ)
+  pub left : List (ℕ × ℕ)
+  pub all : rows ≡ done ++ left
+  pub fits : All FitsStart left
+  pub rest_is : rest ≡ flat_map start_row left
+  pub written : Appends old now (flat_map start_row (map (start_later first) done))
+
+pub no_starts_written : (first : ℕ) (rows : List (ℕ × ℕ)) (table : List ℕ) (old : Option (List ℕ)) → table ≡ flat_map start_row rows → All FitsStart rows → HasWrittenStarts first rows table old old
+no_starts_written first rows table old are fit = record { done = []; left = rows; all = refl; fits = fit; rest_is = are; written = Appends-nil old }
+
+pub map-push : {X Y : Type 0} (f : X → Y) (xs : List X) (x : X) → map f (xs ++ x ∷ []) ≡ map f xs ++ f x ∷ []
+map-push f [] x = refl
+map-push f (y ∷ xs) x = ap (λ ys. f y ∷ ys) (map-push f xs x)
+
+pub one_start_written : (first : ℕ) (rows : List (ℕ × ℕ)) (rest more after : List ℕ) (word row later : ℕ) (old now new : Option (List ℕ)) → HasWrittenStarts first rows rest old now
+    → word < 2 ^ 64 → row < 2 ^ 32 → rest ≡ u64_bytes word ++ more → more ≡ u32_bytes row ++ after → later ≡ row + first → Appends now new (start_row (word, later))
+    → HasWrittenStarts first rows after old new
+one_start_written first rows rest more after word row later old now new before word_fits row_fits one two sum wrote = go before.left before.all before.fits before.rest_is
+  where
+    there : rest ≡ u64_bytes word ++ (u32_bytes row ++ after)
+    there = one ∙ ap (λ bs. u64_bytes word ++ bs) two
+
+    go : (left : List (ℕ × ℕ)) → rows ≡ before.done ++ left → All FitsStart left → rest ≡ flat_map start_row left → HasWrittenStarts first rows after old new
+    go [] all fit is = absurd (omega (arith, ap length (sym is ∙ there), length-append (u64_bytes word) (u32_bytes row ++ after), length-u64_bytes word))
+    go (s ∷ left) all fit is =
+        let here : FitsStart s = fit 0 s (omega arith) in
+        let words = u64_bytes-front s.0 word (u32_bytes s.1 ++ flat_map start_row left) (u32_bytes row ++ after) here.word word_fits
+        (sym (append_assoc (u64_bytes s.0) (u32_bytes s.1) (flat_map start_row left)) ∙ sym is ∙ there) in
+        let numbers = u32_bytes-front s.1 row (flat_map start_row left) after here.row_number row_fits words.1 in
+        let same : start_later first s ≡ (word, later) = λ i. (words.0 i, ((ap (λ n. first + n) numbers.0 ∙ omega arith) ∙ sym sum) i) in
+        record {
+          done = before.done ++ s ∷ [];
+          left = left;
+          all = all ∙ sym (append_assoc before.done (s ∷ []) left);
+          fits = All-drop FitsStart 1 (s ∷ left) fit;
+          rest_is = sym numbers.1;
+          written = subst (Appends old new) (sym (ap (flat_map start_row) (map-push (start_later first) before.done s) ∙ flat_map-push start_row (map (start_later first) before.done) (start_later first s)))
+              (Appends-trans old now new (flat_map start_row (map (start_later first) before.done)) (start_row (start_later first s)) before.written (subst (λ t. Appends now new (start_row t)) (sym same) wrote));
+        }
+
+-- where too few bytes are left for a row, all are written
+pub all_starts_written : (first : ℕ) (rows : List (ℕ × ℕ)) (rest : List ℕ) (old now : Option (List ℕ)) → HasWrittenStarts first rows rest old now → length rest < 12
+    → Appends old now (flat_map start_row (map (start_later first) rows))
+all_starts_written first rows rest old now before few = go before.left before.all before.fits before.rest_is
+  where
+    go : (left : List (ℕ × ℕ)) → rows ≡ before.done ++ left → All FitsStart left → rest ≡ flat_map start_row left → Appends old now (flat_map start_row (map (start_later first) rows))
+    go [] all fit is = subst (λ rs. Appends old now (flat_map start_row (map (start_later first) rs))) (sym (append-nil before.done) ∙ sym all) before.written
+    go (s ∷ left) all fit is =
+        absurd (omega (arith, few, ap length is, length-append (start_row s) (flat_map start_row left), length-start s (fit 0 s (omega arith))))
+
+-- the tables of some parts were written, and their rows are so many
+pub record HasWrittenTables {H R : Type 0} (K : RecordKind H R) (first : ℕ) (records : List (List R)) (old now : Option (List ℕ)) : Type 0 where
+  pub rows : first ≡ total_rows K (all_of records)
+  pub written : Appends old now (table_bytes K (all_of records))
+
+module _ {H R : Type 0} (K : RecordKind H R) where
+  pub no_tables_written : (old : Option (List ℕ)) → HasWrittenTables K 0 [] old old
+  no_tables_written old = record { rows = refl; written = subst (Appends old old) (sym (table_bytes-nil K)) (Appends-nil old) }
+
+  table_bytes-append : (xs ys : List R) → table_bytes K (xs ++ ys) ≡ table_bytes K xs ++ flat_map start_row (map (start_later (total_rows K xs)) (starts K ys))
+  unfolding table_bytes
+  table_bytes-append xs ys = ap (flat_map start_row) (starts-append K xs ys) ∙ flat_map-append start_row (starts K xs) (map (start_later (total_rows K xs)) (starts K ys))
+
+  table_of : (rs : List R) (table : List ℕ) → table ≡ table_bytes K rs → table ≡ flat_map start_row (starts K rs)
+  unfolding table_bytes
+  table_of rs table is = is
+
+  pub one_table_written : (sections : List SectionPart) (records : List (List R)) (i first later : ℕ) (d : SectionPart) (old now new : Option (List ℕ)) → HoldSections K sections records → i < length sections
+      → HasWrittenTables K first (take i records) old now
+      → ((rows : List (ℕ × ℕ)) → (get_or sections i d).table.now ≡ flat_map start_row rows → All FitsStart rows → Appends now new (flat_map start_row (map (start_later first) rows)))
+      → later ≡ first + (get_or sections i d).count → HasWrittenTables K later (take (i + 1) records) old new
+  one_table_written sections records i first later d old now new hold below before wrote sum =
+      let lens : length sections ≡ length records = sym (length-map sections (λ (s : SectionPart). s.count)) ∙ ap length hold.counts ∙ length-map records (total_rows K) in
+      let within : i < length records = omega (arith, below, lens) in
+      let here : List R = get_or records i [] in
+      let more : all_of (take (i + 1) records) ≡ all_of (take i records) ++ here = ap all_of (take_more records i [] within) ∙ flat_map-push (λ (rs : List R). rs) (take i records) here in
+      let table : (get_or sections i d).table.now ≡ table_bytes K here =
+      sym (get_or-map (λ (s : SectionPart). s.table.now) sections i d [] below) ∙ ap (λ bs. get_or bs i []) hold.tables ∙ get_or-map (table_bytes K) records i [] [] within in
+      let count : (get_or sections i d).count ≡ total_rows K here =
+      sym (get_or-map (λ (s : SectionPart). s.count) sections i d 0 below) ∙ ap (λ ns. get_or ns i 0) hold.counts ∙ get_or-map (total_rows K) records i [] 0 within in
+      record {
+        rows = sum ∙ omega (arith, before.rows, count, sum_by-append K.row_count (all_of (take i records)) here) ∙ ap (total_rows K) (sym more);
+        written = subst (Appends old new) (sym (ap (table_bytes K) more ∙ table_bytes-append (all_of (take i records)) here))
+            (Appends-trans old now new (table_bytes K (all_of (take i records))) (flat_map start_row (map (start_later (total_rows K (all_of (take i records)))) (starts K here))) before.written
+            (subst (λ n. Appends now new (flat_map start_row (map (start_later n) (starts K here)))) before.rows (wrote (starts K here) (table_of here (get_or sections i d).table.now table) (hold.fits i [] within))));
+      }

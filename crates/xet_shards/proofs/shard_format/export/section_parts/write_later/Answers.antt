@@ -1,0 +1,11 @@
+use Rattle.std.proofs.Common.{rules}
+use Rattle.xet_shards.proofs.Export.SectionParts.{one_start_written, all_starts_written}
+use Rattle.xet_shards.proofs.shard_format.export.section_parts.write_later.Goals as goal
+
+pub loop-rest-preserved : goal.loop-rest-preserved
+loop-rest-preserved g c = λ rows are fit.
+    one_start_written c.args.first rows c.loop-rest.rest.now c.split_u64-word.result.1.now c.split_u32-row.result.1.now c.split_u64-word.result.0 c.split_u32-row.result.0 c.in_ok-later.field-0 _ (g.W.Write.contents c.loop-rest.writer) _
+    (c.loop-rest.invariant rows are fit) (search rules) (search rules) c.split_u64-word.ensures.bytes c.split_u32-row.ensures.bytes c.in_ok-later.ensures.sum c.in_ok-write_start.ensures.bytes
+
+pub returns-clause-bytes : goal.returns-clause-bytes
+returns-clause-bytes g c = λ rows are fit. all_starts_written c.args.first rows c.loop-rest.rest.now _ (g.W.Write.contents c.loop-rest.writer) (c.loop-rest.invariant rows are fit) (search rules)

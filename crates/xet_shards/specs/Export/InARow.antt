@@ -1,0 +1,76 @@
+-- Shards whose records come one after another, and the shard that has the records of all.
+use Rattle.std.specs.Prelude.{◌≡◌, ◌⊎◌, ⊤, ℕ, true, List, [], ◌∷◌, flat_map, None}
+use Rattle.xet_base.specs.declared.error.CoreError.{CoreError}
+use Rattle.xet_base.specs.declared.merklehash.DataHash.{DataHash}
+use Rattle.xet_base.specs.Errors.{IsInvalidShard, IsWriteError}
+use Rattle.xet_records.specs.declared.file_structs.MDBFileInfo.{MDBFileInfo}
+use Rattle.xet_records.specs.declared.xorb_structs.MDBXorbInfo.{MDBXorbInfo}
+use Rattle.xet_records.specs.declared.record_reader.FormatVersion.{FormatVersion}
+use Rattle.xet_records.specs.FileRecord.{file_records_in}
+use Rattle.xet_records.specs.XorbRecord.{xorb_records}
+use Rattle.std.specs.FinMap.{values}
+use Rattle.xet_shards.specs.Content.Shard.{Shard}
+use Rattle.xet_shards.specs.Write.WrittenShard.{IsBytesOf}
+use Rattle.xet_shards.specs.Ends.Ends.{FitsFooter}
+use Rattle.xet_shards.specs.Write.Layout.{LayoutOptions, plain_options, footer_value, layout_of}
+use Rattle.xet_shards.specs.Write.WithOptions.{FitsSection}
+
+-- a part: files and xorbs, a version, the key of the chunk hashes, and two timestamps
+pub record Laid : Type 0 where
+  pub files : List MDBFileInfo
+  pub xorbs : List MDBXorbInfo
+  pub version : FormatVersion
+  pub key : DataHash
+  pub creation : ℕ
+  pub expiry : ℕ
+
+-- its layout options: all tables are in
+abbrev pub options_in : Laid → LayoutOptions
+options_in part = record {
+  version = part.version;
+  file_table = true;
+  xorb_table = true;
+  chunk_table = true;
+  key = part.key;
+  creation = part.creation;
+  expiry = part.expiry;
+}
+
+-- its bytes
+abbrev pub laid_out : Laid → List ℕ
+laid_out part = layout_of part.files part.xorbs (options_in part)
+
+-- the key is this, and records and numbers fit their rows
+pub record IsPartUnder (key : DataHash) (part : Laid) : Type 0 where
+  pub key_is : part.key ≡ key
+  pub files_fit : FitsSection (file_records_in part.version) part.files
+  pub xorbs_fit : FitsSection xorb_records part.xorbs
+  pub widths : FitsFooter (footer_value part.files part.xorbs (options_in part))
+
+-- the files and the xorbs of all parts, part by part
+abbrev pub files_in : List Laid → List MDBFileInfo
+files_in parts = flat_map (λ part. part.files) parts
+
+abbrev pub xorbs_in : List Laid → List MDBXorbInfo
+xorbs_in parts = flat_map (λ part. part.xorbs) parts
+
+-- version 3, all tables, the key, no creation and no expiry
+abbrev pub options_under : DataHash → LayoutOptions
+options_under key = record (plain_options None) { key = key }
+
+-- the bytes of a part are not a shard's as far as they were looked at, or writing failed
+abbrev pub IsBadPart : CoreError → Type 0
+IsBadPart e = IsInvalidShard e ⊎ IsWriteError e
+
+-- each of the byte strings is that of the shard at its place
+abbrev pub AreBytesOf : List Shard → List (List ℕ) → Type 0
+AreBytesOf [] [] = ⊤
+AreBytesOf [] (bytes ∷ all) = ⊥
+AreBytesOf (s ∷ shards) [] = ⊥
+AreBytesOf (s ∷ shards) (bytes ∷ all) = IsBytesOf s bytes × AreBytesOf shards all
+
+-- a shard has the records of these shards, in their order: so the hashes of each come after those
+-- of the shards before it
+pub record AreInARow (shards : List Shard) (all : Shard) : Type 0 where
+  pub files : values all.files ≡ flat_map (λ s. values s.files) shards
+  pub xorbs : values all.xorbs ≡ flat_map (λ s. values s.xorbs) shards

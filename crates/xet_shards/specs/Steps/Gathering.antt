@@ -1,0 +1,49 @@
+-- What is gathered of parts that are written one after another.
+use Rattle.std.specs.Prelude.{◌≡◌, ◌+◌, ◌/◌, List, map, flat_map, length, sum_by, All}
+use Rattle.std.specs.List.Sorted.{IsPermutation}
+use Rattle.xet_records.specs.declared.file_structs.MDBFileInfo.{MDBFileInfo}
+use Rattle.xet_records.specs.declared.xorb_structs.MDBXorbInfo.{MDBXorbInfo}
+use Rattle.xet_records.specs.FileRecord.{file_records, size_of_file}
+use Rattle.xet_records.specs.XorbRecord.{xorb_records}
+use Rattle.xet_shards.specs.declared.shard_format.export.chunk_merging.Cursor.{Cursor}
+use Rattle.xet_shards.specs.declared.shard_format.export.gathering.Totals.{Totals}
+use Rattle.xet_shards.specs.declared.shard_format.export.part_split.Split.{Split}
+use Rattle.xet_shards.specs.declared.shard_format.export.section_parts.SectionPart.{SectionPart}
+use Rattle.xet_shards.specs.Export.InARow.{Laid, files_in, xorbs_in}
+use Rattle.xet_shards.specs.Steps.InARow.{HoldSections, HoldsRows, rows_held}
+use Rattle.xet_shards.specs.Write.Section.{total_rows}
+use Rattle.xet_shards.specs.Write.Tables.{ChunkTableRow, chunk_table_rows}
+
+-- the sums with one part more
+pub record AddsPart (old : Totals) (split : Split) (new : Totals) : Type 0 where
+  pub files : new.files ≡ old.files + split.footer.file_lookup_num_entry
+  pub file_rows : new.file_rows ≡ old.file_rows + length split.files.now / 48
+  pub xorbs : new.xorbs ≡ old.xorbs + split.footer.xorb_lookup_num_entry
+  pub xorb_rows : new.xorb_rows ≡ old.xorb_rows + length split.xorbs.now / 48
+  pub materialized_bytes : new.materialized_bytes ≡ old.materialized_bytes + split.footer.materialized_bytes
+  pub stored_bytes : new.stored_bytes ≡ old.stored_bytes + split.footer.stored_bytes
+  pub stored_bytes_on_disk : new.stored_bytes_on_disk ≡ old.stored_bytes_on_disk + split.footer.stored_bytes_on_disk
+
+-- the numbers of these records, of their rows and of their bytes
+pub record HasTotals (totals : Totals) (files : List MDBFileInfo) (xorbs : List MDBXorbInfo) : Type 0 where
+  pub files_are : totals.files ≡ length files
+  pub file_rows : totals.file_rows ≡ total_rows file_records files
+  pub xorbs_are : totals.xorbs ≡ length xorbs
+  pub xorb_rows : totals.xorb_rows ≡ total_rows xorb_records xorbs
+  pub materialized_bytes : totals.materialized_bytes ≡ sum_by size_of_file files
+  pub stored_bytes : totals.stored_bytes ≡ sum_by (λ (x : MDBXorbInfo). x.metadata.num_bytes_in_xorb) xorbs
+  pub stored_bytes_on_disk : totals.stored_bytes_on_disk ≡ sum_by (λ (x : MDBXorbInfo). x.metadata.num_bytes_on_disk) xorbs
+
+-- cursors in tables that have the rows of the chunk table of these xorbs
+pub record HoldTables (cursors : List Cursor) (xorbs : List MDBXorbInfo) : Type 0 where
+  pub held : List (Cursor × List ChunkTableRow)
+  pub cursors_are : map (λ h. h.0) held ≡ cursors
+  pub hold : All HoldsRows held
+  pub moved : IsPermutation (chunk_table_rows xorbs) (flat_map rows_held held)
+
+-- what was gathered of these parts
+pub record HasGathered (files xorbs : List SectionPart) (cursors : List Cursor) (totals : Totals) (parts : List Laid) : Type 0 where
+  pub files_held : HoldSections file_records files (map (λ part. part.files) parts)
+  pub xorbs_held : HoldSections xorb_records xorbs (map (λ part. part.xorbs) parts)
+  pub tables_held : HoldTables cursors (xorbs_in parts)
+  pub totals_are : HasTotals totals (files_in parts) (xorbs_in parts)

@@ -1,0 +1,131 @@
+//! The parts of shards, gathered for writing them one after another.
+
+ghost use Rattle.std.specs.Prelude.{◌≡◌, ◌+◌, ◌/◌, List, All, IfOk, map};
+ghost use Rattle.xet_shards.specs.Export.InARow.{Laid, laid_out, IsPartUnder};
+ghost use Rattle.xet_shards.specs.Steps.Gathering.{AddsPart, HasGathered};
+
+use super::chunk_merging::Cursor;
+use super::part_split::{Split, split_shard};
+use super::section_parts::{SectionPart, later};
+use std::alloc::Global;
+use xet_base::error::{CoreError, Result};
+use xet_base::merklehash::HMACKey;
+
+/// What parts have in sum: their records, the rows of their sections, and their bytes.
+#[derive(Clone, Copy, Debug)]
+pub(in crate::shard_format) struct Totals {
+    pub files: u32,
+    pub file_rows: u32,
+    pub xorbs: u32,
+    pub xorb_rows: u32,
+    pub materialized_bytes: u64,
+    pub stored_bytes: u64,
+    pub stored_bytes_on_disk: u64,
+}
+
+/// The sections of all parts, a cursor in each chunk table, and what the parts have in sum.
+#[derive(Drop)]
+pub(in crate::shard_format) struct Gathered<'a> {
+    pub files: Vec<SectionPart<'a>>,
+    pub xorbs: Vec<SectionPart<'a>>,
+    pub cursors: Vec<Cursor<'a>>,
+    pub totals: Totals,
+}
+
+// The number, or `InvalidShard` if it passes `u32`.
+fn number(alloc: Global, n: u64) -> Result<u32>
+    ensures { IfOk result (λ m. m ≡ n) }
+{
+    if n > u64::from(u32::MAX) {
+        return Err(CoreError::InvalidShard(String::new(alloc)));
+    }
+    Ok(n as u32)
+}
+
+// The sum, or `InvalidShard` if it passes `u64`.
+fn sum(alloc: Global, a: u64, b: u64) -> Result<u64>
+    ensures { IfOk result (λ n. n ≡ a + b) }
+{
+    match a.checked_add(b) {
+        Some(sum) => Ok(sum),
+        None => Err(CoreError::InvalidShard(String::new(alloc))),
+    }
+}
+
+// What parts have in sum with one part more. `InvalidShard` if a sum is too great.
+fn with_part(alloc: Global, totals: &Totals, split: &Split<'_>) -> Result<Totals>
+    ensures { IfOk result (AddsPart totals.now split.now) }
+{
+    let footer = &split.footer;
+    let file_rows = number(alloc, (split.files.len() / 48) as u64)?;
+    let xorb_rows = number(alloc, (split.xorbs.len() / 48) as u64)?;
+    let files = number(alloc, footer.file_lookup_num_entry)?;
+    let xorbs = number(alloc, footer.xorb_lookup_num_entry)?;
+    Ok(Totals {
+        files: later(alloc, totals.files, files)?,
+        file_rows: later(alloc, totals.file_rows, file_rows)?,
+        xorbs: later(alloc, totals.xorbs, xorbs)?,
+        xorb_rows: later(alloc, totals.xorb_rows, xorb_rows)?,
+        materialized_bytes: sum(alloc, totals.materialized_bytes, footer.materialized_bytes)?,
+        stored_bytes: sum(alloc, totals.stored_bytes, footer.stored_bytes)?,
+        stored_bytes_on_disk: sum(
+            alloc,
+            totals.stored_bytes_on_disk,
+            footer.stored_bytes_on_disk,
+        )?,
+    })
+}
+
+/// The parts of shards whose chunk hashes are under the key. `InvalidArguments` if those of a shard
+/// are not.
+pub(in crate::shard_format) fn gather<'a>(
+    alloc: Global,
+    shards: &[&'a [u8]],
+    key: HMACKey,
+) -> Result<Gathered<'a>>
+    ensures { (parts : List Laid) → All (IsPartUnder key) parts
+        → map laid_out parts ≡ map (λ x. x.now) shards.now
+        → IfOk result
+        (λ g. HasGathered g.files.items g.xorbs.items g.cursors.items g.totals parts) }
+{
+    let mut files = Vec::new(alloc);
+    let mut xorbs = Vec::new(alloc);
+    let mut cursors = Vec::new(alloc);
+    let mut totals = Totals {
+        files: 0,
+        file_rows: 0,
+        xorbs: 0,
+        xorb_rows: 0,
+        materialized_bytes: 0,
+        stored_bytes: 0,
+        stored_bytes_on_disk: 0,
+    };
+    for shard in shards {
+        let split = split_shard(alloc, *shard)?;
+        if split.footer.chunk_hash_hmac_key != key {
+            return Err(CoreError::InvalidArguments);
+        }
+        let more = with_part(alloc, &totals, &split)?;
+        files.push(SectionPart {
+            rows: split.files,
+            count: more.file_rows - totals.file_rows,
+            table: split.file_table,
+        })?;
+        xorbs.push(SectionPart {
+            rows: split.xorbs,
+            count: more.xorb_rows - totals.xorb_rows,
+            table: split.xorb_table,
+        })?;
+        cursors.push(Cursor {
+            rest: split.chunk_table,
+            first: totals.xorb_rows,
+        })?;
+        totals = more;
+    }
+    Ok(Gathered {
+        files,
+        xorbs,
+        cursors,
+        totals,
+    })
+}

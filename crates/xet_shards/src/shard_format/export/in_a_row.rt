@@ -1,0 +1,139 @@
+//! Shards whose records come one after another, written as the shard that has them all.
+//!
+//! Sections are copied without their bookends, row numbers in the tables are put later by the rows
+//! of the parts before, and chunk tables are merged. Beside 40 bytes a part and section, no memory
+//! is needed.
+
+ghost use Rattle.std.specs.Prelude.{◌≡◌, ◌+◌, None, List, All, OnOk, IfOk, map, length, sum_by};
+ghost use Rattle.std.specs.Io.KnownBytes.{Appends};
+ghost use Rattle.xet_records.specs.declared.file_structs.MDBFileInfo.{MDBFileInfo};
+ghost use Rattle.xet_records.specs.declared.xorb_structs.MDBXorbInfo.{MDBXorbInfo};
+ghost use Rattle.xet_records.specs.FileRecord.{FitsRecord};
+ghost use Rattle.xet_shards.specs.Content.Shard.{Shard};
+ghost use Rattle.xet_shards.specs.Export.InARow.{Laid, laid_out, IsPartUnder, files_in, xorbs_in, options_under, AreBytesOf, AreInARow};
+ghost use Rattle.xet_shards.specs.Steps.Gathering.{HasTotals, HasGathered};
+ghost use Rattle.xet_base.specs.declared.merklehash.DataHash.{DataHash};
+ghost use Rattle.xet_shards.specs.Write.Layout.{layout, layout_of, footer_value, info_of};
+
+use super::chunk_merging::write_merged;
+use super::gathering::{Gathered, Totals, gather};
+use super::part_split::split_shard;
+use super::section_parts::{write_rows, write_tables};
+use crate::shard_format::ends::footer::MDBShardFileFooter;
+use crate::shard_format::ends::header::{HEADER_SIZE, MDBShardFileHeader};
+use crate::shard_format::ends::info::MDBShardInfo;
+use crate::shard_format::write::written::{WrittenFiles, WrittenSection, WrittenXorbs};
+use std::alloc::Global;
+use std::io::Write;
+use xet_base::error::{CoreError, Result};
+use xet_base::merklehash::HMACKey;
+use xet_records::file_structs::MDBFileInfo;
+use xet_records::record_reader::FormatVersion;
+use xet_records::rows::ROW_SIZE;
+use xet_records::xorb_structs::MDBXorbInfo;
+
+/// Writes the shard that has the records of all shards, in their order, with all tables, under the
+/// key of the first and without expiry, and returns its header and footer. Sections and tables are
+/// copied and not checked.
+///
+/// `InvalidArguments` if there is no shard or if their keys differ, and then nothing is written.
+/// `InvalidShard` if the offsets of a footer are not in order, if the rows of a section pass
+/// 4294967295 or if a chunk table does not ascend, `ShardVersion` or `UnexpectedEof` if there is no
+/// header or no footer, `OutOfMemory` if an allocation fails. Any other error is the writer's.
+pub fn shards_in_a_row<W: Write>(
+    alloc: Global,
+    shards: &[&[u8]],
+    writer: &mut W,
+) -> Result<MDBShardInfo>
+    ensures bytes { (key : DataHash) → (parts : List Laid) → All (IsPartUnder key) parts
+        → map laid_out parts ≡ map (λ x. x.now) shards.now
+        → OnOk result
+        (Appends (W.contents writer.old) (W.contents writer.new)
+        (layout_of (files_in parts) (xorbs_in parts) (options_under key))) }
+    ensures shard { (written : List Shard) → (all : Shard) → AreInARow written all
+        → AreBytesOf written (map (λ x. x.now) shards.now)
+        → OnOk result
+        (Appends (W.contents writer.old) (W.contents writer.new) (layout all None)) }
+    ensures info { (key : DataHash) → (parts : List Laid) → All (IsPartUnder key) parts
+        → map laid_out parts ≡ map (λ x. x.now) shards.now
+        → IfOk result
+        (λ info. info ≡ info_of (files_in parts) (xorbs_in parts) (options_under key)) }
+{
+    if shards.is_empty() {
+        return Err(CoreError::InvalidArguments);
+    }
+    let key = split_shard(alloc, shards[0])?.footer.chunk_hash_hmac_key;
+    let gathered = gather(alloc, shards, key)?;
+    write_gathered(alloc, writer, gathered, key)
+}
+
+// Writes the shard of what was gathered of parts.
+fn write_gathered<W: Write>(
+    alloc: Global,
+    writer: &mut W,
+    gathered: Gathered<'_>,
+    key: HMACKey,
+) -> Result<MDBShardInfo>
+    ensures bytes { (parts : List Laid)
+        → HasGathered gathered.entry.files.items gathered.entry.xorbs.items gathered.entry.cursors.items gathered.entry.totals parts
+        → All FitsRecord (files_in parts)
+        → OnOk result
+        (Appends (W.contents writer.old) (W.contents writer.new)
+        (layout_of (files_in parts) (xorbs_in parts) (options_under key))) }
+    ensures info { (parts : List Laid)
+        → HasGathered gathered.entry.files.items gathered.entry.xorbs.items gathered.entry.cursors.items gathered.entry.totals parts
+        → All FitsRecord (files_in parts)
+        → IfOk result
+        (λ info. info ≡ info_of (files_in parts) (xorbs_in parts) (options_under key)) }
+{
+    let Gathered {
+        files,
+        xorbs,
+        cursors,
+        totals,
+    } = gathered;
+    let Some(chunks) = totals.xorb_rows.checked_sub(totals.xorbs) else {
+        return Err(CoreError::InvalidShard(String::new(alloc)));
+    };
+    let header = MDBShardFileHeader::of_version(FormatVersion::V3);
+    let metadata = footer_of_parts(&totals, chunks, key);
+    header.serialize(writer)?;
+    write_rows(writer, files.as_slice())?;
+    WrittenFiles::write_bookend(writer)?;
+    write_rows(writer, xorbs.as_slice())?;
+    WrittenXorbs::write_bookend(writer)?;
+    write_tables::<MDBFileInfo, W>(alloc, writer, files.as_slice())?;
+    write_tables::<MDBXorbInfo, W>(alloc, writer, xorbs.as_slice())?;
+    write_merged(alloc, writer, cursors, u64::from(chunks))?;
+    metadata.serialize(writer)?;
+    Ok(MDBShardInfo { header, metadata })
+}
+
+// The footer of parts with so many chunks, by what they have in sum.
+fn footer_of_parts(totals: &Totals, chunks: u32, key: HMACKey) -> MDBShardFileFooter
+    ensures { (files : List MDBFileInfo) → (xorbs : List MDBXorbInfo) → All FitsRecord files
+        → HasTotals totals.now files xorbs → chunks + totals.now.xorbs ≡ totals.now.xorb_rows
+        → result ≡ footer_value files xorbs (options_under key) }
+{
+    let row_size = ROW_SIZE as u64;
+    let xorb_info_offset = HEADER_SIZE + row_size * u64::from(totals.file_rows) + row_size;
+    let file_lookup_offset = xorb_info_offset + row_size * u64::from(totals.xorb_rows) + row_size;
+    let xorb_lookup_offset = file_lookup_offset + 12 * u64::from(totals.files);
+    let chunk_lookup_offset = xorb_lookup_offset + 12 * u64::from(totals.xorbs);
+    MDBShardFileFooter {
+        file_info_offset: HEADER_SIZE,
+        xorb_info_offset,
+        file_lookup_offset,
+        file_lookup_num_entry: u64::from(totals.files),
+        xorb_lookup_offset,
+        xorb_lookup_num_entry: u64::from(totals.xorbs),
+        chunk_lookup_offset,
+        chunk_lookup_num_entry: u64::from(chunks),
+        chunk_hash_hmac_key: key,
+        stored_bytes_on_disk: totals.stored_bytes_on_disk,
+        materialized_bytes: totals.materialized_bytes,
+        stored_bytes: totals.stored_bytes,
+        footer_offset: chunk_lookup_offset + 16 * u64::from(chunks),
+        ..MDBShardFileFooter::default()
+    }
+}

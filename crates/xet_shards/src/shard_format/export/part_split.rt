@@ -1,0 +1,68 @@
+//! The bytes of a shard, split into its parts.
+
+ghost use Rattle.std.specs.Prelude.{◌≡◌, ◌⊎◌, IfOk, IfErr, IfSome, slice_range};
+ghost use Rattle.xet_base.specs.Errors.{IsDeviceError, IsShardVersion};
+ghost use Rattle.xet_shards.specs.Export.InARow.{Laid, laid_out, IsPartUnder};
+ghost use Rattle.xet_shards.specs.Steps.InARow.{IsSplit, IsSplitOf};
+ghost use Rattle.xet_base.specs.declared.merklehash.DataHash.{DataHash};
+
+use crate::shard_format::ends::footer::MDBShardFileFooter;
+use crate::shard_format::ends::header::HEADER_SIZE;
+use crate::shard_format::ends::info::MDBShardInfo;
+use std::alloc::Global;
+use xet_base::error::{CoreError, Result};
+use xet_base::source::MemorySource;
+use xet_records::rows::ROW_SIZE;
+
+/// The parts of a shard's bytes: the rows of both sections without their bookends, the three
+/// tables, and the footer.
+#[derive(Clone, Copy, Debug)]
+pub(in crate::shard_format) struct Split<'a> {
+    pub files: &'a [u8],
+    pub xorbs: &'a [u8],
+    pub file_table: &'a [u8],
+    pub xorb_table: &'a [u8],
+    pub chunk_table: &'a [u8],
+    pub footer: MDBShardFileFooter,
+}
+
+// The bytes from one offset up to another, if they are there.
+fn range_of(bytes: &[u8], from: u64, to: u64) -> Option<&[u8]>
+    ensures { IfSome result (λ part. part.now ≡ slice_range bytes.now from to) }
+{
+    if from > to || to > bytes.len() as u64 {
+        return None;
+    }
+    Some(&bytes[from as usize..to as usize])
+}
+
+// The parts between the offsets that the footer names.
+fn parts_at<'a>(bytes: &'a [u8], footer: &MDBShardFileFooter) -> Option<Split<'a>>
+    ensures { IfSome result (IsSplit bytes.now footer.now) }
+{
+    let row_size = ROW_SIZE as u64;
+    let files_end = footer.xorb_info_offset.checked_sub(row_size)?;
+    let xorbs_end = footer.file_lookup_offset.checked_sub(row_size)?;
+    Some(Split {
+        files: range_of(bytes, HEADER_SIZE, files_end)?,
+        xorbs: range_of(bytes, footer.xorb_info_offset, xorbs_end)?,
+        file_table: range_of(bytes, footer.file_lookup_offset, footer.xorb_lookup_offset)?,
+        xorb_table: range_of(bytes, footer.xorb_lookup_offset, footer.chunk_lookup_offset)?,
+        chunk_table: range_of(bytes, footer.chunk_lookup_offset, footer.footer_offset)?,
+        footer: *footer,
+    })
+}
+
+/// The parts of a shard's bytes. `ShardVersion` or `UnexpectedEof` if header or footer are not
+/// those of a shard, `InvalidShard` if the offsets are not in order.
+pub(in crate::shard_format) fn split_shard(alloc: Global, bytes: &[u8]) -> Result<Split<'_>>
+    ensures { (key : DataHash) → (part : Laid) → IsPartUnder key part
+        → bytes.now ≡ laid_out part → IfOk result (IsSplitOf part) }
+{
+    let mut source = MemorySource::new(bytes);
+    let info = MDBShardInfo::load_from_reader(alloc, &mut source)?;
+    match parts_at(bytes, &info.metadata) {
+        Some(split) => Ok(split),
+        None => Err(CoreError::InvalidShard(String::new(alloc))),
+    }
+}

@@ -1,0 +1,104 @@
+//! Sections of parts, and their tables, written one after another.
+
+ghost use Rattle.std.specs.Prelude.{◌≡◌, ◌+◌, ◌⊎◌, ℕ, List, All, OnOk, IfOk, IfErr, map, flat_map};
+ghost use Rattle.std.specs.Io.KnownBytes.{Appends};
+ghost use Rattle.xet_base.specs.Errors.{IsWriteError};
+ghost use Rattle.xet_shards.specs.Export.InARow.{IsBadPart};
+ghost use Rattle.xet_shards.specs.Read.TableReading.{FitsStart};
+ghost use Rattle.xet_shards.specs.Steps.InARow.{HoldSections, all_of};
+ghost use Rattle.xet_shards.specs.Write.Ranges.{start_later};
+ghost use Rattle.xet_shards.specs.Write.Tables.{start_row, table_bytes};
+
+use std::alloc::Global;
+use std::io::Write;
+use xet_base::error::{CoreError, Result};
+use xet_base::fields::{put_u32, put_u64, split_u32, split_u64};
+use xet_base::serialization_utils::write_bytes;
+use xet_records::record_reader::SectionRecord;
+
+/// The rows of a section without its bookend, their number, and the table of its records.
+#[derive(Clone, Copy, Debug)]
+pub(in crate::shard_format) struct SectionPart<'a> {
+    pub rows: &'a [u8],
+    pub count: u32,
+    pub table: &'a [u8],
+}
+
+/// Writes the rows of all parts. The error is the writer's.
+pub(in crate::shard_format) fn write_rows<W: Write>(
+    writer: &mut W,
+    sections: &[SectionPart<'_>],
+) -> Result<()>
+    ensures bytes { OnOk result
+        (Appends (W.contents writer.old) (W.contents writer.new)
+        (flat_map (λ s. s.rows.now) sections.now)) }
+    ensures causes { IfErr result IsWriteError }
+{
+    for section in sections {
+        write_bytes(writer, section.rows)?;
+    }
+    Ok(())
+}
+
+/// Writes the table of the records of all parts. `InvalidShard` if a row number passes `u32`; else
+/// the error is the writer's.
+pub(in crate::shard_format) fn write_tables<R: SectionRecord, W: Write>(
+    alloc: Global,
+    writer: &mut W,
+    sections: &[SectionPart<'_>],
+) -> Result<()>
+    ensures bytes { (records : List (List R)) → HoldSections R.kind sections.now records
+        → OnOk result
+        (Appends (W.contents writer.old) (W.contents writer.new)
+        (table_bytes R.kind (all_of records))) }
+    ensures causes { IfErr result IsBadPart }
+{
+    let mut first = 0;
+    for section in sections {
+        write_later(alloc, writer, section.table, first)?;
+        first = later(alloc, first, section.count)?;
+    }
+    Ok(())
+}
+
+// The sum, or `InvalidShard` if it passes `u32`.
+pub(in crate::shard_format) fn later(alloc: Global, first: u32, count: u32) -> Result<u32>
+    ensures sum { IfOk result (λ n. n ≡ first + count) }
+    ensures causes { IfErr result IsBadPart }
+{
+    match first.checked_add(count) {
+        Some(sum) => Ok(sum),
+        None => Err(CoreError::InvalidShard(String::new(alloc))),
+    }
+}
+
+// Writes the rows of a table, each row number so many later.
+fn write_later<W: Write>(alloc: Global, writer: &mut W, table: &[u8], first: u32) -> Result<()>
+    ensures bytes { (rows : List (ℕ × ℕ)) → table.now ≡ flat_map start_row rows → All FitsStart rows
+        → OnOk result
+        (Appends (W.contents writer.old) (W.contents writer.new)
+        (flat_map start_row (map (start_later first) rows))) }
+    ensures causes { IfErr result IsBadPart }
+{
+    let mut rest = table;
+    while rest.len() >= 12 {
+        let (word, after) = split_u64(rest);
+        let (row, after) = split_u32(after);
+        write_start(writer, word, later(alloc, row, first)?)?;
+        rest = after;
+    }
+    Ok(())
+}
+
+// Writes a row of a table.
+fn write_start<W: Write>(writer: &mut W, word: u64, row: u32) -> Result<()>
+    ensures bytes { OnOk result
+        (Appends (W.contents writer.old) (W.contents writer.new) (start_row (word, row))) }
+    ensures causes { IfErr result IsWriteError }
+{
+    let mut bytes = [0u8; 12];
+    let at = put_u64(&mut bytes, 0, word);
+    put_u32(&mut bytes, at, row);
+    write_bytes(writer, &bytes)?;
+    Ok(())
+}
