@@ -6,6 +6,7 @@ pub mod Lists
 pub mod RecordPairs
 pub mod Ranges
 pub mod Parts
+pub mod Within
 pub mod RecordsAsRead
 pub mod SmallerShards
 pub mod ByteUnions

@@ -1,12 +1,14 @@
 -- Trees of unions.
 
 pub mod MergeTrees
+pub mod RangeTrees
 pub mod MappedJoins
 pub mod TreeXorbs
 pub mod TreesOfExports
 pub mod Parts
 pub mod PlacedMixes
 pub mod PlacedShards
+pub mod PlacedRanges
 pub mod PlacedUnions
 pub mod PlacedWriting
 pub mod Placing

@@ -1,6 +1,7 @@
 -- Trees of unions.
 
 pub mod MergeTrees
+pub mod RangeTrees
 pub mod ExportTrees
 pub mod Parts
 pub mod Filling

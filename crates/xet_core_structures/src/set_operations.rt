@@ -10,6 +10,7 @@ ghost use Rattle.xet_core_structures.specs.TwoShards.Streams.{streams};
 ghost use Rattle.xet_core_structures.specs.Trees.MergeTrees.{TreeWrites, TreeRefusal, IsMerge, MergeRefused};
 
 mod agreement;
+mod ranges;
 mod table_order;
 mod trees;
 mod two_shards;
@@ -19,6 +20,7 @@ pub use agreement::{
     find_malformed, merge_agreeing,
 };
 use bumpalo::Bump;
+pub use ranges::{HashRange, merge_range, merge_range_into};
 use std::alloc::Global;
 use std::io::Write;
 use trees::parts::{fill_with_part, part_bytes, place_tree};

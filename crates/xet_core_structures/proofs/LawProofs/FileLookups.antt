@@ -100,7 +100,7 @@ module _ (x : List ℕ) (i : MDBShardInfo) (y : List ℕ) (j : MDBShardInfo) (ol
   difference_in_form = with_options IsDifference (difference_readable x i y j)
 
 -- what is written of a readable shard under the key of an input
-under_key_of : (x : List ℕ) (i : MDBShardInfo) (c : Shard) → HasHeaderAndFooter x i → IsReadable c → IsBytesUnderKey (key_of i) c (keyed_layout c (key_of i)) (keyed_info c (key_of i))
+pub under_key_of : (x : List ℕ) (i : MDBShardInfo) (c : Shard) → HasHeaderAndFooter x i → IsReadable c → IsBytesUnderKey (key_of i) c (keyed_layout c (key_of i)) (keyed_info c (key_of i))
 under_key_of x i c x_ends readable =
     written_under (key_of i) c readable
     (fits_in_form (values c.files) (values c.xorbs) (keyed_options (key_of i)) readable.files.fits readable.xorbs.fits x_ends.footer_widths.key (omega arith) (omega arith))

@@ -178,19 +178,19 @@ module _ (s : Shard) (options : LayoutOptions) (shard : IsShard s) (fits : FitsO
       (fits_in_form (values s.files) (values s.xorbs) options (files_fit s shard) (xorbs_fit s shard) fits.key fits.creation fits.expiry)
 
   -- the bytes of a shard with layout options hold it, under the options' key
-  held_in_form : FitsSection (file_records_in options.version) (values s.files) → HoldsShard options.key s (layout_in s options)
+  pub held_in_form : FitsSection (file_records_in options.version) (values s.files) → HoldsShard options.key s (layout_in s options)
   held_in_form files = record { shard = shard; has = record { info = info_in s options; ends = ends_in_form; holds = holds_in_form s options shard files }; under = refl }
 
 module _ (key : DataHash) (s : Shard) (bytes : List ℕ) (held : HoldsShard key s bytes) where
   -- they have no other header and footer
-  info_found : (i : MDBShardInfo) → HasHeaderAndFooter bytes i → i ≡ held.has.info
+  pub info_found : (i : MDBShardInfo) → HasHeaderAndFooter bytes i → i ≡ held.has.info
   info_found i ends = only_info bytes i held.has.info ends held.has.ends
 
-  loads_well : (e : CoreError) → ¬ LoadRefusal bytes e
+  pub loads_well : (e : CoreError) → ¬ LoadRefusal bytes e
   loads_well e (inl (is, unsupported)) = not_unsupported bytes held.has.info held.has.ends unsupported
   loads_well e (inr (is, short)) = not_too_short bytes held.has.info held.has.ends short
 
-  fits_key : IsHash key
+  pub fits_key : IsHash key
   fits_key = subst IsHash held.under held.has.ends.footer_widths.key
 
 -- the union of bytes that hold two shards that agree, under one key

@@ -37,24 +37,24 @@ module _ (inputs : List (List ℕ)) (key : DataHash) where
 
   -- what holds at both sides of a union
   module _ (xs ys : List Shard) (c : Shard) (agree : AgreePairwise (Contains (xs ++ ys))) (join : IsJoinOf (Contains (xs ++ ys)) c) where
-    agree_l : AgreePairwise (Contains xs)
+    pub agree_l : AgreePairwise (Contains xs)
     agree_l = agree_left xs ys agree
 
-    agree_r : AgreePairwise (Contains ys)
+    pub agree_r : AgreePairwise (Contains ys)
     agree_r = agree_right xs ys agree
 
-    few_left : (a : Shard) → IsJoinOf (Contains xs) a → RowsFitU32 c → RowsFitU32 a
+    pub few_left : (a : Shard) → IsJoinOf (Contains xs) a → RowsFitU32 c → RowsFitU32 a
     few_left a one = fewer_if_more (Contains xs) (Contains (xs ++ ys)) a c one join (λ s. Contains-append_left xs ys s)
 
-    few_right : (a : Shard) → IsJoinOf (Contains ys) a → RowsFitU32 c → RowsFitU32 a
+    pub few_right : (a : Shard) → IsJoinOf (Contains ys) a → RowsFitU32 c → RowsFitU32 a
     few_right a one = fewer_if_more (Contains ys) (Contains (xs ++ ys)) a c one join (λ s. Contains-append_right xs ys s)
 
     -- the union of what both sides write
-    both_written : (a b : Shard) (x y out : List ℕ) → IsJoinOf (Contains xs) a → IsJoinOf (Contains ys) b → HoldsShard key a x → HoldsShard key b y → UnitesBytes x y out
+    pub both_written : (a b : Shard) (x y out : List ℕ) → IsJoinOf (Contains xs) a → IsJoinOf (Contains ys) b → HoldsShard key a x → HoldsShard key b y → UnitesBytes x y out
         → (out ≡ keyed_layout c key) × HoldsShard key c out
     both_written a b x y out one other first second unites = held_union a b c key x y first second (lists_agree xs ys a b one other agree) (union-of_joins xs ys a b one other agree c join) out unites
 
-    both_refused : (a b : Shard) (x y : List ℕ) (err : CoreError) → IsJoinOf (Contains xs) a → IsJoinOf (Contains ys) b → HoldsShard key a x → HoldsShard key b y → BytesRefusal x y err
+    pub both_refused : (a b : Shard) (x y : List ℕ) (err : CoreError) → IsJoinOf (Contains xs) a → IsJoinOf (Contains ys) b → HoldsShard key a x → HoldsShard key b y → BytesRefusal x y err
         → MergeRefused c err
     both_refused a b x y err one other first second refusal =
         refused_union a b c key x y first second (lists_agree xs ys a b one other agree) (union-of_joins xs ys a b one other agree c join) err refusal

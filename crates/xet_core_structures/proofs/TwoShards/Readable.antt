@@ -75,7 +75,7 @@ module _ {H R : Type 0} (K : RecordKind H R) where
   -- the records of a section are such
   module _ (laws : KindLaws K) (twice : (r : R) → K.as_read (K.as_read r) ≡ K.as_read r)
       (bytes : List ℕ) (m : FinMap hash_cmp R) (is : IsSectionOf K bytes m) where
-    section_readable : (q : DataHash) (r : R) → get m q ≡ Some r → IsReadableAs q r
+    pub section_readable : (q : DataHash) (r : R) → get m q ≡ Some r → IsReadableAs q r
     section_readable q r at =
         let all_stored = all_handed K laws is.stored (values m) is.section.records.are_stored is.returned in
         let all_unchanged = subst (All (λ s. K.as_read s ≡ s)) is.returned (All-map (λ s. K.as_read s ≡ s) K.as_read is.stored (λ k s below. twice (get_or is.stored k s))) in
@@ -85,7 +85,7 @@ module _ {H R : Type 0} (K : RecordKind H R) where
           unchanged = each_value (λ s. K.as_read s ≡ s) m all_unchanged q r at;
         }
 
-  readable_if_each : (m : FinMap hash_cmp R) → ((q : DataHash) (r : R) → get m q ≡ Some r → IsReadableAs q r) → total_rows K (values m) ≤ 4294967295 → AreReadable K m
+  pub readable_if_each : (m : FinMap hash_cmp R) → ((q : DataHash) (r : R) → get m q ≡ Some r → IsReadableAs q r) → total_rows K (values m) ≤ 4294967295 → AreReadable K m
   readable_if_each m each rows = record {
     keyed = all_of_map hash_cmp-IsTotalOrder hash_cmp-IsAntisymmetric (λ e. e.0 ≡ hash_in K e.1) m (λ q r at. (each q r at).keyed);
     fits = record {
@@ -109,7 +109,7 @@ xorb_readable q None p c t first second is at = second t (sym is ∙ at)
 xorb_readable q (Some a) p c t first second is at = first t (sym is ∙ at)
 
 -- a record of a version is one of the kind
-readable_ever : {H R : Type 0} (K : RecordKind H R) (version : FormatVersion) (q : DataHash) (r : R) → IsReadableAs (in_version K version) q r → IsReadableAs K q r
+pub readable_ever : {H R : Type 0} (K : RecordKind H R) (version : FormatVersion) (q : DataHash) (r : R) → IsReadableAs (in_version K version) q r → IsReadableAs K q r
 readable_ever K version q r is = record { keyed = is.keyed; stored = stored_ever K version r is.stored; unchanged = is.unchanged }
 
 -- a mix of two files has rows of either

@@ -1,9 +1,14 @@
 -- Shards with the records of others whose hashes pass a test, as that of being within a range.
-use Rattle.std.specs.Prelude.{◌≡◌, Bool, Option, None, if◌then◌else◌}
+use Rattle.std.specs.Prelude.{◌≡◌, Bool, true, not, ◌&&◌, List, Option, None, Some, if◌then◌else◌}
 use Rattle.std.specs.FinMap.{FinMap, get}
+use Rattle.std.specs.List.{filter}
+use Rattle.std.specs.Ordering.{is_lt}
 use Rattle.xet_base.specs.declared.merklehash.DataHash.{DataHash}
 use Rattle.xet_base.specs.Hash.{hash_cmp}
+use Rattle.xet_records.specs.RecordKind.{RecordKind}
 use Rattle.xet_shards.specs.Content.Shard.{Shard}
+use Rattle.xet_core_structures.specs.declared.set_operations.ranges.HashRange.{HashRange}
+use Rattle.xet_core_structures.specs.Records.RecordPairs.{key_of_record}
 
 -- a map has the values of another under the hashes that pass a test
 abbrev pub KeepsThose : {X : Type 0} → (DataHash → Bool) → FinMap hash_cmp X → FinMap hash_cmp X → Type 0
@@ -13,3 +18,21 @@ KeepsThose passes whole part = (q : DataHash) → get part q ≡ (if passes q th
 pub record IsPartOf (passes : DataHash → Bool) (whole part : Shard) : Type 0 where
   pub files : KeepsThose passes whole.files part.files
   pub xorbs : KeepsThose passes whole.xorbs part.xorbs
+
+-- whether a hash is not below another, if there is one
+abbrev pub is_from : Option DataHash → DataHash → Bool
+is_from None q = true
+is_from (Some k) q = not (is_lt (hash_cmp q k))
+
+-- whether a hash is below another, if there is one
+abbrev pub is_before : Option DataHash → DataHash → Bool
+is_before None q = true
+is_before (Some k) q = is_lt (hash_cmp q k)
+
+-- whether a hash is within a range
+abbrev pub is_within : HashRange → DataHash → Bool
+is_within range q = is_from range.from q && is_before range.to q
+
+-- the records of a list whose hashes pass a test
+abbrev pub those_records : {H R : Type 0} → RecordKind H R → (DataHash → Bool) → List R → List R
+those_records K passes rs = filter (λ r. passes (key_of_record K r)) rs

@@ -79,8 +79,8 @@ pub fn place_tree<'a>(
     }
 }
 
-// The union of two parts.
-fn unite_parts<'a>(
+/// The union of two parts.
+pub fn unite_parts<'a>(
     alloc: Global,
     arena: &'a Bump,
     left: Part<'a>,

@@ -1,0 +1,205 @@
+-- A tree of unions over bytes that hold shards that agree pairwise, under one key, writes of a range the layout of the
+-- records of their join that are in it.
+use Rattle.std.proofs.Common.{◌≡◌, ◌⊎◌, inl, inr, ℕ, zero, suc, ◌<◌, List, [], ◌∷◌, ◌++◌, length, get_or, map, Bor, Some, Ok, Err, refl, sym, ap, ◌∙◌, subst, arith}
+use Rattle.std.specs.List.{AllZip}
+use Rattle.std.specs.Prelude.{Contains, MatchResult, slice_get}
+use Rattle.std.specs.declared.result.Result.{Result}
+use Rattle.std.specs.declared.vec.Vec.{Vec}
+use Rattle.std.proofs.lemmas.Option.{same_Some, none-some, slice_get_past}
+use Rattle.xet_base.specs.declared.error.CoreError.{CoreError}
+use Rattle.xet_base.specs.declared.error.CoreError.TheVariants.{OutOfMemory}
+use Rattle.xet_base.specs.declared.merklehash.DataHash.{DataHash}
+use Rattle.xet_shards.specs.Content.Joins.{IsJoinOf, AgreePairwise}
+use Rattle.xet_shards.specs.Content.Shard.{Shard, IsShard}
+use Rattle.xet_shards.proofs.Content.Joins.{join-unique, join-one, follows_parts}
+use Rattle.xet_shards.proofs.Content.AgreeingJoins.{joins_exist}
+use Rattle.xet_shards.proofs.Write.Sections.{files_fit}
+use Rattle.xet_core_structures.specs.declared.set_operations.MergePlan.{MergePlan}
+use Rattle.xet_core_structures.specs.declared.set_operations.MergePlan.TheVariants.{Leaf, Both'}
+use Rattle.xet_core_structures.specs.declared.set_operations.trees.parts.Part.{Part}
+use Rattle.xet_core_structures.specs.declared.set_operations.ranges.HashRange.{HashRange}
+use Rattle.xet_core_structures.specs.Steps.Parts.{IsPart}
+use Rattle.xet_core_structures.specs.TwoShards.ByteResults.{keyed_options, keyed_layout, key_of, UnitesBytes, BytesRefusal}
+use Rattle.xet_core_structures.specs.Trees.ExportTrees.{FitsOptions}
+use Rattle.xet_core_structures.specs.Trees.Filling.{FillsWith}
+use Rattle.xet_core_structures.specs.Records.Ranges.{IsPartOf, is_within}
+use Rattle.xet_core_structures.specs.Records.ShardContents.{HoldsShard, IsTruncated, IsMalformed}
+use Rattle.xet_core_structures.specs.Trees.MergeTrees.{leaves, InputIs, MergeRefused}
+use Rattle.xet_core_structures.specs.Trees.Parts.{SectionsRefusal}
+use Rattle.xet_core_structures.specs.Trees.RangeTrees.{IsRangeOf, ReadRefusal, RangeWrites, RangeRefusal, IsRangeMerge, IsHeldLayout}
+use Rattle.xet_core_structures.proofs.Records.ByteUnions.{held_in_form, info_found, loads_well, fits_key}
+use Rattle.xet_core_structures.proofs.Records.ShardContents.{only_shard, held_whole, held_well}
+use Rattle.xet_core_structures.proofs.Records.Within.{part_is_shard, one_part, part_of, part_of_is, part_of-preserves}
+use Rattle.xet_core_structures.proofs.Records.Zipped.{zipped_parts, zipped_with}
+use Rattle.xet_core_structures.proofs.Trees.MappedJoins.{mapped_agree}
+use Rattle.xet_core_structures.proofs.Trees.MergeTrees.{agree_l, agree_r, few_left, few_right, both_written, both_refused}
+
+module _ (range : HashRange) (inputs : List (List ℕ)) (key : DataHash) where
+  -- the bytes hold a shard under the key, and this is its part in the range
+  abbrev HoldsWhole : Shard → List ℕ → Type 0
+  HoldsWhole t x = (s : Shard) × HoldsShard key s x × IsPartOf (is_within range) s t
+
+  -- the inputs at all leaves do
+  abbrev AreWhole : MergePlan → List Shard → Type 0
+  AreWhole plan parts = AllZip (λ i t. InputIs inputs (HoldsWhole t) i) (leaves plan) parts
+
+  abbrev sides_of : (left right : MergePlan) (parts : List Shard) → AllZip (λ i t. InputIs inputs (HoldsWhole t) i) (leaves left ++ leaves right) parts
+      → (xs ys : List Shard) × (xs ++ ys ≡ parts) × AreWhole left xs × AreWhole right ys
+  sides_of left right parts are = zipped_parts (λ i t. InputIs inputs (HoldsWhole t) i) (leaves left) (leaves right) parts are
+
+  -- what is written of one input is the layout of its part, and holds it
+  part_written : (t : Shard) (x out : List ℕ) → HoldsWhole t x → IsRangeOf range x out → HoldsShard key t out × (out ≡ keyed_layout t key)
+  part_written t x out (s, held, part) is =
+      let whole_is : is.whole ≡ s = only_shard x s is.whole held.has is.has in
+      let part_is = one_part (is_within range) s is.part t (subst (λ w. IsPartOf (is_within range) w is.part) whole_is is.is_part) part in
+      let info_is = info_found key s x held is.has.info is.has.ends in
+      let out_is : out ≡ keyed_layout t key = is.bytes_are ∙ (λ k. keyed_layout (part_is k) (key_of (info_is k))) ∙ ap (keyed_layout t) held.under in
+      let shard = part_is_shard (is_within range) s t part held.shard in
+      let fits : FitsOptions (keyed_options key) = record { key = fits_key key s x held; creation = omega arith; expiry = omega arith } in
+      (subst (HoldsShard key t) (sym out_is) (held_in_form t (keyed_options key) shard fits (files_fit t shard)), out_is)
+
+  part_shard : (t : Shard) (x : List ℕ) → HoldsWhole t x → IsShard t
+  part_shard t x (s, held, part) = part_is_shard (is_within range) s t part held.shard
+
+  -- it is read, unless an allocation fails
+  part_read : (t c : Shard) (x : List ℕ) (e : CoreError) → HoldsWhole t x → ReadRefusal x e → MergeRefused c e
+  part_read t c x e (s, held, part) (inl load) = absurd (loads_well key s x held e load)
+  part_read t c x e (s, held, part) (inr (info, ends, inl no_memory)) = inl no_memory
+  part_read t c x e (s, held, part) (inr (info, ends, inr (inl (end, cut)))) =
+      absurd (held_whole x held.has.info s held.has.holds (subst (IsTruncated x) (info_found key s x held info ends) cut))
+  part_read t c x e (s, held, part) (inr (info, ends, inr (inr (invalid, bad)))) =
+      absurd (held_well x held.has.info s held.has.holds (subst (IsMalformed x) (info_found key s x held info ends) bad))
+
+  range_written : (plan : MergePlan) (parts : List Shard) (c : Shard) (out : List ℕ) → AreWhole plan parts → AgreePairwise (Contains parts) → IsJoinOf (Contains parts) c
+      → RangeWrites range inputs plan out → HoldsShard key c out × (out ≡ keyed_layout c key)
+  range_written (Leaf i) [] c out are agree join writes = absurd are
+  range_written (Leaf i) (t ∷ u ∷ us) c out (here, rest) agree join writes = absurd rest
+  range_written (Leaf i) (t ∷ []) c out ((bytes, at, here), rest) agree join (x, x_at, is) =
+      let same = same_Some x bytes (sym x_at ∙ at) in
+      let found = part_written t bytes out here (subst (λ b. IsRangeOf range b out) same is) in
+      let c_is = join-unique (Contains (t ∷ [])) t c (join-one t (follows_parts t (part_shard t bytes here))) join in
+      (subst (λ d. HoldsShard key d out) c_is found.0, found.1 ∙ ap (λ d. keyed_layout d key) c_is)
+  range_written (Both' p left q right) parts c out are agree join (x, y, x_written, y_written, unites) =
+      let sides = sides_of left right parts are in
+      let xs = sides.0 in
+      let ys = sides.1 in
+      let agree = subst (λ ss. AgreePairwise (Contains ss)) (sym sides.2) agree in
+      let join = subst (λ ss. IsJoinOf (Contains ss) c) (sym sides.2) join in
+      let l = joins_exist xs (agree_l inputs key xs ys c agree join) in
+      let r = joins_exist ys (agree_r inputs key xs ys c agree join) in
+      let first = range_written left xs l.0 x sides.3 (agree_l inputs key xs ys c agree join) l.1 x_written in
+      let second = range_written right ys r.0 y sides.4 (agree_r inputs key xs ys c agree join) r.1 y_written in
+      let written = both_written inputs key xs ys c agree join l.0 r.0 x y out l.1 r.1 first.0 second.0 unites in
+      (written.1, written.0)
+
+  range_refused : (plan : MergePlan) (parts : List Shard) (c : Shard) (err : CoreError) → AreWhole plan parts → AgreePairwise (Contains parts) → IsJoinOf (Contains parts) c
+      → RangeRefusal range inputs plan err → MergeRefused c err
+  range_refused (Leaf i) [] c err are agree join refusal = absurd are
+  range_refused (Leaf i) (t ∷ ts) c err ((bytes, at, here), rest) agree join (inl (is, past)) = absurd (none-some bytes (sym (slice_get_past inputs i past) ∙ at))
+  range_refused (Leaf i) (t ∷ ts) c err ((bytes, at, here), rest) agree join (inr (x, x_at, refusal)) =
+      part_read t c bytes err here (subst (λ b. ReadRefusal b err) (same_Some x bytes (sym x_at ∙ at)) refusal)
+  range_refused (Both' p left q right) parts c err are agree join (inl refusal) =
+      let sides = sides_of left right parts are in
+      let xs = sides.0 in
+      let ys = sides.1 in
+      let agree = subst (λ ss. AgreePairwise (Contains ss)) (sym sides.2) agree in
+      let join = subst (λ ss. IsJoinOf (Contains ss) c) (sym sides.2) join in
+      let l = joins_exist xs (agree_l inputs key xs ys c agree join) in
+      elim (range_refused left xs l.0 err sides.3 (agree_l inputs key xs ys c agree join) l.1 refusal) [
+        | inl no_memory ↦ inl no_memory
+        | inr many ↦ inr (many.0, λ few. many.1 (few_left inputs key xs ys c agree join l.0 l.1 few))
+      ]
+  range_refused (Both' p left q right) parts c err are agree join (inr (x, x_written, inl refusal)) =
+      let sides = sides_of left right parts are in
+      let xs = sides.0 in
+      let ys = sides.1 in
+      let agree = subst (λ ss. AgreePairwise (Contains ss)) (sym sides.2) agree in
+      let join = subst (λ ss. IsJoinOf (Contains ss) c) (sym sides.2) join in
+      let r = joins_exist ys (agree_r inputs key xs ys c agree join) in
+      elim (range_refused right ys r.0 err sides.4 (agree_r inputs key xs ys c agree join) r.1 refusal) [
+        | inl no_memory ↦ inl no_memory
+        | inr many ↦ inr (many.0, λ few. many.1 (few_right inputs key xs ys c agree join r.0 r.1 few))
+      ]
+  range_refused (Both' p left q right) parts c err are agree join (inr (x, x_written, inr (y, y_written, refusal))) =
+      let sides = sides_of left right parts are in
+      let xs = sides.0 in
+      let ys = sides.1 in
+      let agree = subst (λ ss. AgreePairwise (Contains ss)) (sym sides.2) agree in
+      let join = subst (λ ss. IsJoinOf (Contains ss) c) (sym sides.2) join in
+      let l = joins_exist xs (agree_l inputs key xs ys c agree join) in
+      let r = joins_exist ys (agree_r inputs key xs ys c agree join) in
+      let first = range_written left xs l.0 x sides.3 (agree_l inputs key xs ys c agree join) l.1 x_written in
+      let second = range_written right ys r.0 y sides.4 (agree_r inputs key xs ys c agree join) r.1 y_written in
+      both_refused inputs key xs ys c agree join l.0 r.0 x y err l.1 r.1 first.0 second.0 refusal
+
+  -- of inputs that hold shards that agree
+  module _ (plan : MergePlan) (shards : List Shard) (join part : Shard) (merge : IsRangeMerge range key inputs plan shards join part) where
+    abbrev cut : Shard → Shard
+    cut = part_of (is_within range)
+
+    are_whole : AreWhole plan (map cut shards)
+    are_whole = zipped_with (λ i s. InputIs inputs (HoldsShard key s) i) (λ i t. InputIs inputs (HoldsWhole t) i) cut IsShard
+        (λ i s shard input. (input.0, input.1, (s, input.2, part_of_is (is_within range) s))) (leaves plan) shards merge.agree.shards merge.inputs_are
+
+    agree : AgreePairwise (Contains (map cut shards))
+    agree = mapped_agree cut (part_of-preserves (is_within range)) shards merge.agree
+
+    is_join : IsJoinOf (Contains (map cut shards)) part
+    is_join = subst (IsJoinOf (Contains (map cut shards))) (one_part (is_within range) join (cut join) part (part_of_is (is_within range) join) merge.is_part)
+        ((part_of-preserves (is_within range)).join shards join merge.is_join)
+
+    one_layout : (out : List ℕ) → RangeWrites range inputs plan out → IsHeldLayout key part out
+    one_layout out writes = let found = range_written plan (map cut shards) part out are_whole agree is_join writes in record { bytes_are = found.1; holds = found.0 }
+
+    one_refusal : (e : CoreError) → RangeRefusal range inputs plan e → MergeRefused part e
+    one_refusal e = range_refused plan (map cut shards) part e are_whole agree is_join
+
+    pub one_string : {Z : Type 0} (result : Result (Vec ℕ Z) CoreError) → MatchResult result (λ bytes. RangeWrites range inputs plan bytes.items) (RangeRefusal range inputs plan)
+        → MatchResult result (λ bytes. IsHeldLayout key part bytes.items) (MergeRefused part)
+    one_string (Ok bytes) writes = one_layout bytes.items writes
+    one_string (Err e) refusal = one_refusal e refusal
+
+    pub one_string_filled : (old new : List ℕ) (result : Result ℕ CoreError) → FillsWith (RangeWrites range inputs plan) (RangeRefusal range inputs plan) old new result
+        → FillsWith (IsHeldLayout key part) (MergeRefused part) old new result
+    one_string_filled old new (Ok size) (bytes, writes, fills) = (bytes, one_layout bytes writes, fills)
+    one_string_filled old new (Err e) (refusal, stays) = (one_refusal e refusal, stays)
+
+-- the bytes that a reference to an input refers to
+pub at_input : (xs : List (Bor (List ℕ))) (i : ℕ) (d : Bor (List ℕ)) → i < length xs → slice_get (map (λ x. x.now) xs) i ≡ Some (get_or xs i d).now
+at_input [] i d low = absurd (omega (arith, low))
+at_input (x ∷ xs) zero d low = refl
+at_input (x ∷ xs) (suc i) d low = at_input xs i d (omega (arith, low))
+
+module _ (range : HashRange) (inputs : List (List ℕ)) where
+  -- an input gives a part, or is refused
+  pub leaf_part : (i : ℕ) (x : List ℕ) (r : Result Part CoreError) → slice_get inputs i ≡ Some x → MatchResult r (λ part. (out : List ℕ) × IsRangeOf range x out × IsPart out part) (ReadRefusal x)
+      → MatchResult r (λ part. (bytes : List ℕ) × RangeWrites range inputs (Leaf i) bytes × IsPart bytes part) (RangeRefusal range inputs (Leaf i))
+  leaf_part i x (Ok part) at (out, is, of_part) = (out, (x, at, is), of_part)
+  leaf_part i x (Err e) at refusal = inr (x, at, refusal)
+
+  -- both sides of a tree give a part, and so does their union, or it is refused
+  pub both_parts : (left right : MergePlan) (x y : List ℕ) (r : Result Part CoreError) → RangeWrites range inputs left x → RangeWrites range inputs right y
+      → MatchResult r (λ part. (bytes : List ℕ) × UnitesBytes x y bytes × IsPart bytes part) (BytesRefusal x y)
+      → MatchResult r
+      (λ part. (bytes : List ℕ) × ((x y : List ℕ) × RangeWrites range inputs left x × RangeWrites range inputs right y × UnitesBytes x y bytes) × IsPart bytes part)
+      (λ e. RangeRefusal range inputs left e
+      ⊎ ((x : List ℕ) × RangeWrites range inputs left x × (RangeRefusal range inputs right e ⊎ ((y : List ℕ) × RangeWrites range inputs right y × BytesRefusal x y e))))
+  both_parts left right x y (Ok part) x_written y_written (bytes, unites, is) = (bytes, (x, y, x_written, y_written, unites), is)
+  both_parts left right x y (Err e) x_written y_written refusal = inr (x, x_written, inr (y, y_written, refusal))
+
+  -- an allocation may fail after a tree is done
+  no_memory_after : (plan : MergePlan) (bytes : List ℕ) → RangeWrites range inputs plan bytes → RangeRefusal range inputs plan OutOfMemory
+  no_memory_after (Leaf i) bytes (x, at, is) = inr (x, at, inr (is.has.info, is.has.ends, inl refl))
+  no_memory_after (Both' p left q right) bytes (x, y, x_written, y_written, (i, j, c, x_ends, y_ends, have, is)) =
+      inr (x, x_written, inr (y, y_written, inr (inr (i, j, x_ends, y_ends, inr (have.same_key, inl (inl refl))))))
+
+  pub written : {Z : Type 0} (plan : MergePlan) (bytes : List ℕ) (r : Result (Vec ℕ Z) CoreError) → RangeWrites range inputs plan bytes → MatchResult r (λ written. written.items ≡ bytes) (λ e. e ≡ OutOfMemory)
+      → MatchResult r (λ written. RangeWrites range inputs plan written.items) (RangeRefusal range inputs plan)
+  written plan bytes (Ok made) writes is = subst (RangeWrites range inputs plan) (sym is) writes
+  written plan bytes (Err e) writes is = subst (RangeRefusal range inputs plan) (sym is) (no_memory_after plan bytes writes)
+
+  -- the same of bytes that are put into a slice
+  pub filled : (plan : MergePlan) (bytes old new : List ℕ) (r : Result ℕ CoreError) → RangeWrites range inputs plan bytes → FillsWith (λ made. made ≡ bytes) (λ e. e ≡ OutOfMemory) old new r
+      → FillsWith (RangeWrites range inputs plan) (RangeRefusal range inputs plan) old new r
+  filled plan bytes old new (Ok size) writes (made, same, fills) = (made, subst (RangeWrites range inputs plan) (sym same) writes, fills)
+  filled plan bytes old new (Err e) writes (is, stays) = (subst (RangeRefusal range inputs plan) (sym is) (no_memory_after plan bytes writes), stays)

@@ -1,0 +1,66 @@
+-- Trees of unions of which only the records in a range of hashes are written.
+use Rattle.std.specs.Prelude.{◌≡◌, ◌⊎◌, ℕ, ◌≤◌, List, length, Contains}
+use Rattle.std.specs.List.{AllZip}
+use Rattle.xet_base.specs.declared.error.CoreError.{CoreError}
+use Rattle.xet_base.specs.declared.error.CoreError.TheVariants.{InvalidArguments}
+use Rattle.xet_base.specs.declared.merklehash.DataHash.{DataHash}
+use Rattle.xet_shards.specs.declared.shard_format.ends.info.MDBShardInfo.{MDBShardInfo}
+use Rattle.xet_shards.specs.Ends.Ends.{HasHeaderAndFooter}
+use Rattle.xet_shards.specs.Content.Joins.{IsJoinOf, AgreePairwise}
+use Rattle.xet_shards.specs.Content.Shard.{Shard}
+use Rattle.xet_core_structures.specs.declared.set_operations.MergePlan.{MergePlan}
+use Rattle.xet_core_structures.specs.declared.set_operations.MergePlan.TheVariants.{Leaf, Both'}
+use Rattle.xet_core_structures.specs.declared.set_operations.ranges.HashRange.{HashRange}
+use Rattle.xet_core_structures.specs.Records.Ranges.{IsPartOf, is_within}
+use Rattle.xet_core_structures.specs.Records.ShardContents.{HasShard, HoldsShard}
+use Rattle.xet_core_structures.specs.TwoShards.ByteResults.{keyed_layout, key_of, UnitesBytes, LoadRefusal, BytesRefusal}
+use Rattle.xet_core_structures.specs.Trees.MergeTrees.{leaves, InputIs}
+use Rattle.xet_core_structures.specs.Trees.Parts.{SectionsRefusal}
+
+-- bytes hold a shard, and others are the layout, under their key, of its records in a range
+pub record IsRangeOf (range : HashRange) (x out : List ℕ) : Type 0 where
+  -- the shard that the bytes hold
+  pub whole : Shard
+  -- its records in the range
+  pub part : Shard
+  pub has : HasShard whole x
+  pub is_part : IsPartOf (is_within range) whole part
+  pub bytes_are : out ≡ keyed_layout part (key_of has.info)
+  pub holds : HasShard part out
+
+-- why the records of bytes are not read: the ends are not, or they are and the sections are not
+abbrev pub ReadRefusal : List ℕ → CoreError → Type 0
+ReadRefusal x e = LoadRefusal x e ⊎ ((info : MDBShardInfo) × HasHeaderAndFooter x info × SectionsRefusal x info e)
+
+-- what a tree writes of a range: at a leaf the layout of the input's records in it, else the union
+-- of what both sides write
+abbrev pub RangeWrites : HashRange → List (List ℕ) → MergePlan → List ℕ → Type 0
+RangeWrites range inputs (Leaf i) out = InputIs inputs (λ x. IsRangeOf range x out) i
+RangeWrites range inputs (Both' p left q right) out =
+    (x y : List ℕ) × RangeWrites range inputs left x × RangeWrites range inputs right y × UnitesBytes x y out
+
+-- why a tree writes nothing of a range: a leaf has no input, or one whose records are not read;
+-- else the left side writes nothing, or it does and the right side writes nothing, or both do and
+-- there is no union of what they write
+abbrev pub RangeRefusal : HashRange → List (List ℕ) → MergePlan → CoreError → Type 0
+RangeRefusal range inputs (Leaf i) e =
+    ((e ≡ InvalidArguments) × (length inputs ≤ i)) ⊎ InputIs inputs (λ x. ReadRefusal x e) i
+RangeRefusal range inputs (Both' p left q right) e =
+    RangeRefusal range inputs left e
+    ⊎ ((x : List ℕ) × RangeWrites range inputs left x
+    × (RangeRefusal range inputs right e
+    ⊎ ((y : List ℕ) × RangeWrites range inputs right y × BytesRefusal x y e)))
+
+-- the inputs at the leaves of a tree hold these well-formed shards under one key, from left to
+-- right; each two of the shards agree, this is their join, and this has its records in a range
+pub record IsRangeMerge (range : HashRange) (key : DataHash) (inputs : List (List ℕ)) (plan : MergePlan)
+    (shards : List Shard) (join part : Shard) : Type 0 where
+  pub inputs_are : AllZip (λ i s. InputIs inputs (HoldsShard key s) i) (leaves plan) shards
+  pub agree : AgreePairwise (Contains shards)
+  pub is_join : IsJoinOf (Contains shards) join
+  pub is_part : IsPartOf (is_within range) join part
+
+-- the bytes of a shard under a key, which hold it
+pub record IsHeldLayout (key : DataHash) (s : Shard) (bytes : List ℕ) : Type 0 where
+  pub bytes_are : bytes ≡ keyed_layout s key
+  pub holds : HoldsShard key s bytes

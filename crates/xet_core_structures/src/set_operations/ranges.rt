@@ -1,0 +1,214 @@
+//! The records of a tree of unions whose hashes are in a range. So a merge may be made range by
+//! range, each in the memory that its own records need, by as many threads or machines as there are
+//! ranges.
+
+ghost use Rattle.std.specs.Prelude.{◌≡◌, List, ℕ, map, MatchResult};
+ghost use Rattle.xet_base.specs.declared.error.CoreError.TheVariants.{OutOfMemory};
+ghost use Rattle.xet_base.specs.declared.merklehash.DataHash.{DataHash};
+ghost use Rattle.xet_shards.specs.Content.Shard.{Shard};
+ghost use Rattle.xet_core_structures.specs.Records.Ranges.{is_from, is_before, is_within, those_records};
+ghost use Rattle.xet_core_structures.specs.Steps.Parts.{IsPart};
+ghost use Rattle.xet_core_structures.specs.Steps.Placed.{PlacesAll};
+ghost use Rattle.xet_core_structures.specs.Trees.Filling.{FillsWith};
+ghost use Rattle.xet_core_structures.specs.Trees.MergeTrees.{MergeRefused};
+ghost use Rattle.xet_core_structures.specs.Trees.RangeTrees.{IsRangeOf, ReadRefusal, RangeWrites, RangeRefusal, IsRangeMerge, IsHeldLayout};
+
+use super::MergePlan;
+use super::trees::parts::{
+    Part, PlacedShard, fill_with_part, part_bytes, place_shard, unite_parts,
+};
+use super::trees::placed::{PlacedRecord, copied};
+use bumpalo::Bump;
+use std::alloc::Global;
+use std::cmp::Ordering;
+use xet_base::error::{CoreError, Result};
+use xet_base::merklehash::MerkleHash;
+use xet_base::source::MemorySource;
+use xet_records::file_structs::MDBFileInfo;
+use xet_records::record_reader::SectionRecord;
+use xet_records::xorb_structs::MDBXorbInfo;
+use xet_shards::shard_format::MDBShardInfo;
+
+/// A range of hashes: those that are not below the first, if there is one, and are below the
+/// second, if there is one.
+#[derive(Clone, Copy, Debug, PartialEq, Eq)]
+pub struct HashRange {
+    pub from: Option<MerkleHash>,
+    pub to: Option<MerkleHash>,
+}
+
+impl HashRange {
+    /// Whether a hash is in the range.
+    pub fn contains(&self, hash: &MerkleHash) -> bool
+        ensures { result ≡ is_within self.now hash.now }
+    {
+        is_from(&self.from, hash) && is_before(&self.to, hash)
+    }
+}
+
+// Whether a hash is not below another, if there is one.
+fn is_from(from: &Option<MerkleHash>, hash: &MerkleHash) -> bool
+    ensures { result ≡ is_from from.now hash.now }
+{
+    match from {
+        Some(first) => hash.cmp(first) != Ordering::Less,
+        None => true,
+    }
+}
+
+// Whether a hash is below another, if there is one.
+fn is_before(to: &Option<MerkleHash>, hash: &MerkleHash) -> bool
+    ensures { result ≡ is_before to.now hash.now }
+{
+    match to {
+        Some(end) => hash.cmp(end) == Ordering::Less,
+        None => true,
+    }
+}
+
+/// Unites the records of the inputs at the leaves of a tree whose hashes are in a range, files and
+/// xorbs each by their own hash, as [`shard_union_tree`](super::shard_union_tree) unites them all.
+/// Each input is read whole, and what is held of it are the places of its records in the range. A
+/// tree of one leaf writes the records of its input anew.
+///
+/// So inputs that agree, all under one key, give the records of their join that are in the range,
+/// and of ranges that follow one another each record of the join in one. What is given holds a
+/// shard under this key, and may be merged again.
+///
+/// The error is that of the first leaf or union that fails, left sides first: `InvalidArguments` if
+/// a leaf has no input; `ShardVersion` or `UnexpectedEof` if the header or the footer of an input is
+/// unsupported or truncated, or an error of `shard_set_union`, but that of records outside of the
+/// range no union is asked for. `OutOfMemory` if an allocation fails.
+pub fn merge_range(
+    alloc: Global,
+    plan: &MergePlan,
+    inputs: &[&[u8]],
+    range: &HashRange,
+) -> Result<Vec<u8>>
+    ensures any_bytes { MatchResult result
+        (λ bytes. RangeWrites range.now (map (λ x. x.now) inputs.now) plan.now bytes.items)
+        (RangeRefusal range.now (map (λ x. x.now) inputs.now) plan.now) }
+    ensures one_byte_string { (key : DataHash) → (shards : List Shard) → (join part : Shard)
+        → IsRangeMerge range.now key (map (λ x. x.now) inputs.now) plan.now shards join part
+        → MatchResult result (λ bytes. IsHeldLayout key part bytes.items) (MergeRefused part) }
+{
+    merge(alloc, plan, inputs, range)
+}
+
+/// Writes the bytes that [`merge_range`] makes to the front of a slice, if they fit, and returns
+/// their number. If they don't, or if the call fails, the slice stays as it is. The errors are the
+/// same.
+pub fn merge_range_into(
+    alloc: Global,
+    plan: &MergePlan,
+    inputs: &[&[u8]],
+    range: &HashRange,
+    out: &mut [u8],
+) -> Result<usize>
+    ensures any_bytes { FillsWith (RangeWrites range.now (map (λ x. x.now) inputs.now) plan.now)
+        (RangeRefusal range.now (map (λ x. x.now) inputs.now) plan.now) out.old out.new result }
+    ensures one_byte_string { (key : DataHash) → (shards : List Shard) → (join part : Shard)
+        → IsRangeMerge range.now key (map (λ x. x.now) inputs.now) plan.now shards join part
+        → FillsWith (IsHeldLayout key part) (MergeRefused part) out.old out.new result }
+{
+    merge_into(alloc, plan, inputs, range, out)
+}
+
+// The same, without the clause on inputs that agree.
+fn merge<'a>(
+    alloc: Global,
+    plan: &MergePlan,
+    inputs: &'a [&'a [u8]],
+    range: &HashRange,
+) -> Result<Vec<u8>>
+    ensures { MatchResult result
+        (λ bytes. RangeWrites range.now (map (λ x. x.now) inputs.now) plan.now bytes.items)
+        (RangeRefusal range.now (map (λ x. x.now) inputs.now) plan.now) }
+{
+    let arena = Bump::new(alloc);
+    let part = place_range(alloc, &arena, plan, inputs, *range)?;
+    part_bytes(alloc, inputs, part)
+}
+
+// The same to a slice.
+fn merge_into<'a>(
+    alloc: Global,
+    plan: &MergePlan,
+    inputs: &'a [&'a [u8]],
+    range: &HashRange,
+    out: &mut [u8],
+) -> Result<usize>
+    ensures { FillsWith (RangeWrites range.now (map (λ x. x.now) inputs.now) plan.now)
+        (RangeRefusal range.now (map (λ x. x.now) inputs.now) plan.now) out.old out.new result }
+{
+    let arena = Bump::new(alloc);
+    let part = place_range(alloc, &arena, plan, inputs, *range)?;
+    fill_with_part(alloc, inputs, part, out)
+}
+
+// What a tree gives of a range. Records that are in no input are placed in the arena.
+fn place_range<'a>(
+    alloc: Global,
+    arena: &'a Bump,
+    plan: &MergePlan,
+    inputs: &[&'a [u8]],
+    range: HashRange,
+) -> Result<Part<'a>>
+    ensures { MatchResult result
+        (λ part. (bytes : List ℕ)
+        × RangeWrites range (map (λ x. x.now) inputs.now) plan.now bytes × IsPart bytes part)
+        (RangeRefusal range (map (λ x. x.now) inputs.now) plan.now) }
+{
+    match plan {
+        MergePlan::Leaf(index) => {
+            if *index >= inputs.len() {
+                return Err(CoreError::InvalidArguments);
+            }
+            place_within(alloc, inputs[*index], range)
+        }
+        MergePlan::Both(left, right) => {
+            let one = place_range(alloc, arena, left, inputs, range)?;
+            let other = place_range(alloc, arena, right, inputs, range)?;
+            unite_parts(alloc, arena, one, other)
+        }
+    }
+}
+
+// The records of an input in a range, as a shard of its own.
+fn place_within<'a>(alloc: Global, bytes: &'a [u8], range: HashRange) -> Result<Part<'a>>
+    ensures { MatchResult result
+        (λ part. (out : List ℕ) × IsRangeOf range bytes.now out × IsPart out part)
+        (ReadRefusal bytes.now) }
+{
+    let mut source = MemorySource::new(bytes);
+    let info = MDBShardInfo::load_from_reader(alloc, &mut source)?;
+    let shard = place_shard(alloc, bytes, &info)?;
+    let files = records_within::<MDBFileInfo>(alloc, shard.files.as_slice(), range)?;
+    let xorbs = records_within::<MDBXorbInfo>(alloc, shard.xorbs.as_slice(), range)?;
+    Ok(Part::United(PlacedShard {
+        key: shard.key,
+        files,
+        xorbs,
+    }))
+}
+
+// The records of a list in a range.
+fn records_within<'a, R: SectionRecord>(
+    alloc: Global,
+    placed: &[PlacedRecord<'a, R::Header>],
+    range: HashRange,
+) -> Result<Vec<PlacedRecord<'a, R::Header>>>
+    ensures { MatchResult result
+        (λ kept. (rs : List R) → PlacesAll R.kind placed.now rs
+        → PlacesAll R.kind kept.items (those_records R.kind (is_within range) rs))
+        (λ e. e ≡ OutOfMemory) }
+{
+    R::laws();
+    let mut kept = Vec::new(alloc);
+    for record in placed {
+        if range.contains(&R::hash(&record.header)) {
+            kept.push(copied(record))?;
+        }
+    }
+    Ok(kept)
+}
