@@ -2,6 +2,7 @@
 
 pub mod ByteLaws
 pub mod UnionSizes
+pub mod RangeSizes
 pub mod ExportTrees
 pub mod FileLookups
 pub mod MinimalAgain

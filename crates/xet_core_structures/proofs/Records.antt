@@ -7,6 +7,7 @@ pub mod RecordPairs
 pub mod Ranges
 pub mod Parts
 pub mod Within
+pub mod RangesInARow
 pub mod RecordsAsRead
 pub mod SmallerShards
 pub mod ByteUnions

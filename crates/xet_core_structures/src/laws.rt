@@ -56,7 +56,10 @@ pub use exports::{
     keyed_shards_are_exported, keys_pass_to_joins, merges_keep_runs,
 };
 pub use minimal::{minimal_shards_are_written_again, subsets_keep_eligible_chunks};
-pub use ranges::{joins_pass_to_parts, unions_of_ranges_follow_one_another};
+pub use ranges::{
+    joins_pass_to_parts, ranges_are_bounded, ranges_have_all_records,
+    unions_of_ranges_follow_one_another,
+};
 pub use sizes::results_are_bounded;
 
 /// Each two shards have exactly one union.

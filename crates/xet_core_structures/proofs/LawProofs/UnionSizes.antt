@@ -105,7 +105,7 @@ rows_in_section K laws n bytes m is =
       ap (total_rows K) is.returned,
     )
 
-rows_held : (bytes : List ℕ) (s : Shard) → HasShard s bytes → 48 * rows_of_shard s ≤ 2 * length bytes
+pub rows_held : (bytes : List ℕ) (s : Shard) → HasShard s bytes → 48 * rows_of_shard s ≤ 2 * length bytes
 rows_held bytes s has =
     let footer = has.info.metadata in
     omega (
@@ -115,7 +115,7 @@ rows_held bytes s has =
     )
 
 -- what is written of a shard has 344 bytes and at most 64 for each row, a row's part of a table among them
-bytes_written : (key : DataHash) (s : Shard) (bytes : List ℕ) (info : MDBShardInfo) → IsBytesUnderKey key s bytes info → length bytes ≤ 344 + 64 * rows_of_shard s
+pub bytes_written : (key : DataHash) (s : Shard) (bytes : List ℕ) (info : MDBShardInfo) → IsBytesUnderKey key s bytes info → length bytes ≤ 344 + 64 * rows_of_shard s
 bytes_written key s bytes info written =
     let files = values s.files in
     let xorbs = values s.xorbs in
@@ -186,7 +186,7 @@ bytes_of_difference x y i j c x_ends y_ends result =
       rows_held y result.second (record { info = j; ends = y_ends; holds = result.holds_second }),
     )
 
-input_there : (inputs : List (List ℕ)) (i : ℕ) (x : List ℕ) → slice_get inputs i ≡ Some x → slice_index_or inputs i [] ≡ x
+pub input_there : (inputs : List (List ℕ)) (i : ℕ) (x : List ℕ) → slice_get inputs i ≡ Some x → slice_index_or inputs i [] ≡ x
 input_there [] i x is = cc
 input_there (y ∷ ys) zero x is = cc
 input_there (y ∷ ys) (suc i) x is = input_there ys i x is

@@ -1,6 +1,6 @@
 -- Shards with the records of others whose hashes pass a test, as that of being within a range.
-use Rattle.std.specs.Prelude.{◌≡◌, Bool, true, not, ◌&&◌, List, Option, None, Some, if◌then◌else◌}
-use Rattle.std.specs.FinMap.{FinMap, get}
+use Rattle.std.specs.Prelude.{◌≡◌, ⊤, Bool, true, not, ◌&&◌, List, [], ◌∷◌, flat_map, Option, None, Some, if◌then◌else◌}
+use Rattle.std.specs.FinMap.{FinMap, get, values}
 use Rattle.std.specs.List.{filter}
 use Rattle.std.specs.Ordering.{is_lt}
 use Rattle.xet_base.specs.declared.merklehash.DataHash.{DataHash}
@@ -36,3 +36,23 @@ is_within range q = is_from range.from q && is_before range.to q
 -- the records of a list whose hashes pass a test
 abbrev pub those_records : {H R : Type 0} → RecordKind H R → (DataHash → Bool) → List R → List R
 those_records K passes rs = filter (λ r. passes (key_of_record K r)) rs
+
+-- whether a hash is not above another, if there is one
+abbrev pub is_up_to : Option DataHash → DataHash → Bool
+is_up_to None q = true
+is_up_to (Some k) q = not (is_lt (hash_cmp k q))
+
+-- the ranges between hashes that follow one another, from a bound to a bound
+abbrev pub ranges_between : Option DataHash → List DataHash → Option DataHash → List HashRange
+ranges_between from [] to = record { from = from; to = to } ∷ []
+ranges_between from (k ∷ ks) to = record { from = from; to = Some k } ∷ ranges_between (Some k) ks to
+
+-- none of the hashes is below the one before it, and all are within the bounds
+abbrev pub AreCuts : Option DataHash → List DataHash → Option DataHash → Type 0
+AreCuts from [] to = ⊤
+AreCuts from (k ∷ ks) to = (is_from from k ≡ true) × (is_up_to to k ≡ true) × AreCuts (Some k) ks to
+
+-- the records of these shards, one shard after another, are those of this one
+pub record AreInARow (parts : List Shard) (whole : Shard) : Type 0 where
+  pub files : values whole.files ≡ flat_map (λ s. values s.files) parts
+  pub xorbs : values whole.xorbs ≡ flat_map (λ s. values s.xorbs) parts

@@ -1,15 +1,23 @@
-//! A law of unions of parts of shards that are apart.
+//! Laws of unions of parts of shards that are apart.
 
-ghost use Rattle.std.specs.Prelude.{Bool, List, ◌++◌, Contains};
+ghost use Rattle.std.specs.Prelude.{◌≡◌, ℕ, ◌+◌, ◌*◌, ◌≤◌, Bool, List, ◌++◌, length, flat_map, Contains, Option, None};
+ghost use Rattle.std.specs.FinMap.{values};
 ghost use Rattle.std.specs.List.{AllZip};
 ghost use Rattle.xet_base.specs.declared.merklehash.DataHash.{DataHash};
 ghost use Rattle.xet_records.specs.declared.file_structs.MDBFileInfo.{MDBFileInfo};
 ghost use Rattle.xet_records.specs.declared.xorb_structs.MDBXorbInfo.{MDBXorbInfo};
 ghost use Rattle.xet_records.specs.FileRecord.{file_records};
 ghost use Rattle.xet_records.specs.XorbRecord.{xorb_records};
+ghost use Rattle.xet_core_structures.specs.declared.set_operations.MergePlan.{MergePlan};
+ghost use Rattle.xet_core_structures.specs.declared.set_operations.ranges.HashRange.{HashRange};
+ghost use Rattle.xet_core_structures.specs.Records.Sizes.{rows_of_shard, bytes_at};
+ghost use Rattle.xet_core_structures.specs.Trees.MergeTrees.{leaves, HasUnion};
+ghost use Rattle.xet_core_structures.specs.Trees.RangeTrees.{RangeWrites};
+ghost use Rattle.xet_core_structures.specs.TwoShards.ByteResults.{keyed_layout, keyed_options};
+ghost use Rattle.xet_shards.specs.Write.Layout.{layout_of};
 ghost use Rattle.xet_core_structures.specs.Records.ByteUnion.{IsEitherFile, IsEitherXorb};
 ghost use Rattle.xet_core_structures.specs.Records.RecordPairs.{Combines, AreApart};
-ghost use Rattle.xet_core_structures.specs.Records.Ranges.{IsPartOf};
+ghost use Rattle.xet_core_structures.specs.Records.Ranges.{IsPartOf, is_within, ranges_between, AreCuts, AreInARow};
 ghost use Rattle.xet_shards.specs.Content.Joins.{IsJoinOf};
 ghost use Rattle.xet_shards.specs.Content.SetOperations.{ShardsAgree};
 ghost use Rattle.xet_shards.specs.Content.Shard.{Shard};
@@ -35,4 +43,37 @@ pub fn joins_pass_to_parts()
         → IsJoinOf (Contains shards) join → IsJoinOf (Contains parts) part }
     ensures agree { (passes : DataHash → Bool) → (a b c d : Shard) → IsPartOf passes a c
         → IsPartOf passes b d → ShardsAgree a b → ShardsAgree c d }
+{}
+
+/// A shard has one part in each range. Its parts in ranges of hashes that follow one another have
+/// together its records in the range from the first bound to the last, each once, and one part
+/// after another. With no bound these are all of its records, so that the bytes of a shard are the
+/// layout of the records of its parts, one part after another.
+pub fn ranges_have_all_records()
+    ensures exist { (range : HashRange) → (all : Shard)
+        → (part : Shard) × IsPartOf (is_within range) all part }
+    ensures one { (range : HashRange) → (all part other : Shard)
+        → IsPartOf (is_within range) all part → IsPartOf (is_within range) all other → part ≡ other }
+    ensures range { (from : Option DataHash) → (cuts : List DataHash) → (to : Option DataHash)
+        → (all whole : Shard) → (parts : List Shard) → AreCuts from cuts to
+        → IsPartOf (is_within (record { from = from; to = to })) all whole
+        → AllZip (λ range part. IsPartOf (is_within range) all part) (ranges_between from cuts to)
+        parts → AreInARow parts whole }
+    ensures all { (cuts : List DataHash) → (all : Shard) → (parts : List Shard)
+        → AreCuts None cuts None
+        → AllZip (λ range part. IsPartOf (is_within range) all part) (ranges_between None cuts None)
+        parts → AreInARow parts all }
+    ensures bytes { (key : DataHash) → (parts : List Shard) → (whole : Shard) → AreInARow parts whole
+        → keyed_layout whole key ≡ layout_of (flat_map (λ s. values s.files) parts)
+        (flat_map (λ s. values s.xorbs) parts) (keyed_options key) }
+{}
+
+/// A part of a shard in a range has at most its rows. So what a tree with a union writes of a range
+/// has at most 344 bytes and 8/3 of the inputs' at its leaves, as what it writes of all.
+pub fn ranges_are_bounded()
+    ensures rows { (range : HashRange) → (all part : Shard) → IsPartOf (is_within range) all part
+        → rows_of_shard part ≤ rows_of_shard all }
+    ensures bytes { (range : HashRange) → (inputs : List (List ℕ)) → (plan : MergePlan)
+        → (out : List ℕ) → HasUnion plan → RangeWrites range inputs plan out
+        → 3 * length out ≤ 3 * 344 + 8 * bytes_at inputs (leaves plan) }
 {}

@@ -1,0 +1,8 @@
+use Rattle.xet_core_structures.proofs.LawProofs.RangeSizes.{rows_of_part, bytes_of_range}
+use Rattle.xet_core_structures.proofs.laws.ranges.ranges_are_bounded.Goals as goal
+
+pub returns-clause-rows : goal.returns-clause-rows
+returns-clause-rows c = rows_of_part
+
+pub returns-clause-bytes : goal.returns-clause-bytes
+returns-clause-bytes c = bytes_of_range
