@@ -8,6 +8,7 @@ pub mod Formats
 pub mod Keeping
 pub mod MemoryErrors
 pub mod Merging
+pub mod RangeMerging
 pub mod MinimalSizes
 pub mod Reading
 pub mod RewriteSizes

@@ -75,7 +75,7 @@ module _ (A B : Shard → Type 0) (into : (s : Shard) → A s → B s) (back : (
     λ found. (has x).1 (found.0, back found.0 found.1, found.2),
   )
 
-  join_of_same : IsJoinOf A c → IsJoinOf B c
+  pub join_of_same : IsJoinOf A c → IsJoinOf B c
   join_of_same join = record {
     xorbs = λ q. same_part _ (join.xorbs q);
     segments = λ q. same_part _ (join.segments q);
@@ -95,7 +95,7 @@ same_count [] (x ∷ xs) are = absurd are
 same_count (s ∷ ss) [] are = absurd are
 same_count (s ∷ ss) (x ∷ xs) (here, rest) = ap (λ n. suc n) (same_count ss xs rest)
 
-within_any : {X : Type 0} (xs : List X) (i : ℕ) (d e : X) → i < length xs → get_or xs i d ≡ get_or xs i e
+pub within_any : {X : Type 0} (xs : List X) (i : ℕ) (d e : X) → i < length xs → get_or xs i d ≡ get_or xs i e
 within_any [] i d e below = absurd (omega (arith, below))
 within_any (x ∷ xs) zero d e below = refl
 within_any (x ∷ xs) (suc i) d e below = within_any xs i d e (omega (arith, below))

@@ -8,7 +8,11 @@ use Rattle.xet_core_structures.specs.declared.set_operations.MergePlan.TheVarian
 use Rattle.xet_core_structures.specs.Records.ShardContents.{HoldsShard}
 use Rattle.xet_core_structures.specs.Joins.{IsJoinOf, AgreePairwise}
 use Rattle.xet_core_structures.specs.KeyedHash.{no_key}
+use Rattle.xet_core_structures.specs.declared.merklehash.DataHash.{DataHash}
+use Rattle.xet_core_structures.specs.declared.set_operations.ranges.HashRange.{HashRange}
+use Rattle.xet_core_structures.specs.Records.Ranges.{IsPartOf, is_within}
 use Rattle.xet_core_structures.specs.Trees.MergeTrees.{TreeWrites, TreeRefusal}
+use Rattle.xet_core_structures.specs.Trees.RangeTrees.{RangeWrites, RangeRefusal}
 use Rattle.xet_core_structures.specs.Shard.{Shard}
 
 -- a tree over so many inputs from an index on: of two or more, half of them are at its left
@@ -47,3 +51,25 @@ pub record IsMergeOfList (inputs : List (List ℕ)) (shards : List Shard) (join 
   pub are_held : AllZip (HoldsShard no_key) shards inputs
   pub agree : AgreePairwise (Contains shards)
   pub is_join : IsJoinOf (Contains shards) join
+
+-- what the tree by which the inputs are merged writes of a range
+abbrev pub MergesRange : HashRange → List (List ℕ) → List ℕ → Type 0
+MergesRange range inputs out =
+    (plan : MergePlan) × IsMergePlan (length inputs) plan × RangeWrites range inputs plan out
+
+-- why a range of inputs is not merged: there are none, an allocation failed, or the tree by which
+-- they are merged writes nothing of it
+abbrev pub RefusesRange : HashRange → List (List ℕ) → CoreError → Type 0
+RefusesRange range inputs e =
+    ((e ≡ InvalidArguments) × (inputs ≡ [])) ⊎ (e ≡ OutOfMemory)
+    ⊎ ((plan : MergePlan) × IsMergePlan (length inputs) plan × RangeRefusal range inputs plan e)
+
+-- the byte strings hold these shards, under one key; there is at least one, each two of the shards
+-- agree, this is their join, and this has its records in a range
+pub record IsRangeMergeOfList (range : HashRange) (key : DataHash) (inputs : List (List ℕ)) (shards : List Shard)
+    (join part : Shard) : Type 0 where
+  pub some : 0 < length inputs
+  pub are_held : AllZip (HoldsShard key) shards inputs
+  pub agree : AgreePairwise (Contains shards)
+  pub is_join : IsJoinOf (Contains shards) join
+  pub is_part : IsPartOf (is_within range) join part

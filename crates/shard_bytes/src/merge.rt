@@ -3,14 +3,18 @@
 ghost use Rattle.std.specs.Prelude.{◌≡◌, ◌⊎◌, ◌+◌, ◌<◌, ◌^◌, List, map, length, IfOk, IfErr, MatchResult};
 ghost use Rattle.xet_core_structures.specs.Trees.Filling.{FillsWith};
 ghost use Rattle.xet_core_structures.specs.Trees.MergeTrees.{MergeRefused};
+ghost use Rattle.xet_core_structures.specs.Trees.RangeTrees.{IsHeldLayout};
+ghost use Rattle.xet_core_structures.specs.declared.merklehash.DataHash.{DataHash};
 ghost use Rattle.xet_core_structures.specs.Shard.{Shard};
 ghost use Rattle.xet_core_structures.specs.WrittenShard.{IsBytesWithoutExpiry};
-ghost use Rattle.shard_bytes.specs.Merging.{IsBalanced, IsPlanOfBoth, IsMergePlan, MergesBytes, RefusesMerge, IsMergeOfList};
+ghost use Rattle.shard_bytes.specs.Merging.{IsBalanced, IsPlanOfBoth, IsMergePlan, MergesBytes, RefusesMerge, IsMergeOfList, MergesRange, RefusesRange, IsRangeMergeOfList};
 ghost use Rattle.shard_bytes.specs.Sizes.{IsResultSize};
 
 use std::alloc::Global;
 use xet_core_structures::error::{CoreError, Result};
-use xet_core_structures::set_operations::{MergePlan, shard_union_tree, shard_union_tree_into};
+use xet_core_structures::set_operations::{
+    HashRange, MergePlan, merge_range, merge_range_into, shard_union_tree, shard_union_tree_into,
+};
 
 /// The bytes of the union of one shard or more, from their bytes, by a balanced tree of unions:
 /// that of the first half of the list with that of the second. One shard is united with itself. Of
@@ -51,6 +55,48 @@ pub fn merge_into(alloc: Global, shards: &[&[u8]], out: &mut [u8]) -> Result<usi
     }
     let plan = merge_plan(alloc, shards.len())?;
     shard_union_tree_into(alloc, &plan, shards, out)
+}
+
+/// The bytes of the records in a range of hashes of the union that [`merge_bytes`] makes, files and
+/// xorbs each by their own hash, as a shard. Shards that agree pairwise, under one key, give in any
+/// order the records of their join that are in the range.
+///
+/// `InvalidArguments` if the list is empty. Else the errors are those of [`merge_range`].
+pub fn merge_range_bytes(alloc: Global, shards: &[&[u8]], range: &HashRange) -> Result<Vec<u8>>
+    ensures any_bytes { MatchResult result
+        (λ bytes. MergesRange range.now (map (λ x. x.now) shards.now) bytes.items)
+        (RefusesRange range.now (map (λ x. x.now) shards.now)) }
+    ensures one_byte_string { (key : DataHash) → (all : List Shard) → (join part : Shard)
+        → IsRangeMergeOfList range.now key (map (λ x. x.now) shards.now) all join part
+        → MatchResult result (λ bytes. IsHeldLayout key part bytes.items) (MergeRefused part) }
+{
+    if shards.is_empty() {
+        return Err(CoreError::InvalidArguments);
+    }
+    let plan = merge_plan(alloc, shards.len())?;
+    merge_range(alloc, &plan, shards, range)
+}
+
+/// Writes the bytes that [`merge_range_bytes`] makes to the front of a slice, if they fit, and
+/// returns their number. If they don't, or if the call fails, the slice stays as it is. The errors
+/// are the same.
+pub fn merge_range_bytes_into(
+    alloc: Global,
+    shards: &[&[u8]],
+    range: &HashRange,
+    out: &mut [u8],
+) -> Result<usize>
+    ensures any_bytes { FillsWith (MergesRange range.now (map (λ x. x.now) shards.now))
+        (RefusesRange range.now (map (λ x. x.now) shards.now)) out.old out.new result }
+    ensures one_byte_string { (key : DataHash) → (all : List Shard) → (join part : Shard)
+        → IsRangeMergeOfList range.now key (map (λ x. x.now) shards.now) all join part
+        → FillsWith (IsHeldLayout key part) (MergeRefused part) out.old out.new result }
+{
+    if shards.is_empty() {
+        return Err(CoreError::InvalidArguments);
+    }
+    let plan = merge_plan(alloc, shards.len())?;
+    merge_range_into(alloc, &plan, shards, range, out)
 }
 
 // The tree by which so many inputs are merged.

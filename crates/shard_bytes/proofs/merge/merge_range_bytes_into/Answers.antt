@@ -1,0 +1,14 @@
+use Rattle.std.proofs.Common.{length, map, Bor, ℕ, List, sym, subst}
+use Rattle.std.proofs.lemmas.List.{length-map}
+use Rattle.shard_bytes.specs.Merging.{IsMergePlan}
+use Rattle.shard_bytes.proofs.Merging.{plan_covers}
+use Rattle.shard_bytes.proofs.RangeMerging.{at_leaves, merges_range}
+use Rattle.shard_bytes.proofs.merge.merge_range_bytes_into.Goals as goal
+
+pub returns-clause-one_byte_string : goal.returns-clause-one_byte_string
+returns-clause-one_byte_string c = λ key all join part have.
+    let inputs = map (λ (x : Bor (List ℕ)). x.now) c.args.shards.now in
+    let range = c.args.range.now in
+    let covers = plan_covers (length inputs) c.in_ok-plan.plan
+    (subst (λ n. IsMergePlan n c.in_ok-plan.plan) (sym (length-map c.args.shards.now (λ (x : Bor (List ℕ)). x.now))) c.in_ok-plan.ensures.ok) in
+    c.merge_range_into.ensures.one_byte_string key (at_leaves key range all inputs join part have c.in_ok-plan.plan covers) join part (merges_range key range all inputs join part have c.in_ok-plan.plan covers)
