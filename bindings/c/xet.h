@@ -176,6 +176,28 @@ uint32_t xet_union(const uint8_t *first, size_t first_length, const uint8_t *sec
  * The other errors are those of xet_union. */
 uint32_t xet_merge(const xet_bytes *shards, size_t count, uint8_t *out, size_t capacity, size_t *written);
 
+/* A range of hashes: those that are not below `from`, if `has_from` is set, and are below `to`, if `has_to` is set. Hashes
+ * are ordered by their first word, then by the second, the third and the fourth, each as a number. A bound that is not
+ * set is not looked at. */
+typedef struct xet_range {
+    uint64_t from[4];
+    uint64_t to[4];
+    bool has_from;
+    bool has_to;
+} xet_range;
+
+/* Writes the records in a range of the union that xet_merge makes, each by its own hash, files by that of the file and
+ * xorbs by that of the xorb, as a shard with all tables. If the sections of the inputs hold shards that agree pairwise,
+ * under one key, it is the bytes, under this key, of the records of their join that are in the range, or fails for memory
+ * or for too many rows. So a merge may be made by as many threads or machines as there are ranges, and ranges that follow
+ * one another have together each record of the join once. Each call reads all sections of all inputs; beyond its output
+ * it holds the places of the records in the range, and of one input more. A range without records gives a shard without
+ * records.
+ *
+ * The errors are those of xet_merge, but that records outside of the range are asked for no union. */
+uint32_t xet_merge_range(const xet_bytes *shards, size_t count, const xet_range *range, uint8_t *out, size_t capacity,
+                         size_t *written);
+
 /* A hash under which two shards have records that do not agree, that of a xorb or of a file, and the places of two such
  * shards in the list, from 0 on. */
 typedef struct xet_disagreement {

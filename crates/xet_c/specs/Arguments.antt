@@ -7,6 +7,7 @@ use Rattle.xet_core_structures.specs.declared.file_structs.HashRow.{HashRow}
 use Rattle.xet_core_structures.specs.declared.file_structs.MDBFileInfo.{MDBFileInfo}
 use Rattle.xet_core_structures.specs.declared.merklehash.DataHash.{DataHash}
 use Rattle.xet_core_structures.specs.declared.shard_format.MDBShardInfo.{MDBShardInfo}
+use Rattle.xet_core_structures.specs.declared.set_operations.ranges.HashRange.{HashRange}
 use Rattle.xet_core_structures.specs.FileRecord.{has_verification}
 use Rattle.xet_core_structures.specs.Hash.{words_of}
 use Rattle.shard_bytes.specs.declared.export.Export.{Export}
@@ -19,6 +20,7 @@ use Rattle.xet_c.specs.declared.export.XetExport.{XetExport}
 use Rattle.xet_c.specs.declared.find.XetFile.{XetFile}
 use Rattle.xet_c.specs.declared.hash.XetHash.{XetHash}
 use Rattle.xet_c.specs.declared.load.XetInfo.{XetInfo}
+use Rattle.xet_c.specs.declared.merge.XetRange.{XetRange}
 use Rattle.xet_c.specs.declared.segment.XetFileSegment.{XetFileSegment}
 use Rattle.xet_c.specs.declared.segment.XetSegment.{XetSegment}
 use Rattle.xet_c.specs.declared.subset.XetSubset.{XetSubset}
@@ -140,3 +142,13 @@ abbrev pub RefusesRun : List ℕ → List XetHash → CoreError → Type 0
 RefusesRun bytes cs e =
     (e ≡ OutOfMemory)
     ⊎ ((hashes : List DataHash) × (map c_hash hashes ≡ cs) × RefusesQuery bytes hashes e)
+
+-- a bound is asked for by its words, or none is
+abbrev pub IsBound : Bool → List ℕ → Option DataHash → Type 0
+IsBound false words bound = bound ≡ None
+IsBound true words bound = (hash : DataHash) × (bound ≡ Some hash) × (words_of hash ≡ words)
+
+-- a range has the bounds that are asked for
+pub record AsksForRange (c : XetRange) (range : HashRange) : Type 0 where
+  pub from : IsBound c.has_from c.from range.from
+  pub to : IsBound c.has_to c.to range.to

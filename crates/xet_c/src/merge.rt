@@ -1,17 +1,23 @@
-//! The union of a list of shards.
+//! The union of a list of shards, whole or in a range of hashes.
 
 ghost use Rattle.std.specs.Prelude.{◌≡◌, ◌⊎◌, List, map};
+ghost use Rattle.xet_core_structures.specs.declared.merklehash.DataHash.{DataHash};
+ghost use Rattle.xet_core_structures.specs.declared.set_operations.ranges.HashRange.{HashRange};
 ghost use Rattle.xet_core_structures.specs.Trees.MergeTrees.{MergeRefused};
+ghost use Rattle.xet_core_structures.specs.Trees.RangeTrees.{IsHeldLayout};
 ghost use Rattle.xet_core_structures.specs.Shard.{Shard};
 ghost use Rattle.xet_core_structures.specs.WrittenShard.{IsBytesWithoutExpiry};
-ghost use Rattle.shard_bytes.specs.Merging.{MergesBytes, RefusesMerge, IsMergeOfList};
+ghost use Rattle.shard_bytes.specs.Merging.{MergesBytes, RefusesMerge, IsMergeOfList, MergesRange, RefusesRange, IsRangeMergeOfList};
 ghost use Rattle.shard_bytes.specs.Sizes.{IsResultSize};
+ghost use Rattle.xet_c.specs.Arguments.{IsBound, AsksForRange};
 ghost use Rattle.xet_c.specs.Output.{Outcome};
 
 use crate::output::answer;
-use shard_bytes::merge::merge_into;
+use shard_bytes::merge::{merge_into, merge_range_bytes_into};
 use std::alloc::Global;
 use xet_core_structures::error::CoreError;
+use xet_core_structures::merklehash::MerkleHash;
+use xet_core_structures::set_operations::HashRange;
 
 /// The union of one shard or more, to the front of `out`, to which it is written at once.
 #[unsafe(no_mangle)]
@@ -30,4 +36,57 @@ pub extern "C" fn xet_merge(
 {
     let filled = merge_into(alloc, shards, out);
     answer(filled, out.len(), written)
+}
+
+/// A range of hashes: those that are not below `from`, where it counts, and are below `to`, where
+/// it counts.
+#[repr(C)]
+#[derive(Clone, Copy, Drop)]
+pub struct XetRange {
+    pub from: [u64; 4],
+    pub to: [u64; 4],
+    pub has_from: bool,
+    pub has_to: bool,
+}
+
+/// The records in a range of the union of one shard or more, to the front of `out`, to which they
+/// are written at once.
+#[unsafe(no_mangle)]
+pub extern "C" fn xet_merge_range(
+    alloc: Global,
+    shards: &[&[u8]],
+    range: &XetRange,
+    out: &mut [u8],
+    written: &mut usize,
+) -> u32
+    ensures range { (asked : HashRange) × AsksForRange range.now asked
+        × Outcome (MergesRange asked (map (λ x. x.now) shards.now))
+        (RefusesRange asked (map (λ x. x.now) shards.now)) out.old out.new written.new result
+        × ((key : DataHash) → (all : List Shard) → (join part : Shard)
+        → IsRangeMergeOfList asked key (map (λ x. x.now) shards.now) all join part
+        → Outcome (IsHeldLayout key part) (MergeRefused part) out.old out.new written.new result) }
+{
+    let asked = range_of(range);
+    let filled = merge_range_bytes_into(alloc, shards, &asked, out);
+    answer(filled, out.len(), written)
+}
+
+// The range that is asked for.
+fn range_of(range: &XetRange) -> HashRange
+    ensures { AsksForRange range.now result }
+{
+    HashRange {
+        from: bound(range.has_from, range.from),
+        to: bound(range.has_to, range.to),
+    }
+}
+
+// The bound with these words, or none.
+fn bound(has: bool, words: [u64; 4]) -> Option<MerkleHash>
+    ensures { IsBound has words result }
+{
+    if has {
+        return Some(MerkleHash::from(words));
+    }
+    None
 }
