@@ -334,6 +334,51 @@ def test_merge_of_one_and_of_none():
     refused("Io", xet_shards.merge, [ONE_FILE, ONE_FILE[:199]])
 
 
+def test_merge_in_ranges():
+    files = {"100": ["200:0:5:5"], "200": ["v=5", "200:0:5:5"], "300": ["300:0:5:5"]}
+    xorbs = {"200": ["21:5", "22:6"], "300": ["23:5"]}
+
+    def those(of_files, of_xorbs):
+        return {it: files[it] for it in of_files}, {it: xorbs[it] for it in of_xorbs}
+
+    shards = shards_of(those(["100", "300"], ["200"]), those(["200", "300"], ["200", "300"]), those([], []))
+    bounds = [None, "0", "100", "101", "200", "250", "300", "301"]
+    for start, stop in itertools.product(bounds, bounds):
+        # The first bound is in the range, and the second is not; of bounds in the other order nothing is between.
+        names = [it for it in files if int(start or 0) <= int(it) and (stop is None or int(it) < int(stop))]
+        expected = shards_of(those(names, [it for it in names if it in xorbs]))[0]
+        texts = {"start": start and hash_text(start), "stop": stop and hash_text(stop)}
+        for order in itertools.permutations(shards):
+            assert xet_shards.merge(order, **texts) == expected
+        # A single shard is written anew too.
+        assert xet_shards.merge([xet_shards.merge(shards)], **texts) == expected
+    # Ranges that follow one another have each record once.
+    cuts = [None, *map(hash_text, ["100", "200", "200", "250"]), None]
+    parts = [xet_shards.merge(shards, start=one, stop=other) for one, other in zip(cuts, cuts[1:])]
+    assert sum(xet_shards.load(it).files for it in parts) == 3 and sum(xet_shards.load(it).xorbs for it in parts) == 2
+    assert xet_shards.merge(parts) == xet_shards.merge(shards)
+    # The last word counts too.
+    after = f"{100:016x}{1:016x}{0:016x}{1:016x}"
+    assert xet_shards.merge(shards, start=hash_text("100"), stop=after) == shards_of(those(["100"], []))[0]
+    assert xet_shards.merge(shards, start=after, stop=hash_text("200")) == shards_of(those([], []))[0]
+
+
+def test_merge_in_a_range_of_other_inputs():
+    # Under a key.
+    keyed = [xet_shards.export(it, hash_text("7"), 0, 2**64 - 1) for it in (ONE_FILE, XORB_AND_FILE)]
+    for texts in ({"start": hash_text("0")}, {"stop": "f" * 64}):
+        assert xet_shards.merge(keyed, **texts) == xet_shards.merge(keyed)
+    assert xet_shards.load(xet_shards.merge(keyed, stop=hash_text("0"))).key == hash_text("7")
+    # Records outside of the range are asked for no union, but read, and compared if they have to agree.
+    one, two = shard_of("file 100 v=365 200:0:5:5"), shard_of("file 100 s=9364 200:0:5:5 200:5:6:1")
+    refused("InvalidShard", xet_shards.merge, [one, two], start=hash_text("100"))
+    assert xet_shards.load(xet_shards.merge([one, two], start=hash_text("101"))).files == 0
+    raises(xet_shards.DisagreementError, xet_shards.merge, [one, two], strict=True, start=hash_text("101"))
+    assert refused("Io", xet_shards.merge, [ONE_FILE, ONE_FILE[:199]], start="f" * 64).index == 1
+    raises(ValueError, xet_shards.merge, [], start=hash_text("0"))
+    raises(ValueError, xet_shards.merge, [ONE_FILE], stop="100")
+
+
 def test_merge_names_the_input():
     keyed = xet_shards.export(ONE_FILE, hash_text("7"), 1000, 60)
     assert refused("Io", xet_shards.merge, [ONE_FILE, XORB_AND_FILE, ONE_FILE[:199], b""]).index == 2

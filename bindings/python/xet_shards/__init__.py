@@ -283,6 +283,10 @@ class _Subset(ctypes.Structure):
     _fields_ = [("now", c_uint64), ("expiry", c_uint64), ("all", c_bool)]
 
 
+class _Range(ctypes.Structure):
+    _fields_ = [("start", _Words), ("stop", _Words), ("has_start", c_bool), ("has_stop", c_bool)]
+
+
 class _File(ctypes.Structure):
     _fields_ = [
         ("found", c_bool), ("has_verification", c_bool), ("has_sha256", c_bool), ("has_aux", c_bool),
@@ -334,6 +338,7 @@ _CALLS = {
     "xet_load": [*_SHARD, POINTER(_Info)],
     "xet_union": [*_SHARD, *_SHARD, *_OUT],
     "xet_merge": [*_LIST, *_OUT],
+    "xet_merge_range": [*_LIST, POINTER(_Range), *_OUT],
     "xet_merge_agreeing": [*_LIST, *_OUT, POINTER(c_size_t), POINTER(_Disagreement)],
     "xet_find_disagreement": [*_LIST, POINTER(c_size_t), POINTER(_Disagreement)],
     "xet_find_malformed": [*_LIST, POINTER(c_bool), POINTER(_Disagreement)],
@@ -585,8 +590,14 @@ def _combined(operation: Callable[..., Any], first: Buffer, second: Buffer) -> b
         )
 
 
-def merge(shards: Iterable[Buffer], strict: bool = False) -> bytes:
+def merge(
+    shards: Iterable[Buffer], strict: bool = False, start: Optional[str] = None, stop: Optional[str] = None
+) -> bytes:
     """Returns the union of one shard or more, by a balanced tree of unions; a single one is united with itself.
+
+    With `start` or `stop`, hashes as text, it is a shard of those of its files and xorbs whose hash is not below `start`
+    and is below `stop`. So ranges that follow one another may be merged by threads or machines, and have together each
+    record once. All shards are read for each range, and with `strict` all their records have to agree.
 
     If the sections of the inputs hold well-formed shards that agree pairwise, under one key, it is the bytes of their
     join, which has no order, and any other tree of unions gives the same. Shards agree if files with one hash have
@@ -598,6 +609,8 @@ def merge(shards: Iterable[Buffer], strict: bool = False) -> bytes:
     if not shards:
         raise ValueError("no shard is given")
     try:
+        if start is not None or stop is not None:
+            return _merged_range(shards, strict, start, stop)
         return _merged(shards, strict)
     except (DisagreementError, MalformedError):
         raise
@@ -644,6 +657,28 @@ def _merged(shards: Sequence[Buffer], strict: bool) -> bytes:
     if malformed:
         raise MalformedError(_malformed(found))
     raise DisagreementError(_disagreement(found, differing.value))
+
+
+def _merged_range(shards: Sequence[Buffer], strict: bool, start: Optional[str], stop: Optional[str]) -> bytes:
+    words = [_words(NO_KEY if it is None else it) for it in (start, stop)]
+    asked = _Range(*words, start is not None, stop is not None)
+    if strict:
+        malformed = find_malformed(shards)
+        if malformed:
+            raise MalformedError(malformed)
+        differing = find_disagreement(shards)
+        if differing:
+            raise DisagreementError(differing)
+    with _Addresses(*shards) as data:
+        listed, room, written = _list(data), sum(length for _, length in data) // 3 * 8 + 352, c_size_t()
+        # Of memory that is mapped only what is written to is taken.
+        with mmap.mmap(-1, room) as out:
+            array = (c_char * room).from_buffer(out)
+            try:
+                _check(_library.xet_merge_range(listed, len(data), byref(asked), array, room, byref(written)))
+            finally:
+                del array
+            return out[: written.value]
 
 
 def find_disagreement(shards: Iterable[Buffer]) -> Optional[Disagreement]:

@@ -47,6 +47,7 @@ library! {
     fn xet_load(shard: &[u8], info: &mut Info) -> u32;
     fn xet_union(first: &[u8], second: &[u8], out: &mut [u8], written: &mut usize) -> u32;
     fn xet_merge(shards: &[Bytes], out: &mut [u8], written: &mut usize) -> u32;
+    fn xet_merge_range(shards: &[Bytes], range: &Range, out: &mut [u8], written: &mut usize) -> u32;
     fn xet_find_disagreement(shards: &[Bytes], differing: &mut usize, found: &mut Disagreement) -> u32;
     fn xet_find_malformed(shards: &[Bytes], malformed: &mut bool, found: &mut Disagreement) -> u32;
     fn xet_merge_agreeing(
@@ -111,6 +112,14 @@ pub struct Subset {
     pub now: u64,
     pub expiry: u64,
     pub all: bool,
+}
+
+#[repr(C)]
+pub struct Range {
+    pub from: Hash,
+    pub to: Hash,
+    pub has_from: bool,
+    pub has_to: bool,
 }
 
 #[repr(C)]

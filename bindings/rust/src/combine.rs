@@ -5,6 +5,7 @@ use crate::error::{check, Error};
 use crate::output::bytes_of;
 use crate::{Hash, Result};
 use std::fmt;
+use std::ops::{Bound, RangeBounds};
 
 /// The number of the error that tells a disagreement.
 const DISAGREE: u32 = 20;
@@ -157,6 +158,64 @@ pub fn difference(first: &[u8], second: &[u8]) -> Result<Vec<u8>> {
 pub fn merge<T: AsRef<[u8]>>(shards: &[T]) -> Result<Vec<u8>> {
     let (list, length) = listed(shards)?;
     bytes_of(length, |out, written| calls::xet_merge(&list, out, written))
+}
+
+/// The records of a range of hashes of the union that [`merge`] makes, files and xorbs each by their own hash, as a
+/// shard. Of shards that agree pairwise, under one key, it is the same bytes in any order, and ranges that follow one
+/// another, each made by a thread or a machine of its own, have together each record once.
+///
+/// # Errors
+///
+/// Those of [`merge`], but that records outside of the range are asked for no union.
+///
+/// ```
+/// use xet_shards::Hash;
+///
+/// # fn main() -> Result<(), Box<dyn std::error::Error>> {
+/// let shards = [std::fs::read("examples/a.mdb")?, std::fs::read("examples/b.mdb")?];
+/// assert_eq!(xet_shards::merge_range(&shards, ..)?, xet_shards::merge(&shards)?);
+///
+/// let middle = Hash([1 << 63, 0, 0, 0]);
+/// let parts = [xet_shards::merge_range(&shards, ..middle)?, xet_shards::merge_range(&shards, middle..)?];
+/// assert_eq!(xet_shards::merge(&parts)?, xet_shards::merge(&shards)?);
+/// # Ok(())
+/// # }
+/// ```
+pub fn merge_range<T: AsRef<[u8]>>(shards: &[T], range: impl RangeBounds<Hash>) -> Result<Vec<u8>> {
+    let from = match range.start_bound() {
+        Bound::Included(from) => Some(*from),
+        // Above the last hash there is none: no hash is below the first.
+        Bound::Excluded(below) => match next(*below) {
+            Some(from) => Some(from),
+            None => return merge_range(shards, Hash::default()..Hash::default()),
+        },
+        Bound::Unbounded => None,
+    };
+    let to = match range.end_bound() {
+        Bound::Included(last) => next(*last),
+        Bound::Excluded(to) => Some(*to),
+        Bound::Unbounded => None,
+    };
+    let range = calls::Range {
+        from: from.unwrap_or_default(),
+        to: to.unwrap_or_default(),
+        has_from: from.is_some(),
+        has_to: to.is_some(),
+    };
+    let (list, length) = listed(shards)?;
+    bytes_of(length, |out, written| calls::xet_merge_range(&list, &range, out, written))
+}
+
+/// The hash after this one, if it is not the last.
+fn next(mut hash: Hash) -> Option<Hash> {
+    for word in hash.0.iter_mut().rev() {
+        let (sum, wraps) = word.overflowing_add(1);
+        *word = sum;
+        if !wraps {
+            return Some(hash);
+        }
+    }
+    None
 }
 
 /// The union of one shard or more as [`merge`] makes it, if each of the shards is well-formed and each two agree. It is

@@ -29,8 +29,8 @@ mod walk;
 mod write;
 
 pub use combine::{
-    difference, find_disagreement, find_malformed, merge, merge_agreeing, union, Disagreement, MalformedRecord,
-    RecordHash,
+    difference, find_disagreement, find_malformed, merge, merge_agreeing, merge_range, union, Disagreement,
+    MalformedRecord, RecordHash,
 };
 pub use error::Error;
 pub use finding::{check, Finding, Part};
