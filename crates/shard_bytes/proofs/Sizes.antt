@@ -7,6 +7,9 @@ use Rattle.xet_core_structures.specs.declared.set_operations.MergePlan.TheVarian
 use Rattle.xet_core_structures.specs.TwoShards.ByteResults.{UnitesBytes}
 use Rattle.xet_core_structures.specs.Trees.MergeTrees.{leaves, TreeWrites}
 use Rattle.xet_core_structures.specs.Records.Sizes.{bytes_at}
+use Rattle.xet_core_structures.specs.declared.set_operations.ranges.HashRange.{HashRange}
+use Rattle.xet_core_structures.specs.Trees.RangeTrees.{IsRangeOf, RangeWrites}
+use Rattle.xet_core_structures.proofs.LawProofs.RangeSizes.{bytes_of_range, bytes_of_repeated_range}
 use Rattle.xet_core_structures.proofs.LawProofs.UnionSizes.{bytes_of_union, bytes_of_tree, bytes_of_difference, bytes_of_repetition}
 use Rattle.shard_bytes.specs.declared.combine.Operation.{Operation}
 use Rattle.shard_bytes.specs.declared.combine.Operation.TheVariants.{Union, Difference}
@@ -76,3 +79,15 @@ pub size_of_result : (operation : Operation) (x y out : List ℕ) → CombinesBy
 size_of_result Union x y out unites = omega (arith, bytes_of_union x y out unites, sum_by-cons length x (y ∷ []), sum_by-cons length y [])
 size_of_result Difference x y out (i, j, c, x_ends, y_ends, result, is) =
     omega (arith, ap length is, bytes_of_difference x y i j c x_ends y_ends result, sum_by-cons length y [])
+
+-- a range of a merge has no more
+pub size_of_range : (range : HashRange) (inputs : List (List ℕ)) (plan : MergePlan) (out : List ℕ) → IsMergePlan (length inputs) plan → RangeWrites range inputs plan out → IsResultSize inputs (length out)
+size_of_range range inputs (Leaf i) out (inl (one, none)) writes = absurd none
+size_of_range range inputs (Leaf i) out (inr (more, (one, is))) writes = absurd (omega arith)
+size_of_range range inputs (Both' p left q right) out (inl (one, (first, second))) (x, y, x_written, y_written, unites) =
+    let x_is = subst (λ l. RangeWrites range inputs l x) first x_written in
+    let y_is = subst (λ l. RangeWrites range inputs l y) second y_written in
+    let same = same_input inputs x_is.0 y_is.0 x_is.1 y_is.1 in
+    omega (arith, bytes_of_repeated_range range x_is.0 x y out x_is.2 (subst (λ b. IsRangeOf range b y) same y_is.2) unites, only_input inputs x_is.0 one x_is.1)
+size_of_range range inputs (Both' p left q right) out (inr (more, balanced)) writes =
+    omega (arith, bytes_of_range range inputs (Both' p left q right) out tt writes, balanced_bytes inputs 0 (length inputs) (Both' p left q right) balanced, sizes_of_all inputs)

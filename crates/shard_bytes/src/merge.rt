@@ -69,6 +69,8 @@ pub fn merge_range_bytes(alloc: Global, shards: &[&[u8]], range: &HashRange) -> 
     ensures one_byte_string { (key : DataHash) → (all : List Shard) → (join part : Shard)
         → IsRangeMergeOfList range.now key (map (λ x. x.now) shards.now) all join part
         → MatchResult result (λ bytes. IsHeldLayout key part bytes.items) (MergeRefused part) }
+    ensures size { IfOk result
+        (λ bytes. IsResultSize (map (λ x. x.now) shards.now) (length bytes.items)) }
 {
     if shards.is_empty() {
         return Err(CoreError::InvalidArguments);
@@ -91,6 +93,7 @@ pub fn merge_range_bytes_into(
     ensures one_byte_string { (key : DataHash) → (all : List Shard) → (join part : Shard)
         → IsRangeMergeOfList range.now key (map (λ x. x.now) shards.now) all join part
         → FillsWith (IsHeldLayout key part) (MergeRefused part) out.old out.new result }
+    ensures size { IfOk result (IsResultSize (map (λ x. x.now) shards.now)) }
 {
     if shards.is_empty() {
         return Err(CoreError::InvalidArguments);

@@ -65,6 +65,7 @@ pub extern "C" fn xet_merge_range(
         × ((key : DataHash) → (all : List Shard) → (join part : Shard)
         → IsRangeMergeOfList asked key (map (λ x. x.now) shards.now) all join part
         → Outcome (IsHeldLayout key part) (MergeRefused part) out.old out.new written.new result) }
+    ensures size { IsResultSize (map (λ x. x.now) shards.now) written.new }
 {
     let asked = range_of(range);
     let filled = merge_range_bytes_into(alloc, shards, &asked, out);

@@ -142,7 +142,7 @@ same_xorb : (o r : Option MDBXorbInfo) → IsEitherXorb o o r → r ≡ o
 same_xorb None r is = is
 same_xorb (Some a) r is = is
 
-union_of_same : (a c : Shard) → IsByteUnion a a c → c ≡ a
+pub union_of_same : (a c : Shard) → IsByteUnion a a c → c ≡ a
 union_of_same a c union =
     let files = same_map hash_cmp-IsTotalOrder hash_cmp-IsAntisymmetric c.files a.files (λ q. same_file (get a.files q) (get c.files q) (union.files q)) in
     let xorbs = same_map hash_cmp-IsTotalOrder hash_cmp-IsAntisymmetric c.xorbs a.xorbs (λ q. same_xorb (get a.xorbs q) (get c.xorbs q) (union.xorbs q)) in

@@ -12,8 +12,8 @@ ghost use Rattle.xet_core_structures.specs.declared.set_operations.MergePlan.{Me
 ghost use Rattle.xet_core_structures.specs.declared.set_operations.ranges.HashRange.{HashRange};
 ghost use Rattle.xet_core_structures.specs.Records.Sizes.{rows_of_shard, bytes_at};
 ghost use Rattle.xet_core_structures.specs.Trees.MergeTrees.{leaves, HasUnion};
-ghost use Rattle.xet_core_structures.specs.Trees.RangeTrees.{RangeWrites};
-ghost use Rattle.xet_core_structures.specs.TwoShards.ByteResults.{keyed_layout, keyed_options};
+ghost use Rattle.xet_core_structures.specs.Trees.RangeTrees.{IsRangeOf, RangeWrites};
+ghost use Rattle.xet_core_structures.specs.TwoShards.ByteResults.{keyed_layout, keyed_options, UnitesBytes};
 ghost use Rattle.xet_shards.specs.Write.Layout.{layout_of};
 ghost use Rattle.xet_core_structures.specs.Records.ByteUnion.{IsEitherFile, IsEitherXorb};
 ghost use Rattle.xet_core_structures.specs.Records.RecordPairs.{Combines, AreApart};
@@ -69,11 +69,15 @@ pub fn ranges_have_all_records()
 {}
 
 /// A part of a shard in a range has at most its rows. So what a tree with a union writes of a range
-/// has at most 344 bytes and 8/3 of the inputs' at its leaves, as what it writes of all.
+/// has at most 344 bytes and 8/3 of the inputs' at its leaves, as what it writes of all. A range of
+/// one input, united with itself, counts it once.
 pub fn ranges_are_bounded()
     ensures rows { (range : HashRange) → (all part : Shard) → IsPartOf (is_within range) all part
         → rows_of_shard part ≤ rows_of_shard all }
     ensures bytes { (range : HashRange) → (inputs : List (List ℕ)) → (plan : MergePlan)
         → (out : List ℕ) → HasUnion plan → RangeWrites range inputs plan out
         → 3 * length out ≤ 3 * 344 + 8 * bytes_at inputs (leaves plan) }
+    ensures repetition { (range : HashRange) → (input x y out : List ℕ) → IsRangeOf range input x
+        → IsRangeOf range input y → UnitesBytes x y out
+        → 3 * length out ≤ 3 * 344 + 8 * length input }
 {}

@@ -1,4 +1,4 @@
-use Rattle.xet_core_structures.proofs.LawProofs.RangeSizes.{rows_of_part, bytes_of_range}
+use Rattle.xet_core_structures.proofs.LawProofs.RangeSizes.{rows_of_part, bytes_of_range, bytes_of_repeated_range}
 use Rattle.xet_core_structures.proofs.laws.ranges.ranges_are_bounded.Goals as goal
 
 pub returns-clause-rows : goal.returns-clause-rows
@@ -6,3 +6,6 @@ returns-clause-rows c = rows_of_part
 
 pub returns-clause-bytes : goal.returns-clause-bytes
 returns-clause-bytes c = bytes_of_range
+
+pub returns-clause-repetition : goal.returns-clause-repetition
+returns-clause-repetition c = bytes_of_repeated_range
