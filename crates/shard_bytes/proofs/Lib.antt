@@ -5,12 +5,14 @@ pub mod Exclusive
 pub mod Expiring
 pub mod Exporting
 pub mod Formats
+pub mod Inserting
 pub mod Keeping
 pub mod MemoryErrors
 pub mod Merging
 pub mod RangeMerging
 pub mod MinimalSizes
 pub mod Reading
+pub mod Recording
 pub mod RewriteSizes
 pub mod Searching
 pub mod Sizes

@@ -9,6 +9,7 @@ pub mod Merging
 pub mod Minimal
 pub mod Outcomes
 pub mod Query
+pub mod Recording
 pub mod Sizes
 pub mod Steps
 pub mod Versions

@@ -14,6 +14,7 @@ mod memory;
 pub mod merge;
 pub mod minimal;
 pub mod query;
+pub mod records;
 mod room;
 mod sorted_hashes;
 pub mod version;

@@ -1,0 +1,8 @@
+use Rattle.shard_bytes.proofs.Recording.{again, admitted}
+use Rattle.shard_bytes.proofs.records.read_records_are_written_again.Goals as goal
+
+pub returns-clause-admitted : goal.returns-clause-admitted
+returns-clause-admitted c = admitted
+
+pub returns-clause-again : goal.returns-clause-again
+returns-clause-again c = again

@@ -1,0 +1,72 @@
+-- All records of a shard: what is written of a list of them, and what is read.
+use Rattle.std.specs.Prelude.{◌≡◌, ◌⊎◌, ⊤, ℕ, List, [], ◌∷◌, map, drop, MatchResult}
+use Rattle.xet_core_structures.specs.declared.error.CoreError.{CoreError}
+use Rattle.xet_core_structures.specs.declared.error.CoreError.TheVariants.{InvalidArguments, OutOfMemory}
+use Rattle.xet_core_structures.specs.declared.file_structs.MDBFileInfo.{MDBFileInfo}
+use Rattle.xet_core_structures.specs.declared.xorb_structs.MDBXorbInfo.{MDBXorbInfo}
+use Rattle.xet_core_structures.specs.declared.shard_format.MDBShardInfo.{MDBShardInfo}
+use Rattle.xet_core_structures.specs.Ends.{HasHeaderAndFooter}
+use Rattle.xet_core_structures.specs.Errors.{CoreResult}
+use Rattle.xet_core_structures.specs.FileRecord.{as_read}
+use Rattle.xet_core_structures.specs.KeyedExport.{BadSection}
+use Rattle.xet_core_structures.specs.SectionReading.{IsSection, files_of}
+use Rattle.xet_core_structures.specs.Shard.{Shard, empty_shard, add_file, add_xorb, CanAddFile, CanAddXorb}
+use Rattle.xet_core_structures.specs.TwoShards.ByteResults.{LoadRefusal}
+use Rattle.xet_core_structures.specs.XorbRecord.{xorb_records}
+use Rattle.shard_bytes.specs.declared.records.Records.{Records}
+
+-- a shard with files inserted or replaced, one after another
+abbrev pub with_files : Shard → List MDBFileInfo → Shard
+with_files s [] = s
+with_files s (r ∷ rs) = with_files (add_file s r) rs
+
+-- a shard with xorbs inserted or replaced, one after another
+abbrev pub with_xorbs : Shard → List MDBXorbInfo → Shard
+with_xorbs s [] = s
+with_xorbs s (r ∷ rs) = with_xorbs (add_xorb s r) rs
+
+-- the shard that has these records, and of two with one hash the later
+abbrev pub shard_of : List MDBFileInfo → List MDBXorbInfo → Shard
+shard_of files xorbs = with_xorbs (with_files empty_shard files) xorbs
+
+-- files that can be inserted one after another: each is well-formed, and the rows fit `u32`
+abbrev pub CanAddFiles : Shard → List MDBFileInfo → Type 0
+CanAddFiles s [] = ⊤
+CanAddFiles s (r ∷ rs) = CanAddFile s r × CanAddFiles (add_file s r) rs
+
+-- xorbs that can be inserted one after another: each may be put into a shard, and the rows fit
+-- `u32`
+abbrev pub CanAddXorbs : Shard → List MDBXorbInfo → Type 0
+CanAddXorbs s [] = ⊤
+CanAddXorbs s (r ∷ rs) = CanAddXorb s r × CanAddXorbs (add_xorb s r) rs
+
+-- records of which there is a shard
+abbrev pub CanRecord : List MDBFileInfo → List MDBXorbInfo → Type 0
+CanRecord files xorbs =
+    CanAddFiles empty_shard files × CanAddXorbs (with_files empty_shard files) xorbs
+
+-- the result of a call that enters records one after another: a value if they can be entered, and
+-- else `InvalidArguments`; or an allocation failed before that was known
+abbrev pub AdmitsAll : {T : Type 0} → Type 0 → CoreResult T → Type 0
+AdmitsAll Can result =
+    MatchResult result (λ _. Can) (λ e. ((e ≡ InvalidArguments) × (¬ Can)) ⊎ (e ≡ OutOfMemory))
+
+-- the bytes have a header and a footer, and these are the records of the sections to which the
+-- footer leads, files as reading returns them
+pub record HasRecords (bytes : List ℕ) (found : Records) : Type 0 where
+  pub info : MDBShardInfo
+  pub ends : HasHeaderAndFooter bytes info
+  pub stored : List MDBFileInfo
+  pub file_section : IsSection (files_of info) (drop info.metadata.file_info_offset bytes) stored
+  pub files : map as_read stored ≡ found.files.items
+  pub xorb_section : IsSection xorb_records (drop info.metadata.xorb_info_offset bytes)
+      found.xorbs.items
+
+-- why the records are not read: header and footer are not read, or they are, and then a section is
+-- not
+abbrev pub NotRecorded : List ℕ → CoreError → Type 0
+NotRecorded bytes e =
+    LoadRefusal bytes e
+    ⊎ ((info : MDBShardInfo) × HasHeaderAndFooter bytes info
+    × (BadSection (files_of info) (drop info.metadata.file_info_offset bytes) e
+    ⊎ BadSection xorb_records (drop info.metadata.xorb_info_offset bytes) e))

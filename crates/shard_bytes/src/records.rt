@@ -1,0 +1,114 @@
+//! All records of a shard, written and read in one call.
+
+ghost use Rattle.std.specs.Prelude.{◌≡◌, ◌⊎◌, ◌^◌, ◌<◌, ℕ, List, Option, IfOk, IfErr, IfSome, OnOk, MatchResult};
+ghost use Rattle.std.specs.FinMap as finite;
+ghost use Rattle.xet_core_structures.specs.declared.error.CoreError.{CoreError};
+ghost use Rattle.xet_core_structures.specs.Layout.{layout};
+ghost use Rattle.xet_core_structures.specs.Shard.{Shard, IsShard};
+ghost use Rattle.xet_core_structures.specs.WrittenShard.{IsBytesOf};
+ghost use Rattle.shard_bytes.specs.Recording.{with_files, with_xorbs, shard_of, CanAddFiles, CanAddXorbs, CanRecord, AdmitsAll, HasRecords, NotRecorded};
+
+use std::alloc::Global;
+use xet_core_structures::error::{CoreError, Result};
+use xet_core_structures::file_structs::MDBFileInfo;
+use xet_core_structures::shard_format::MDBShardInfo;
+use xet_core_structures::shard_in_memory::MDBInMemoryShard;
+use xet_core_structures::source::MemorySource;
+use xet_core_structures::xorb_structs::MDBXorbInfo;
+
+/// The records of a shard.
+#[derive(Debug, PartialEq, Drop)]
+pub struct Records {
+    pub files: Vec<MDBFileInfo>,
+    pub xorbs: Vec<MDBXorbInfo>,
+}
+
+/// The bytes of the shard that has these records, in version 3, with an expiry in seconds or none.
+/// The records may be in any order; of two files, or two xorbs, with one hash the later one counts.
+///
+/// `InvalidArguments` if a record is ill-formed, or the rows of the files, or those of the xorbs,
+/// would pass 4294967295; `OutOfMemory` if an allocation fails.
+pub fn write_records(
+    alloc: Global,
+    files: Vec<MDBFileInfo>,
+    xorbs: Vec<MDBXorbInfo>,
+    expiry: Option<u64>,
+) -> Result<Vec<u8>>
+    ensures written { IfOk result
+        (λ bytes. bytes.items ≡ layout (shard_of files.items xorbs.items) expiry) }
+    ensures shard { IfOk result (λ _. IsShard (shard_of files.items xorbs.items)) }
+    ensures readable { IfOk result
+        (λ bytes. IsBytesOf (shard_of files.items xorbs.items) bytes.items) }
+    ensures admitted { AdmitsAll (CanRecord files.items xorbs.items) result }
+{
+    let mut shard = MDBInMemoryShard::new(alloc);
+    add_files(alloc, &mut shard, files)?;
+    add_xorbs(alloc, &mut shard, xorbs)?;
+    bytes_of(alloc, &shard, expiry)
+}
+
+// Adds files to a shard, one after another.
+fn add_files(alloc: Global, shard: &mut MDBInMemoryShard, files: Vec<MDBFileInfo>) -> Result<()>
+    ensures ok { OnOk result (shard.new.content ≡ with_files shard.old.content files.items) }
+    ensures admitted { AdmitsAll (CanAddFiles shard.old.content files.items) result }
+{
+    for file in files {
+        shard.add_file_reconstruction_info(alloc, file)?;
+    }
+    Ok(())
+}
+
+// Adds xorbs to a shard, one after another.
+fn add_xorbs(alloc: Global, shard: &mut MDBInMemoryShard, xorbs: Vec<MDBXorbInfo>) -> Result<()>
+    ensures ok { OnOk result (shard.new.content ≡ with_xorbs shard.old.content xorbs.items) }
+    ensures admitted { AdmitsAll (CanAddXorbs shard.old.content xorbs.items) result }
+{
+    for xorb in xorbs {
+        shard.add_xorb_block(alloc, xorb)?;
+    }
+    Ok(())
+}
+
+// The bytes of a shard in memory.
+fn bytes_of(alloc: Global, shard: &MDBInMemoryShard, expiry: Option<u64>) -> Result<Vec<u8>>
+    ensures ok { IfOk result (λ bytes. bytes.items ≡ layout shard.now.content expiry) }
+    ensures shard { IfOk result (λ _. IsShard shard.now.content) }
+    ensures width { IfOk result (λ _. IfSome expiry (λ e. e < 2 ^ 64)) }
+    ensures causes { IfErr result (λ e. e ≡ CoreError.OutOfMemory) }
+{
+    let mut bytes = Vec::new(alloc);
+    match MDBShardInfo::serialize_from(alloc, &mut bytes, shard, expiry) {
+        Ok(_) => Ok(bytes),
+        // Writing to a vector fails only if it is out of memory.
+        Err(_) => Err(CoreError::OutOfMemory),
+    }
+}
+
+/// The records of the sections to which the footer of a shard's bytes leads, in their order there,
+/// also of a shard without tables, and with chunk hashes under the shard's key.
+///
+/// The errors are those of [`MDBShardInfo::load_from_reader`],
+/// [`MDBShardInfo::read_all_file_info_sections`] and [`MDBShardInfo::read_all_xorb_blocks_full`].
+pub fn read_records(alloc: Global, bytes: &[u8]) -> Result<Records>
+    ensures any_bytes { MatchResult result (HasRecords bytes.now) (NotRecorded bytes.now) }
+    ensures written { (s : Shard) → IsBytesOf s bytes.now
+        → MatchResult result
+        (λ found. (found.files.items ≡ finite.values s.files)
+        × (found.xorbs.items ≡ finite.values s.xorbs))
+        (λ e. e ≡ CoreError.OutOfMemory) }
+{
+    let mut source = MemorySource::new(bytes);
+    let info = MDBShardInfo::load_from_reader(alloc, &mut source)?;
+    let files = info.read_all_file_info_sections(alloc, &mut source)?;
+    let xorbs = info.read_all_xorb_blocks_full(alloc, &mut source)?;
+    Ok(Records { files, xorbs })
+}
+
+/// Does nothing. Its contract says that the records of a shard, in the order in which
+/// [`read_records`] gives them, are admitted by [`write_records`] and make this shard again.
+pub fn read_records_are_written_again()
+    ensures admitted { (s : Shard) → IsShard s
+        → CanRecord (finite.values s.files) (finite.values s.xorbs) }
+    ensures again { (s : Shard) → IsShard s
+        → shard_of (finite.values s.files) (finite.values s.xorbs) ≡ s }
+{}
