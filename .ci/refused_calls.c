@@ -6,7 +6,7 @@
 #include <stdlib.h>
 #include <string.h>
 
-enum { ROOM = 1 << 20, CALLS = 21 };
+enum { ROOM = 1 << 20, CALLS = 23 };
 
 void *__real_malloc(size_t size);
 void *__real_realloc(void *block, size_t size);
@@ -54,10 +54,22 @@ static union {
         xet_chunk chunks[100];
     } listed;
     struct {
+        xet_listed_file files[100];
+        xet_file_segment segments[1000];
+        xet_listed_xorb xorbs[100];
+        xet_chunk chunks[1000];
+    } lists;
+    struct {
         xet_disagreement first;
         uint8_t bytes[ROOM];
     } agreeing;
 } out, before;
+/* The records of the first shard. */
+static xet_listed_file files[100];
+static xet_file_segment segments[1000];
+static xet_listed_xorb xorbs[100];
+static xet_chunk chunks_of_xorbs[1000];
+static xet_counts counts;
 
 static size_t read_shard(const char *name, uint8_t *bytes) {
     FILE *file = fopen(name, "rb");
@@ -76,7 +88,7 @@ static uint32_t call(int number, size_t *count) {
     size_t differing = 0;
     const char *name = "0000000000000001000000000000000200000000000000030000000000000004.mdb";
     /* These write no count. */
-    if (number == 6 || number > 14)
+    if (number == 6 || (number > 14 && number != 18))
         *count = 0;
     switch (number) {
     case 0:
@@ -113,11 +125,21 @@ static uint32_t call(int number, size_t *count) {
         return xet_file_at(first, first_length, 0, &out.listed.place, &out.listed.file, out.listed.segments, 100);
     case 16:
         return xet_xorb_at(first, first_length, 0, &out.listed.place, &out.listed.xorb, out.listed.chunks, 100);
-    case 17:
-        return xet_hash_from_hex((const uint8_t *)name, 64, out.hashes);
+    case 17: {
+        xet_counts found;
+        uint32_t error = xet_records(first, first_length, out.lists.files, 100, out.lists.segments, 1000,
+                                     out.lists.xorbs, 100, out.lists.chunks, 1000, &found);
+        *count = found.files + found.segments + found.xorbs + found.chunks;
+        return error;
+    }
     case 18:
-        return xet_version() == XET_VERSION_NUMBER ? XET_OK : XET_OTHER;
+        return xet_write(files, counts.files, segments, counts.segments, xorbs, counts.xorbs, chunks_of_xorbs,
+                         counts.chunks, UINT64_MAX, out.bytes, ROOM, count);
     case 19:
+        return xet_hash_from_hex((const uint8_t *)name, 64, out.hashes);
+    case 20:
+        return xet_version() == XET_VERSION_NUMBER ? XET_OK : XET_OTHER;
+    case 21:
         return xet_parse_shard_name((const uint8_t *)name, 68, out.hashes);
     default:
         return xet_load(first, first_length, &out.info);
@@ -129,6 +151,8 @@ int main(int words, char **names) {
         return 2;
     first_length = read_shard(names[1], first);
     second_length = read_shard(names[2], second);
+    if (xet_records(first, first_length, files, 100, segments, 1000, xorbs, 100, chunks_of_xorbs, 1000, &counts) != 0)
+        return 2;
     for (int number = 0; number < CALLS; number++) {
         long turn = 0;
         do {

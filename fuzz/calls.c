@@ -168,6 +168,72 @@ static uint32_t call_find_file(const struct input *input, void *out, size_t capa
     return error;
 }
 
+/* Four lists with room for so many records and items, or with too little room for those at `lacking`, if that is one. */
+struct lists {
+    struct block files, segments, xorbs, chunks;
+};
+
+static uint32_t read_lists(const struct input *input, xet_counts room, int lacking, struct lists *lists,
+                           xet_counts *found) {
+    size_t *rooms[] = {&room.files, &room.segments, &room.xorbs, &room.chunks};
+    if (lacking >= 0)
+        *rooms[lacking] -= 1;
+    struct block out = new_struct(input, sizeof(xet_counts));
+    *lists = (struct lists){new_struct(input, room.files * sizeof(xet_listed_file)),
+                            new_struct(input, room.segments * sizeof(xet_file_segment)),
+                            new_struct(input, room.xorbs * sizeof(xet_listed_xorb)),
+                            new_struct(input, room.chunks * sizeof(xet_chunk))};
+    void *files = lists->files.bytes, *segments = lists->segments.bytes, *xorbs = lists->xorbs.bytes;
+    void *chunks = lists->chunks.bytes, *counted = out.bytes;
+    uint32_t error = xet_records(SHARD(0), files, room.files, segments, room.segments, xorbs, room.xorbs, chunks,
+                                 room.chunks, counted);
+    memcpy(found, out.bytes, sizeof *found);
+    if (error != XET_OK)
+        require(is_filled(&lists->files, 0) && is_filled(&lists->segments, 0) && is_filled(&lists->xorbs, 0) &&
+                    is_filled(&lists->chunks, 0),
+                "an error touches a list");
+    free_block(&out);
+    return error;
+}
+
+static void free_lists(struct lists *lists) {
+    free_block(&lists->files);
+    free_block(&lists->segments);
+    free_block(&lists->xorbs);
+    free_block(&lists->chunks);
+}
+
+/* Reads all records, also with one item less of each kind, and writes them. */
+static uint32_t call_write(const struct input *input, void *out, size_t capacity, size_t *written) {
+    xet_counts counted = {0, 0, 0, 0}, again;
+    struct lists lists;
+    uint32_t error = read_lists(input, counted, -1, &lists, &counted);
+    free_lists(&lists);
+    const size_t numbers[] = {counted.files, counted.segments, counted.xorbs, counted.chunks};
+    bool is_none = !numbers[0] && !numbers[1] && !numbers[2] && !numbers[3];
+    *written = 0;
+    if (error != XET_OK && error != XET_SHORT) {
+        require(is_none, "the counts of an error are others");
+        return error;
+    }
+    require(is_none == (error == XET_OK), "no room is enough");
+    for (int lacking = 0; lacking < 4; lacking++) {
+        if (numbers[lacking] == 0)
+            continue;
+        error = read_lists(input, counted, lacking, &lists, &again);
+        free_lists(&lists);
+        require(error == XET_SHORT && !memcmp(&again, &counted, sizeof again), "too little room is enough");
+    }
+    error = read_lists(input, counted, -1, &lists, &again);
+    require(error == XET_OK && !memcmp(&again, &counted, sizeof again), "the room is too little");
+    const void *files = lists.files.bytes, *segments = lists.segments.bytes, *xorbs = lists.xorbs.bytes;
+    const void *chunks = lists.chunks.bytes;
+    error = xet_write(files, counted.files, segments, counted.segments, xorbs, counted.xorbs, chunks, counted.chunks,
+                      UINT64_MAX, out, capacity, written);
+    free_lists(&lists);
+    return within(xet_write_room(counted), error, *written);
+}
+
 static const struct filling fillings[] = {
     {"xet_union", 1, OF_MERGING, call_union, 3},
     {"xet_difference", 1, OF_MERGING, call_difference, 3},
@@ -177,6 +243,7 @@ static const struct filling fillings[] = {
     {"xet_minimal", 1, OF_SECTIONS, call_minimal, 3},
     {"xet_subset", 1, OF_SECTIONS, call_subset, 3},
     {"xet_write_v2", 1, OF_MERGING, call_write_v2, 2},
+    {"xet_records and xet_write", 1, OF_MERGING, call_write, 3},
     {"xet_eligible", sizeof(xet_hash), OF_SECTIONS, call_eligible, 0},
     {"xet_check", sizeof(xet_finding), BIT(XET_OK), call_check, 0},
     {"xet_find_file", sizeof(xet_file_segment), OF_FINDING, call_find_file, 0},

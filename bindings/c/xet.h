@@ -383,6 +383,72 @@ typedef struct xet_chunk {
 uint32_t xet_xorb_at(const uint8_t *shard, size_t length, uint32_t row, xet_place *place, xet_xorb *xorb,
                      xet_chunk *chunks, size_t capacity);
 
+/* A file of a list: its hash, its SHA-256 and its auxiliary hash, or zeros where it has none, its flags, and how many of
+ * the list of segments are its own. The flags say what it has: bit 31 verification hashes, 30 a SHA-256, 29 an auxiliary
+ * hash. The first file has the first segments of the list, the second those behind them, and so on. */
+typedef struct xet_listed_file {
+    uint64_t hash[4];
+    uint64_t sha256[4];
+    uint64_t aux_hash[4];
+    uint32_t flags;
+    uint32_t segments;
+} xet_listed_file;
+
+/* A xorb of a list: its hash, its flags, how many of the list of chunks are its own, and its bytes, unpacked and on disk.
+ * Its chunks are where those of the xorb before end. */
+typedef struct xet_listed_xorb {
+    uint64_t hash[4];
+    uint32_t flags;
+    uint32_t chunks;
+    uint32_t bytes;
+    uint32_t bytes_on_disk;
+} xet_listed_xorb;
+
+/* How many files, segments, xorbs and chunks there are in four lists. */
+typedef struct xet_counts {
+    size_t files;
+    size_t segments;
+    size_t xorbs;
+    size_t chunks;
+} xet_counts;
+
+/* Reads all records of the sections to which the footer leads, also of a shard without tables, and writes them to the
+ * fronts of four lists: files in the order of their section, their segments, xorbs, and their chunks. Where the shard has
+ * a key, the chunk hashes are under it. Reserved words are not shown. `counts` says how many there are of each. With
+ * XET_SHORT a list has no room for its own, and all lists stay as they are: with all capacities 0 a call asks for the
+ * counts. With any other error the counts are 0.
+ *
+ * XET_SHARD_VERSION, XET_IO: the errors of xet_load; XET_IO also if a section ends too early.
+ * XET_INVALID_SHARD: a file has a row that the version does not have, or a section more than 4294967295 rows.
+ * XET_OUT_OF_MEMORY, XET_SHORT. */
+uint32_t xet_records(const uint8_t *shard, size_t length, xet_listed_file *files, size_t file_capacity,
+                     xet_file_segment *segments, size_t segment_capacity, xet_listed_xorb *xorbs, size_t xorb_capacity,
+                     xet_chunk *chunks, size_t chunk_capacity, xet_counts *counts);
+
+/* Writes the shard that has these files and xorbs, in version 3, with all tables and without a key. The records may be in
+ * any order. Of two files, or two xorbs, with one hash the later one counts. Reserved words are zeros; the hashes of parts
+ * that a file's flags do not name are not read. `expiry` is in seconds, and UINT64_MAX means none.
+ *
+ * So the lists that xet_records makes of a shard without a key, in the form in which this library writes it and with
+ * reserved words that are zeros, are written as the bytes of the same shard, in version 3 and with the expiry given.
+ *
+ * XET_INVALID_ARGUMENTS: the files' numbers of segments do not add up to the number of segments, or those of chunks to
+ *     that of chunks; or there is no such shard: a hash is all ones, a file has flags of no known part, the chunks of a
+ *     xorb have more than 4294967295 bytes in all, or the rows of the files, or of the xorbs, would pass 4294967295.
+ * XET_OUT_OF_MEMORY, XET_SHORT. */
+uint32_t xet_write(const xet_listed_file *files, size_t file_count, const xet_file_segment *segments,
+                   size_t segment_count, const xet_listed_xorb *xorbs, size_t xorb_count, const xet_chunk *chunks,
+                   size_t chunk_count, uint64_t expiry, uint8_t *out, size_t capacity, size_t *written);
+
+/* The room that is enough for xet_write of so many records: 344 bytes, 156 for a file, 96 for a segment, 60 for a xorb
+ * and 64 for a chunk. */
+static inline size_t xet_write_room(xet_counts counts) {
+    const size_t most = SIZE_MAX / 1024;
+    return counts.files > most || counts.segments > most || counts.xorbs > most || counts.chunks > most
+               ? SIZE_MAX
+               : 344 + 156 * counts.files + 96 * counts.segments + 60 * counts.xorbs + 64 * counts.chunks;
+}
+
 /* What is wrong with the bytes of a shard. XET_NO_TAG and XET_OTHER_VERSION have the part XET_HEADER, XET_NO_FOOTER has
  * XET_FOOTER, and XET_TOO_SHORT and XET_OTHER_SIZE have none. A kind that has no part or number has 0 there. */
 enum xet_finding_kind {

@@ -1,3 +1,4 @@
+pub mod Listing
 pub mod Merges
 pub mod Outcomes
 pub mod Segments

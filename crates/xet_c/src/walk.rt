@@ -241,7 +241,7 @@ fn chunks_of(alloc: Global, entries: &[XorbChunkSequenceEntry]) -> Result<Vec<Xe
     Ok(chunks)
 }
 
-fn chunk_of(entry: &XorbChunkSequenceEntry) -> XetChunk
+pub fn chunk_of(entry: &XorbChunkSequenceEntry) -> XetChunk
     ensures { result ≡ c_chunk entry.now }
 {
     let hash = entry.chunk_hash;
