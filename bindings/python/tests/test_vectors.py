@@ -3,6 +3,7 @@
 Runs with pytest, or as a program, which ends with the line 'N passed, M failed'.
 """
 import ctypes
+import dataclasses
 import itertools
 import mmap
 import os
@@ -419,6 +420,103 @@ def test_walks():
     assert next(walk).hash == hash_text("100")
     refused("Io", list, walk)
     refused("Io", list, xet_shards.xorbs(shard.written()[:199]))
+
+
+def records_shard():
+    shard = Shard()
+    shard.add_file("102", "v=365,366", "s=9364", "x=777", "200:0:5:5", "201:1:2:7")
+    shard.add_file("100", *(f"200:{it}:{it + 1}:9" for it in range(70)))
+    shard.add_file("101")
+    shard.add_xorb("11", "21:5", "22:6")
+    shard.add_xorb("10")
+    return shard
+
+
+def test_write():
+    shard = records_shard()
+    files, xorbs = list(xet_shards.files(shard.written())), list(xet_shards.xorbs(shard.written()))
+    assert xet_shards.write(files, xorbs) == xet_shards.write(files[::-1], iter(xorbs[::-1])) == shard.written()
+    assert xet_shards.write(files, xorbs, 7) == shard.written(7)
+    assert xet_shards.write([], []) == Shard().written()
+    # Of two records with one hash the later one counts.
+    other = xet_shards.ListedFile.of(hash_text("101"), [], hash_text("1"))
+    assert xet_shards.write([other, *files], xorbs + xorbs) == shard.written()
+    assert xet_shards.find_file(xet_shards.write([*files, other], []), hash_text("101")) == other.file
+    for it in files:
+        assert xet_shards.ListedFile.of(it.hash, it.file.segments, it.file.sha256, it.file.aux_hash) == it
+    # A shard under a key has its keyed hashes.
+    keyed = list(xet_shards.xorbs(xet_shards.export(shard.written(), hash_text("7"), 0, 0)))
+    assert list(xet_shards.xorbs(xet_shards.write([], keyed))) == keyed != xorbs
+
+
+def test_records_that_no_shard_has():
+    file = xet_shards.ListedFile.of(hash_text("100"), [])
+    chunk = xet_shards.Chunk(hash_text("1"), 0, 2**32 - 1, 0)
+    xorb = xet_shards.Xorb(hash_text("10"), 0, 0, 0, (chunk,))
+    assert xet_shards.write([file], [xorb])
+    refused("InvalidArguments", xet_shards.write, [dataclasses.replace(file, hash="f" * 64)], [])
+    refused("InvalidArguments", xet_shards.write, [dataclasses.replace(file, flags=1)], [])
+    refused("InvalidArguments", xet_shards.write, [], [dataclasses.replace(xorb, hash="f" * 64)])
+    refused("InvalidArguments", xet_shards.write, [], [dataclasses.replace(xorb, chunks=(chunk, chunk))])
+    # The flags are not those of the parts.
+    raises(ValueError, xet_shards.write, [dataclasses.replace(file, flags=1 << 30)], [])
+    segments = [xet_shards.Segment(hash_text("1"), 0, 1, 5, 0, it) for it in (None, hash_text("2"))]
+    raises(ValueError, xet_shards.write, [xet_shards.ListedFile.of(hash_text("100"), segments)], [])
+    raises(ValueError, xet_shards.write, [], [dataclasses.replace(xorb, bytes=2**32)])
+
+
+def test_tables():
+    try:
+        import numpy
+    except ImportError:
+        return print("numpy is not there, so tables were not tested")
+    for shard in (Shard(), records_shard()):
+        written = shard.written()
+        table = xet_shards.table(written)
+        assert xet_shards.from_table(table) == written
+        assert xet_shards.from_table(table, 7) == shard.written(7)
+        reversed_xorbs = dataclasses.replace(table, files=table.files[:0], segments=table.segments[:0])
+        assert xet_shards.from_table(reversed_xorbs) == xet_shards.write([], xet_shards.xorbs(written))
+        # By columns, of any integers.
+        columns = [{name: it[name].astype(object).astype(numpy.uint64) for name in it.dtype.names}
+                   for it in (table.files, table.segments, table.xorbs, table.chunks)]
+        assert xet_shards.from_table(xet_shards.Table(*columns)) == written
+        listed = list(xet_shards.files(written))
+        assert xet_shards.hash_texts(table.files) == [it.hash for it in listed]
+        segments = [part for it in listed for part in it.file.segments]
+        assert xet_shards.hash_texts(table.segments, "xorb") == [it.xorb for it in segments]
+        assert table.files["segments"].tolist() == [len(it.file.segments) for it in listed]
+        chunks = [chunk for it in xet_shards.xorbs(written) for chunk in it.chunks]
+        assert list(zip(table.chunks["start"], table.chunks["bytes"])) == [(it.start, it.bytes) for it in chunks]
+    refused("InvalidArguments", xet_shards.from_table, dataclasses.replace(table, segments=table.segments[1:]))
+    refused("InvalidArguments", xet_shards.from_table, dataclasses.replace(table, chunks=table.chunks[:0]))
+    names = table.xorbs.dtype.names
+    for wrong in (-1, 2**32, 0.5):
+        xorbs = {name: numpy.array([wrong, 0] if name == "bytes" else table.xorbs[name]) for name in names}
+        raises(ValueError, xet_shards.from_table, dataclasses.replace(table, xorbs=xorbs))
+    # Neither reads a table, and a section that is cut short gives nothing.
+    assert (xet_shards.table(xet_shards.minimal(written, 9)).xorbs == table.xorbs).all()
+    refused("Io", xet_shards.table, written[: 48 + 48 * 7] + written[-200:])
+
+
+def test_outputs_of_records():
+    counts, shard = xet_shards._Counts(9, 9, 9, 9), shard_of("xorb 10 21:5 22:6", "file 100 200:0:5:5")
+    kinds = xet_shards._ListedFile, xet_shards._FileSegment, xet_shards._ListedXorb, xet_shards._Chunk
+
+    def records(shard, *rooms):
+        out = [(kind * 3).from_buffer(bytearray(b"\xaa" * 3 * ctypes.sizeof(kind))) for kind in kinds]
+        places = [it for place in zip(out, rooms) for it in place]
+        number = xet_shards._library.xet_records(shard, len(shard), *places, ctypes.byref(counts))
+        return number, (counts.files, counts.segments, counts.xorbs, counts.chunks), [bytes(it) for it in out]
+
+    untouched = [b"\xaa" * 3 * ctypes.sizeof(kind) for kind in kinds]
+    for rooms in ((0, 0, 0, 0), (0, 1, 1, 2), (1, 0, 1, 2), (1, 1, 0, 2), (1, 1, 1, 1)):
+        assert records(shard, *rooms) == (19, (1, 1, 1, 2), untouched)
+    number, found, out = records(shard, 1, 3, 3, 3)
+    assert (number, found) == (0, (1, 1, 1, 2))
+    for it, kind, count in zip(out, kinds, found):
+        assert it[count * ctypes.sizeof(kind) :] == b"\xaa" * (3 - count) * ctypes.sizeof(kind)
+    assert records(shard[:199], 3, 3, 3, 3) == (1, (0, 0, 0, 0), untouched)
 
 
 def test_check():

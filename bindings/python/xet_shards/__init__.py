@@ -15,6 +15,7 @@ The shared object is the file that the environment variable XET_LIBRARY names, e
 from __future__ import annotations
 
 import ctypes
+import importlib
 import mmap
 import os
 import re
@@ -25,9 +26,10 @@ from typing import Any, Callable, Dict, Iterable, Iterator, List, Optional, Sequ
 
 __all__ = [
     "Buffer", "Chunk", "Disagreement", "DisagreementError", "File", "Finding", "Info", "ListedFile", "MalformedError",
-    "MalformedRecord", "NO_EXPIRY", "NO_KEY", "Run", "Segment", "XetError", "Xorb", "check", "difference", "eligible",
-    "export", "files", "find_disagreement", "find_file", "find_malformed", "hash_of_name", "load", "merge", "minimal",
-    "query_chunks", "shard_name", "subset", "union", "write_v2", "xorbs",
+    "MalformedRecord", "NO_EXPIRY", "NO_KEY", "Run", "Segment", "Table", "XetError", "Xorb", "check", "difference",
+    "eligible", "export", "files", "find_disagreement", "find_file", "find_malformed", "from_table", "hash_of_name",
+    "hash_texts", "load", "merge", "minimal", "query_chunks", "shard_name", "subset", "table", "union", "write",
+    "write_v2", "xorbs",
 ]
 
 __version__ = "0.1.0"
@@ -203,6 +205,15 @@ class ListedFile:
     flags: int
     file: File
 
+    @staticmethod
+    def of(
+        file_hash: str, segments: Sequence[Segment], sha256: Optional[str] = None, aux_hash: Optional[str] = None
+    ) -> ListedFile:
+        """Returns the file that has these, with the flags that say so. All segments have verification hashes, or none."""
+        file = File(tuple(segments), sha256, aux_hash)
+        has_verification = any(it.verification is not None for it in file.segments)
+        return ListedFile(file_hash, _flags(has_verification, file), file)
+
 
 @dataclass(frozen=True)
 class Chunk:
@@ -306,6 +317,22 @@ class _Chunk(ctypes.Structure):
     _fields_ = [("hash", _Words), ("start", c_uint32), ("bytes", c_uint32), ("flags", c_uint32)]
 
 
+class _ListedFile(ctypes.Structure):
+    _fields_ = [
+        ("hash", _Words), ("sha256", _Words), ("aux_hash", _Words), ("flags", c_uint32), ("segments", c_uint32),
+    ]
+
+
+class _ListedXorb(ctypes.Structure):
+    _fields_ = [
+        ("hash", _Words), ("flags", c_uint32), ("chunks", c_uint32), ("bytes", c_uint32), ("bytes_on_disk", c_uint32),
+    ]
+
+
+class _Counts(ctypes.Structure):
+    _fields_ = [("files", c_size_t), ("segments", c_size_t), ("xorbs", c_size_t), ("chunks", c_size_t)]
+
+
 class _Finding(ctypes.Structure):
     _fields_ = [("kind", c_uint32), ("part", c_uint32), ("number", c_uint64)]
 
@@ -334,6 +361,8 @@ _LIST = [POINTER(_ShardBytes), c_size_t]
 _HASHES = [POINTER(_Hash), c_size_t]
 _OUT = [POINTER(c_char), c_size_t, POINTER(c_size_t)]
 _TEXT = [c_char_p, c_size_t]
+# Files, segments, xorbs and chunks.
+_LISTS = [c_void_p, c_size_t] * 4
 _CALLS = {
     "xet_load": [*_SHARD, POINTER(_Info)],
     "xet_union": [*_SHARD, *_SHARD, *_OUT],
@@ -352,6 +381,8 @@ _CALLS = {
     "xet_find_file": [*_SHARD, POINTER(_Hash), POINTER(_File), POINTER(_FileSegment), c_size_t],
     "xet_file_at": [*_SHARD, c_uint32, POINTER(_Place), POINTER(_File), POINTER(_FileSegment), c_size_t],
     "xet_xorb_at": [*_SHARD, c_uint32, POINTER(_Place), POINTER(_Xorb), POINTER(_Chunk), c_size_t],
+    "xet_records": [*_SHARD, *_LISTS, POINTER(_Counts)],
+    "xet_write": [*_LISTS, c_uint64, *_OUT],
     "xet_check": [*_SHARD, POINTER(_Finding), c_size_t, POINTER(c_size_t)],
     "xet_version": [],
     "xet_hash_to_hex": [POINTER(_Hash), *_OUT],
@@ -541,6 +572,194 @@ def xorbs(shard: Buffer) -> Iterator[Xorb]:
     for place, xorb, chunks in _walked(_library.xet_xorb_at, shard, _Xorb(), _Chunk, "chunks"):
         listed = tuple(Chunk(_text(it.hash), it.start, it.bytes, it.flags) for it in chunks)
         yield Xorb(_text(place.hash), place.flags, xorb.bytes, xorb.bytes_on_disk, listed)
+
+
+_WITH_VERIFICATION, _WITH_SHA256, _WITH_AUX = 1 << 31, 1 << 30, 1 << 29
+
+
+def _flags(has_verification: bool, file: File) -> int:
+    return (
+        (_WITH_VERIFICATION if has_verification else 0) | (_WITH_SHA256 if file.sha256 is not None else 0)
+        | (_WITH_AUX if file.aux_hash is not None else 0)
+    )
+
+
+def write(files: Iterable[ListedFile], xorbs: Iterable[Xorb], expiry: Optional[int] = None) -> bytes:
+    """Returns the shard that has these files and xorbs, with all tables, and without a key.
+
+    They may be in any order; of two files, or two xorbs, with one hash the later one counts. A file whose flags do not
+    say what it has is a `ValueError`; `ListedFile.of` makes them. It expires at `expiry`, in seconds.
+
+    So `write(files(shard), xorbs(shard))` is a shard without a key again, without expiry and in version 3. The library
+    refuses records that no shard has (`InvalidArguments`): with a hash of all ones, flags of no known part, a xorb whose
+    chunks have 2^32 bytes or more in all.
+    """
+    listed, segments = [], []
+    for it in files:
+        with_verification = bool(it.flags & _WITH_VERIFICATION)
+        if any((segment.verification is not None) != with_verification for segment in it.file.segments) or (
+            (it.flags ^ _flags(with_verification, it.file)) & (_WITH_SHA256 | _WITH_AUX)
+        ):
+            raise ValueError(f"the flags of file {it.hash} do not say what it has")
+        listed.append(_ListedFile(
+            _words(it.hash), _words_or_zero(it.file.sha256), _words_or_zero(it.file.aux_hash), _number(it.flags),
+            len(it.file.segments),
+        ))
+        segments += [
+            _FileSegment(
+                _Segment(_words(part.xorb), *map(_number, (part.flags, part.bytes, part.start, part.end))),
+                _words_or_zero(part.verification),
+            )
+            for part in it.file.segments
+        ]
+    listed_xorbs, chunks = [], []
+    for xorb in xorbs:
+        numbers = map(_number, (xorb.flags, len(xorb.chunks), xorb.bytes, xorb.bytes_on_disk))
+        listed_xorbs.append(_ListedXorb(_words(xorb.hash), *numbers))
+        chunks += [_Chunk(_words(it.hash), *map(_number, (it.start, it.bytes, it.flags))) for it in xorb.chunks]
+    lists: List[Tuple[Any, List[Any]]] = [
+        (_ListedFile, listed), (_FileSegment, segments), (_ListedXorb, listed_xorbs), (_Chunk, chunks),
+    ]
+    return _written([(_array_of(item, items), len(items)) for item, items in lists], expiry)
+
+
+def _written(lists: Sequence[Tuple[Any, int]], expiry: Optional[int]) -> bytes:
+    files, segments, xorbs, chunks = (count for _, count in lists)
+    arguments = [it for both in lists for it in both]
+    time = NO_EXPIRY if expiry is None else _seconds(expiry)
+    # What xet_write_room of xet.h says, without the 344 bytes of every shard.
+    room = 156 * files + 96 * segments + 60 * xorbs + 64 * chunks
+    return _made(room, lambda out, room, written: _library.xet_write(*arguments, time, out, room, byref(written)))
+
+
+def _number(number: int) -> int:
+    if not 0 <= number < 2**32:
+        raise ValueError("a number of a record has 32 bits")
+    return number
+
+
+def _words_or_zero(text: Optional[str]) -> ctypes.Array[c_uint64]:
+    return _Words() if text is None else _words(text)
+
+
+def _array_of(item: Any, items: List[Any]) -> ctypes.Array[Any]:
+    listed = _array(item, len(items))
+    listed[: len(items)] = items
+    return listed
+
+
+@dataclass(frozen=True)
+class Table:
+    """All records of a shard as four structured arrays of numpy, in the order of its sections.
+
+    Each field is a column of numbers, so `pandas.DataFrame(table.chunks)` takes an array as it is, and
+    `pyarrow.table({name: it[name] for name in it.dtype.names})` its columns. A hash is four columns, its words.
+
+    - `files`: `hash0` to `hash3`, `sha256_0` to `sha256_3` and `aux_hash0` to `aux_hash3`, which are zeros where the
+      file has none, `flags`, whose bits 31, 30 and 29 say that it has verification hashes, a SHA-256 and an auxiliary
+      hash, and `segments`, how many of the array of segments are its own, from where those of the file before end
+    - `segments`: `xorb0` to `xorb3`, `flags`, `bytes`, `start`, `end`, and `verification0` to `verification3`
+    - `xorbs`: `hash0` to `hash3`, `flags`, `chunks`, how many of the array of chunks are its own, `bytes`,
+      `bytes_on_disk`
+    - `chunks`: `hash0` to `hash3`, `start`, `bytes`, `flags`
+
+    The array that says to which xorb a chunk belongs is `numpy.repeat(numpy.arange(len(xorbs)), xorbs["chunks"])`.
+    """
+
+    files: Any
+    segments: Any
+    xorbs: Any
+    chunks: Any
+
+
+def _numpy() -> Any:
+    # No other function needs it.
+    return importlib.import_module("numpy")
+
+
+def _types() -> Tuple[Any, ...]:
+    """Returns the types of the four arrays: the structs of xet.h, a hash as four words."""
+    numpy = _numpy()
+    def type_of(*fields: Any, size: int) -> Any:
+        names, formats, offsets, at = [], [], [], 0
+        for name, is_hash in fields:
+            for column in [f"{name}{it}" for it in range(4)] if is_hash else [name]:
+                names.append(column)
+                formats.append("<u8" if is_hash else "<u4")
+                offsets.append(at)
+                at += 8 if is_hash else 4
+        return numpy.dtype({"names": names, "formats": formats, "offsets": offsets, "itemsize": size})
+
+    def numbers(*names: str) -> List[Tuple[str, bool]]:
+        return [(name, False) for name in names]
+
+    hash_of = ("hash", True)
+    return (
+        type_of(hash_of, ("sha256_", True), ("aux_hash", True), *numbers("flags", "segments"),
+                size=ctypes.sizeof(_ListedFile)),
+        type_of(("xorb", True), *numbers("flags", "bytes", "start", "end"), ("verification", True),
+                size=ctypes.sizeof(_FileSegment)),
+        type_of(hash_of, *numbers("flags", "chunks", "bytes", "bytes_on_disk"), size=ctypes.sizeof(_ListedXorb)),
+        type_of(hash_of, *numbers("start", "bytes", "flags"), size=ctypes.sizeof(_Chunk)),
+    )
+
+
+def table(shard: Buffer) -> Table:
+    """Returns all records of a shard, read in one call. It needs numpy."""
+    numpy = _numpy()
+    types, counts = _types(), _Counts()
+    # The first call asks how many there are.
+    with _Addresses(shard) as [data]:
+        arrays = [numpy.empty(0, it) for it in types]
+        number = _library.xet_records(*data, *_places(arrays), byref(counts))
+        if number == _SHORT:
+            sizes = (counts.files, counts.segments, counts.xorbs, counts.chunks)
+            arrays = [numpy.zeros(size, it) for size, it in zip(sizes, types)]
+            number = _library.xet_records(*data, *_places(arrays), byref(counts))
+    _check(number)
+    return Table(*arrays)
+
+
+def _places(arrays: Sequence[Any]) -> List[int]:
+    return [it for array in arrays for it in (array.ctypes.data, len(array))]
+
+
+def from_table(table: Table, expiry: Optional[int] = None) -> bytes:
+    """Returns the shard that has these records, as `write` does. It needs numpy.
+
+    Each of the four may be anything that gives its columns by name, as a `pandas.DataFrame` does, too. An array of the
+    type that `table` returns is not copied. Counts that do not fit are refused (`InvalidArguments`): the files' counts
+    of segments add up to the number of segments, and the xorbs' counts of chunks to that of chunks.
+    """
+    arrays = [
+        _as_type(it, wanted)
+        for it, wanted in zip((table.files, table.segments, table.xorbs, table.chunks), _types())
+    ]
+    return _written([(it.ctypes.data, len(it)) for it in arrays], expiry)
+
+
+def _as_type(columns: Any, wanted: Any) -> Any:
+    """Returns an array of this type, with these columns."""
+    numpy = _numpy()
+    if getattr(columns, "dtype", None) == wanted:
+        return numpy.require(columns, requirements=["C", "A"])
+    made = numpy.zeros(len(columns[wanted.names[0]]), wanted)
+    for name in wanted.names:
+        column = numpy.asarray(columns[name])
+        # A number that is out of range, or no number, is not to become another.
+        if column.size and not (column.dtype.kind in "iu" and int(column.min()) >= 0
+                                and int(column.max()) <= numpy.iinfo(wanted[name]).max):
+            raise ValueError(f"the column {name} has other numbers than {wanted[name]}")
+        made[name] = column
+    return made
+
+
+def hash_texts(array: Any, name: str = "hash") -> List[str]:
+    """Returns the hashes in the four columns of this name, as texts: `hash_texts(table.segments, "xorb")`."""
+    numpy = _numpy()
+    words = numpy.stack([numpy.asarray(array[f"{name}{it}"], "u8") for it in range(4)], axis=-1)
+    digits = words.astype(">u8").tobytes().hex()
+    return [digits[at : at + 64] for at in range(0, len(digits), 64)]
 
 
 def check(shard: Buffer) -> List[Finding]:
