@@ -67,6 +67,14 @@ library! {
         shard: &[u8], row: u32, place: &mut Place, file: &mut File, segments: &mut [FileSegment],
     ) -> u32;
     fn xet_xorb_at(shard: &[u8], row: u32, place: &mut Place, xorb: &mut Xorb, chunks: &mut [Chunk]) -> u32;
+    fn xet_records(
+        shard: &[u8], files: &mut [ListedFile], segments: &mut [FileSegment], xorbs: &mut [ListedXorb],
+        chunks: &mut [Chunk], counts: &mut Counts,
+    ) -> u32;
+    fn xet_write(
+        files: &[ListedFile], segments: &[FileSegment], xorbs: &[ListedXorb], chunks: &[Chunk], expiry: u64,
+        out: &mut [u8], written: &mut usize,
+    ) -> u32;
     fn xet_check(shard: &[u8], findings: &mut [Finding], written: &mut usize) -> u32;
     fn xet_version() -> u32;
     fn xet_hash_from_hex(text: &[u8], hash: &mut Hash) -> u32;
@@ -153,5 +161,34 @@ pub struct Xorb {
     pub found: bool,
     pub bytes: u32,
     pub bytes_on_disk: u32,
+    pub chunks: usize,
+}
+
+#[repr(C)]
+#[derive(Clone, Copy, Default)]
+pub struct ListedFile {
+    pub hash: Hash,
+    pub sha256: Hash,
+    pub aux_hash: Hash,
+    pub flags: u32,
+    pub segments: u32,
+}
+
+#[repr(C)]
+#[derive(Clone, Copy, Default)]
+pub struct ListedXorb {
+    pub hash: Hash,
+    pub flags: u32,
+    pub chunks: u32,
+    pub bytes: u32,
+    pub bytes_on_disk: u32,
+}
+
+#[repr(C)]
+#[derive(Default)]
+pub struct Counts {
+    pub files: usize,
+    pub segments: usize,
+    pub xorbs: usize,
     pub chunks: usize,
 }

@@ -25,6 +25,7 @@ mod hash;
 mod lookup;
 mod name;
 mod output;
+mod records;
 mod walk;
 mod write;
 
@@ -37,6 +38,7 @@ pub use finding::{check, Finding, Part};
 pub use hash::Hash;
 pub use lookup::{eligible, find_file, load, query_chunks, File, Info, Run, Segment};
 pub use name::{hash_of_name, shard_name};
+pub use records::{records, write_records, Records, WITH_AUX, WITH_SHA256, WITH_VERIFICATION};
 pub use walk::{files, xorbs, Chunk, FileIter, ListedFile, Xorb, XorbIter};
 pub use write::{export, minimal, subset, write_v2, Export, Minimal, Subset, Xorbs};
 

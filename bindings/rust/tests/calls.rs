@@ -5,7 +5,9 @@ mod common;
 use common::{hash, Shard};
 use std::error::Error as _;
 use std::thread;
-use xet_shards::{Disagreement, Error, Export, Finding, Hash, Minimal, Part, RecordHash, NO_EXPIRY, NO_KEY};
+use xet_shards::{
+    Disagreement, Error, Export, File, Finding, Hash, ListedFile, Minimal, Part, RecordHash, Xorb, NO_EXPIRY, NO_KEY,
+};
 
 /// The bytes of a shard of `file` and `xorb` lines.
 fn shard_of(lines: &[&str]) -> Vec<u8> {
@@ -172,4 +174,61 @@ fn findings() {
     let mut longer = shard.clone();
     longer.insert(shard.len() - 200, 0);
     assert_eq!(xet_shards::check(&longer), Ok(vec![Finding::OtherSize(shard.len() as u64)]));
+}
+
+#[test]
+fn records_in_and_out() {
+    let mut shard = Shard::default();
+    shard.add_file(&["102", "v=365,366", "s=9364", "x=777", "200:0:5:5", "201:1:2:7"]);
+    shard.add_file(&["101"]);
+    shard.add_xorb(&["11", "21:5", "22:6"]);
+    shard.add_xorb(&["10"]);
+    let bytes = shard.written(NO_EXPIRY, 3);
+    let mut records = xet_shards::records(&bytes).expect("records");
+    assert_eq!(records.files, xet_shards::files(&bytes).map(Result::unwrap).collect::<Vec<_>>());
+    assert_eq!(records.xorbs, xet_shards::xorbs(&bytes).map(Result::unwrap).collect::<Vec<_>>());
+    assert_eq!(xet_shards::write_records(&records.files, &records.xorbs, None).as_ref(), Ok(&bytes));
+    assert_eq!(xet_shards::write_records(&records.files, &records.xorbs, Some(7)), Ok(shard.written(7, 3)));
+    records.files.reverse();
+    records.xorbs.reverse();
+    assert_eq!(xet_shards::write_records(&records.files, &records.xorbs, None).as_ref(), Ok(&bytes));
+    // Of two records with one hash the later one counts.
+    let other = ListedFile::new(
+        hash("101"),
+        File { segments: vec![], verification: None, sha256: Some(hash("1")), aux_hash: None },
+    );
+    let written = |files: &[ListedFile]| xet_shards::write_records(files, &records.xorbs, None).expect("a shard");
+    let twice = [&[other.clone()][..], &records.files].concat();
+    assert_eq!(written(&twice), bytes);
+    assert_ne!(written(&[&records.files[..], &[other]].concat()), bytes);
+    assert_eq!(xet_shards::write_records(&[], &[], None), Ok(Shard::default().written(NO_EXPIRY, 3)));
+    // A shard without tables has the same records, here but for the verification hashes; one under a key has other hashes
+    // of chunks.
+    let minimal = Minimal { now: 0, verification: false, aux_rows: true };
+    let minimal = xet_shards::minimal(&bytes, &minimal).expect("a minimal shard");
+    let found = xet_shards::records(&minimal).expect("records");
+    assert_eq!((found.files[1].file.sha256, found.files[1].file.verification.as_ref()), (Some(hash("9364")), None));
+    assert_eq!(found.files[1].file.segments, records.files[0].file.segments);
+    let keyed = xet_shards::export(&bytes, &Export::new(hash("7"), 0, 0)).expect("an export");
+    let keyed = xet_shards::records(&keyed).expect("records");
+    assert_eq!(keyed.xorbs.iter().map(|it| it.hash).collect::<Vec<_>>(), [hash("10"), hash("11")]);
+    assert_ne!(keyed.xorbs[1].chunks[0].hash, hash("21"));
+    assert_eq!(xet_shards::records(&bytes[..199]), Err(Error::Io));
+}
+
+#[test]
+fn records_that_no_shard_has() {
+    let file = File { segments: vec![], verification: None, sha256: None, aux_hash: None };
+    let file = ListedFile::new(hash("100"), file);
+    let xorb = Xorb { hash: hash("10"), flags: 0, bytes: 0, bytes_on_disk: 0, chunks: vec![] };
+    let chunk = |bytes| xet_shards::Chunk { bytes, ..Default::default() };
+    let refused = Err(Error::InvalidArguments);
+    let one = |file: &ListedFile, xorb: &Xorb| xet_shards::write_records(&[file.clone()], &[xorb.clone()], None);
+    assert!(one(&file, &xorb).is_ok());
+    assert_eq!(one(&ListedFile { hash: Hash([u64::MAX; 4]), ..file.clone() }, &xorb), refused);
+    assert_eq!(one(&ListedFile { flags: 1, ..file.clone() }, &xorb), refused);
+    assert_eq!(one(&ListedFile { flags: xet_shards::WITH_SHA256, ..file.clone() }, &xorb), refused);
+    assert_eq!(one(&file, &Xorb { hash: Hash([u64::MAX; 4]), ..xorb.clone() }), refused);
+    assert!(one(&file, &Xorb { chunks: vec![chunk(u32::MAX)], ..xorb.clone() }).is_ok());
+    assert_eq!(one(&file, &Xorb { chunks: vec![chunk(u32::MAX), chunk(1)], ..xorb }), refused);
 }
