@@ -9,7 +9,7 @@ use Rattle.xet_base.proofs.Bytes.{length-u64_bytes}
 use Rattle.xet_base.proofs.KnownTable.{u64_from_bytes-bytes}
 use Rattle.xet_base.proofs.Lists.{front_is, rest_is}
 
-hash_of-bytes : (h : DataHash) → IsHash h → hash_of (hash_bytes h) ≡ h
+pub hash_of-bytes : (h : DataHash) → IsHash h → hash_of (hash_bytes h) ≡ h
 unfolding hash_of hash_bytes
 hash_of-bytes h fits =
     let a = u64_bytes h.word0 in

@@ -21,3 +21,4 @@ pub mod Collecting
 pub mod KnownTable
 mod Lanes
 pub mod KeyedHash
+pub mod Blake3

@@ -1,3 +1,4 @@
+pub mod Blake3
 pub mod Bytes
 pub mod Errors
 pub mod Hash

@@ -5,13 +5,18 @@ ghost use Rattle.xet_base.specs.KeyedHash.{add32, xor_rotate, mix, mix_columns, 
 ghost use Rattle.xet_base.specs.Steps.Lanes.{words_in};
 
 mod four;
+mod tree;
 
 use crate::fields::put_u32;
 pub(crate) use four::keyed_bytes_four;
 use std::simd::u32x4;
+pub(crate) use tree::blake3_bytes;
 
 // The state or the message.
 type Words = [u32; 16];
+
+// A key, or what a chunk or a part of the tree comes to.
+type Eight = [u32; 8];
 
 // The state as four rows of four words. A step on rows is one on each column.
 type Rows = (u32x4, u32x4, u32x4, u32x4);

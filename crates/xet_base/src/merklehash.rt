@@ -6,11 +6,12 @@ ghost use Rattle.std.specs.Str.{str_to_ascii_lowercase};
 ghost use Rattle.xet_base.specs.Bytes.{u64_bytes};
 ghost use Rattle.xet_base.specs.Hash.{IsHash, words_of, hash_bytes, IsEligible};
 ghost use Rattle.xet_base.specs.KeyedHash.{hmac};
+ghost use Rattle.xet_base.specs.Blake3.{keyed_hash};
 ghost use Rattle.xet_base.specs.Hex.{hex_digit, hex_digits, hash_hex, IsHexDigit, IsHexText, Spells};
 
 use crate::error::{CoreError, Result};
 use crate::fields::split_u64;
-use crate::keyed_hash::{keyed_bytes, keyed_bytes_four};
+use crate::keyed_hash::{blake3_bytes, keyed_bytes, keyed_bytes_four};
 use std::alloc::{AllocError, Global};
 use std::fmt;
 use std::ops::Index;
@@ -53,6 +54,13 @@ pub fn hash_is_global_dedup_eligible(hash: &MerkleHash) -> bool
     ensures { IsTrue result ↔ IsEligible hash.now }
 {
     hash.word3 % MDB_SHARD_GLOBAL_DEDUP_CHUNK_MODULUS == 0
+}
+
+/// The keyed hash of some bytes: BLAKE3's keyed mode. Allocates nothing.
+pub fn keyed_hash(key: HMACKey, bytes: &[u8]) -> DataHash
+    ensures { result ≡ keyed_hash key bytes.now }
+{
+    DataHash::from_32(&blake3_bytes(&key.as_bytes(), bytes))
 }
 
 impl From<[u64; 4]> for DataHash {

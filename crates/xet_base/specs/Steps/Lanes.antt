@@ -20,3 +20,9 @@ lane j vectors =
     ∷ lane_at vectors 4 j ∷ lane_at vectors 5 j ∷ lane_at vectors 6 j ∷ lane_at vectors 7 j
     ∷ lane_at vectors 8 j ∷ lane_at vectors 9 j ∷ lane_at vectors 10 j ∷ lane_at vectors 11 j
     ∷ lane_at vectors 12 j ∷ lane_at vectors 13 j ∷ lane_at vectors 14 j ∷ lane_at vectors 15 j ∷ []
+
+-- the eight words in lane j of vectors, each of which has one word of four
+abbrev pub lane_of_eight : ℕ → List (List ℕ) → List ℕ
+lane_of_eight j vectors =
+    lane_at vectors 0 j ∷ lane_at vectors 1 j ∷ lane_at vectors 2 j ∷ lane_at vectors 3 j
+    ∷ lane_at vectors 4 j ∷ lane_at vectors 5 j ∷ lane_at vectors 6 j ∷ lane_at vectors 7 j ∷ []

@@ -4,6 +4,8 @@ ghost use Rattle.std.specs.Prelude.{◌≡◌, ℕ, ◌<◌, [], ◌∷◌, map,
 ghost use Rattle.xet_base.specs.KeyedHash.{mix_columns, mix_diagonals, permuted, state_after, initial_state, message_of, keyed_bytes};
 ghost use Rattle.xet_base.specs.Steps.Lanes.{lane};
 
+pub(super) mod chunks;
+
 use super::{Words, digest, mix, words_of};
 use std::simd::u32x4;
 
