@@ -3,6 +3,7 @@ pub mod TwoShards
 pub mod Trees
 pub mod Agreement
 pub mod Steps
+pub use Rattle.xet_base.specs.Blake3
 pub use Rattle.xet_base.specs.Errors
 pub use Rattle.xet_base.specs.Hash
 pub use Rattle.xet_base.specs.Hex

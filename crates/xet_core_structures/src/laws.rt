@@ -15,9 +15,10 @@ ghost use Rattle.std.specs.List.Sorted.{IsStrictlySortedBy};
 ghost use Rattle.xet_base.specs.declared.merklehash.DataHash.{DataHash};
 ghost use Rattle.xet_base.specs.declared.error.CoreError.{CoreError};
 ghost use Rattle.xet_base.specs.Errors.{variant_number};
-ghost use Rattle.xet_base.specs.Hash.{IsHash, hash_cmp, words_of};
+ghost use Rattle.xet_base.specs.Blake3.{keyed_hash};
+ghost use Rattle.xet_base.specs.Hash.{IsHash, hash_bytes, hash_cmp, words_of};
 ghost use Rattle.xet_base.specs.Hex.{hash_hex, IsHexText, Spells};
-ghost use Rattle.xet_base.specs.KeyedHash.{no_key};
+ghost use Rattle.xet_base.specs.KeyedHash.{hmac, no_key};
 ghost use Rattle.xet_base.specs.Source.{Source};
 ghost use Rattle.xet_core_structures.specs.declared.set_operations.MergePlan.{MergePlan};
 ghost use Rattle.xet_core_structures.specs.TwoShards.ByteResults.{keyed_info, keyed_layout, HaveResult, UnitesBytes};
@@ -350,4 +351,9 @@ pub fn unions_with_differences()
         → ShardsAgree a b → HasPartsOf a b → IsDifference a b d → HoldsShard key a a_1
         → HoldsShard key a a_2 → HoldsShard key b b_1 → HoldsShard key d d_1
         → UnitesBytes a_1 b_1 x → UnitesBytes a_2 d_1 y → x ≡ y }
+{}
+
+/// The keyed hash of a hash is that of its 32 bytes.
+pub fn hmac_hashes_the_bytes()
+    ensures { (key hash : DataHash) → hmac key hash ≡ keyed_hash key (hash_bytes hash) }
 {}
