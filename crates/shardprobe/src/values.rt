@@ -14,7 +14,7 @@ use std::alloc::Global;
 use std::io::{self, Write};
 use xet_core_structures::error::CoreError;
 use xet_core_structures::file_structs::FileDataSequenceHeader;
-use xet_core_structures::merklehash::MerkleHash;
+use xet_core_structures::merklehash::{MerkleHash, keyed_hash};
 use xet_core_structures::utils::{parse_shard_filename, shard_file_name};
 use xet_core_structures::xorb_structs::XorbChunkSequenceEntry;
 
@@ -27,6 +27,7 @@ impl Probe {
             ["from_hex", text @ ..] => show_from_hex(alloc, text, out),
             ["from_bytes", digits @ ..] => self.show_from_bytes(digits, out),
             ["hmac", key, hash] => show_hmac(key, hash, out),
+            ["hash_bytes", key, count] => show_hash_bytes(alloc, key, count, out),
             ["name", hash] => show_name(alloc, hash, out),
             ["parse_name", text] => Ok(show_line(&parse_shard_filename(text), out)?),
             ["error", "other", text] => Err(Stop::Refused(CoreError::other(alloc, text))),
@@ -76,6 +77,16 @@ fn show_from_hex(alloc: Global, text: &[&str], out: &mut Vec<u8>) -> Result<(), 
 fn show_hmac(key: &str, hash: &str, out: &mut Vec<u8>) -> Result<(), Stop> {
     let keyed = parse_hash(hash)?.hmac(parse_key(key)?);
     Ok(writeln!(out, "{keyed}")?)
+}
+
+// Prints the keyed hash of so many bytes: 0, 1 and so on to 250, and again.
+fn show_hash_bytes(alloc: Global, key: &str, count: &str, out: &mut Vec<u8>) -> Result<(), Stop> {
+    let mut bytes = Vec::new(alloc);
+    for i in 0..parse_u32(count)? {
+        bytes.push((i % 251) as u8)?;
+    }
+    let hash = keyed_hash(parse_key(key)?, bytes.as_slice());
+    Ok(writeln!(out, "{hash}")?)
 }
 
 fn show_name(alloc: Global, hash: &str, out: &mut Vec<u8>) -> Result<(), Stop> {
