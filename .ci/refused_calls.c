@@ -141,6 +141,10 @@ static uint32_t call(int number, size_t *count) {
         return xet_version() == XET_VERSION_NUMBER ? XET_OK : XET_OTHER;
     case 21:
         return xet_parse_shard_name((const uint8_t *)name, 68, out.hashes);
+    case 20:
+        return xet_hash_bytes(&file, first, first_length, out.hashes);
+    case 21:
+        return xet_hmac(&file, chunks, out.hashes);
     default:
         return xet_load(first, first_length, &out.info);
     }

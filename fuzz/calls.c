@@ -362,6 +362,17 @@ static void check_texts(const struct input *input) {
     }
 }
 
+/* Both write a hash, and have no error. */
+static void check_hashes(const struct input *input) {
+    called = "xet_hash_bytes";
+    struct block hash = new_struct(input, sizeof(xet_hash));
+    void *out = hash.bytes;
+    result(xet_hash_bytes(&input->file, input->shards[0].bytes, input->shards[0].length, out), BIT(XET_OK));
+    called = "xet_hmac";
+    result(xet_hmac(&input->file, &input->file, out), BIT(XET_OK));
+    free_block(&hash);
+}
+
 /* A call that reads the record at a row of a section. */
 struct reading {
     const char *name;
@@ -451,4 +462,5 @@ void make_calls(const struct input *input, struct random *random, struct tally *
     check_walk(&readings[0], input);
     check_walk(&readings[1], input);
     check_texts(input);
+    check_hashes(input);
 }

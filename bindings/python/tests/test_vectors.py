@@ -310,6 +310,24 @@ def test_names():
     raises(ValueError, xet_shards.shard_name, name)
 
 
+def test_hashes():
+    # b3sum --keyed, with the key of the bytes 0 to 31.
+    key = xet_shards._text([int.from_bytes(bytes(range(at, at + 8)), "little") for at in (0, 8, 16, 24)])
+    for length, wanted in (
+        (0, "cd715d99192b49730998c0ec4dd7e9b1c295bc001b2f73eb8f47d6d49d5fb17c"),
+        (1025, "a004b8a947312282e2aed8b821a9f9c321e76bb71ba5d150b34973f2e8d5e652"),
+        (102400, "0616e87804cf2eabcb83c58e9d03a65be203e9ef35238aced23053ba043c31d7"),
+    ):
+        data = bytes(i % 251 for i in range(length))
+        assert xet_shards.hash_bytes(key, data) == wanted
+    # The hash of a hash is that of its bytes.
+    words = (21, 1, 2**63, 255)
+    data = b"".join(word.to_bytes(8, "little") for word in words)
+    assert xet_shards.hmac(key, xet_shards._text(words)) == xet_shards.hash_bytes(key, data)
+    raises(ValueError, xet_shards.hash_bytes, key[1:], b"")
+    raises(ValueError, xet_shards.hmac, key, key[1:])
+
+
 def test_digits():
     digits = b"000000000000000100000000000000020000000000000003000000000000000a"
     words, written = xet_shards._Hash((1, 2, 3, 10)), ctypes.c_size_t()

@@ -27,9 +27,9 @@ from typing import Any, Callable, Dict, Iterable, Iterator, List, Optional, Sequ
 __all__ = [
     "Buffer", "Chunk", "Disagreement", "DisagreementError", "File", "Finding", "Info", "ListedFile", "MalformedError",
     "MalformedRecord", "NO_EXPIRY", "NO_KEY", "Run", "Segment", "Table", "XetError", "Xorb", "check", "difference",
-    "eligible", "export", "files", "find_disagreement", "find_file", "find_malformed", "from_table", "hash_of_name",
-    "hash_texts", "load", "merge", "minimal", "query_chunks", "shard_name", "subset", "table", "union", "write",
-    "write_v2", "xorbs",
+    "eligible", "export", "files", "find_disagreement", "find_file", "find_malformed", "from_table", "hash_bytes",
+    "hash_of_name", "hash_texts", "hmac", "load", "merge", "minimal", "query_chunks", "shard_name", "subset", "table",
+    "union", "write", "write_v2", "xorbs",
 ]
 
 __version__ = "0.1.0"
@@ -389,6 +389,8 @@ _CALLS = {
     "xet_hash_from_hex": [*_TEXT, POINTER(_Hash)],
     "xet_shard_name": [POINTER(_Hash), *_OUT],
     "xet_parse_shard_name": [*_TEXT, POINTER(_Hash)],
+    "xet_hash_bytes": [POINTER(_Hash), *_SHARD, POINTER(_Hash)],
+    "xet_hmac": [POINTER(_Hash), POINTER(_Hash), POINTER(_Hash)],
 }
 
 
@@ -1011,4 +1013,22 @@ def hash_of_name(name: str) -> str:
     # A name of the file system may have bytes that are no text.
     text, found = name.encode("utf-8", "surrogatepass"), _Hash()
     _check(_library.xet_parse_shard_name(text, len(text), byref(found)))
+    return _text(found.words)
+
+
+def hash_bytes(key: str, data: Buffer) -> str:
+    """Returns the hash of some bytes under a key: BLAKE3's keyed mode.
+
+    Of the bytes of a shard, under the key that the storage has for this, it is the hash in the name of the shard's file.
+    """
+    under, found = _Hash(_words(key)), _Hash()
+    with _Addresses(data) as [given]:
+        _check(_library.xet_hash_bytes(byref(under), *given, byref(found)))
+    return _text(found.words)
+
+
+def hmac(key: str, chunk_hash: str) -> str:
+    """Returns what an export under this key has of a chunk with this hash."""
+    under, wanted, found = _Hash(_words(key)), _Hash(_words(chunk_hash)), _Hash()
+    _check(_library.xet_hmac(byref(under), byref(wanted), byref(found)))
     return _text(found.words)

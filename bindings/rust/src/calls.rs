@@ -79,6 +79,8 @@ library! {
     fn xet_version() -> u32;
     fn xet_hash_from_hex(text: &[u8], hash: &mut Hash) -> u32;
     fn xet_parse_shard_name(name: &[u8], hash: &mut Hash) -> u32;
+    fn xet_hash_bytes(key: &Hash, bytes: &[u8], hash: &mut Hash) -> u32;
+    fn xet_hmac(key: &Hash, hash: &Hash, keyed: &mut Hash) -> u32;
 }
 
 /// The bytes of a shard, in a list of shards.

@@ -37,7 +37,7 @@ pub use error::Error;
 pub use finding::{check, Finding, Part};
 pub use hash::Hash;
 pub use lookup::{eligible, find_file, load, query_chunks, File, Info, Run, Segment};
-pub use name::{hash_of_name, shard_name};
+pub use name::{hash_bytes, hash_of_name, hmac, shard_name};
 pub use records::{records, write_records, Records, WITH_AUX, WITH_SHA256, WITH_VERIFICATION};
 pub use walk::{files, xorbs, Chunk, FileIter, ListedFile, Xorb, XorbIter};
 pub use write::{export, minimal, subset, write_v2, Export, Minimal, Subset, Xorbs};

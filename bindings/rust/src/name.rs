@@ -1,4 +1,4 @@
-//! The names of shard files.
+//! The names of shard files, and hashes under a key.
 
 use crate::error::check;
 use crate::{calls, Hash, Result};
@@ -30,4 +30,34 @@ pub fn hash_of_name(name: &str) -> Result<Hash> {
     let mut hash = Hash::default();
     check(calls::xet_parse_shard_name(name.as_bytes(), &mut hash))?;
     Ok(hash)
+}
+
+/// The hash of some bytes under a key: BLAKE3's keyed mode. Of the bytes of a shard, under the key that the storage has
+/// for this, it is the hash in the name of the shard's file.
+///
+/// ```
+/// // b3sum --keyed, with the key of the bytes 0 to 31, of no byte.
+/// let key = "07060504030201000f0e0d0c0b0a090817161514131211101f1e1d1c1b1a1918".parse().unwrap();
+/// let hash = xet_shards::hash_bytes(key, b"");
+/// assert_eq!(hash.to_string(), "cd715d99192b49730998c0ec4dd7e9b1c295bc001b2f73eb8f47d6d49d5fb17c");
+/// ```
+pub fn hash_bytes(key: Hash, bytes: &[u8]) -> Hash {
+    let mut hash = Hash::default();
+    // It has no error.
+    calls::xet_hash_bytes(&key, bytes, &mut hash);
+    hash
+}
+
+/// What an export under this key has of a chunk with this hash: the hash of its 32 bytes under the key.
+///
+/// ```
+/// let (key, hash) = ([7, 1, 0, 0].into(), [21, 1, 0, 0].into());
+/// let keyed = xet_shards::hmac(key, hash);
+/// assert_eq!(keyed.to_string(), "8e0f3ba67ec33a6eb9227792b2f55bf2609ccb2ea23ed4251b188d02aefae96a");
+/// ```
+pub fn hmac(key: Hash, hash: Hash) -> Hash {
+    let mut keyed = Hash::default();
+    // It has no error.
+    calls::xet_hmac(&key, &hash, &mut keyed);
+    keyed
 }

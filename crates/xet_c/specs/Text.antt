@@ -1,4 +1,4 @@
--- Hashes and their texts.
+-- Hashes and their texts, and hashes under a key.
 use Rattle.std.specs.Prelude.{◌≡◌, ◌⊎◌, ℕ, List}
 use Rattle.xet_core_structures.specs.declared.merklehash.DataHash.{DataHash}
 use Rattle.xet_c.specs.declared.hash.XetHash.{XetHash}
@@ -15,3 +15,7 @@ abbrev pub Reads : (List ℕ → DataHash → Type 0) → (List ℕ → Type 0) 
 Reads Names HasForm text error old new answer =
     ((h : DataHash) × Names text h × (new ≡ c_hash h) × (answer ≡ 0))
     ⊎ ((¬ HasForm text) × (new ≡ old) × (answer ≡ error))
+
+-- the hash that a key with these words gives was written
+abbrev pub Hashes : (DataHash → DataHash) → XetHash → XetHash → ℕ → Type 0
+Hashes Of key new answer = (k : DataHash) × (c_hash k ≡ key) × (new ≡ c_hash (Of k)) × (answer ≡ 0)

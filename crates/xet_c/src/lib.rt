@@ -14,6 +14,7 @@ mod eligible;
 mod export;
 mod find;
 mod hash;
+mod keyed;
 mod listed;
 mod load;
 mod merge;
