@@ -231,12 +231,24 @@ fn inquiry_in<'a>(name: &str, matches: &ArgMatches<'a>) -> Result<Inquiry, Refus
         "info" => Ok(Inquiry::Summary),
         "check" => Ok(Inquiry::Check {
             named: matches.get_flag(id::NAME),
+            key: hash_key_in(matches)?,
         }),
+        "name" => match hash_key_in(matches)? {
+            Some(key) => Ok(Inquiry::Name { key }),
+            None => Err(Refusal::Missing(id::HASH_KEY)),
+        },
         "files" => Ok(Inquiry::Files { long }),
         "xorbs" => Ok(Inquiry::Xorbs { long }),
         "chunks" => Ok(Inquiry::Chunks { long }),
         "eligible" => Ok(Inquiry::Eligible),
         _ => Err(Refusal::Missing("a command")),
+    }
+}
+
+fn hash_key_in<'a>(matches: &ArgMatches<'a>) -> Result<Option<MerkleHash>, Refusal<'a>> {
+    match matches.get_str(id::HASH_KEY) {
+        Some(text) => Ok(Some(hash_of(text)?)),
+        None => Ok(None),
     }
 }
 

@@ -18,6 +18,8 @@ pub mod id {
 
     pub const KEY: &str = "HEX";
 
+    pub const HASH_KEY: &str = "KEY";
+
     pub const NOW: &str = "NOW";
 
     pub const VALID: &str = "VALID";
@@ -262,6 +264,29 @@ const COMMANDS: &[Row] = &[
             flag!(
                 NAME,
                 "Checks too that each name is 64 hexadecimal digits and .mdb"
+            ),
+            option!(
+                HASH_KEY,
+                "hash-key",
+                Value,
+                "With --name: the key, of 64 hexadecimal digits, under which the bytes have the hash in the name"
+            ),
+            JSON,
+        ],
+    },
+    Row {
+        name: "name",
+        about: "Prints the names that files have by the hashes of their bytes",
+        examples: help::NAME,
+        usage: None,
+        arguments: &[
+            FILES,
+            LIST,
+            option!(
+                HASH_KEY,
+                "hash-key",
+                NeededValue,
+                "The key of the hash: 64 hexadecimal digits"
             ),
             JSON,
         ],

@@ -32,6 +32,9 @@ Examples:
 
 pub const CHECK: &str = "Example:\n  mdb check cache";
 
+pub const NAME: &str = "Example:\n  mdb name a.mdb \
+    --hash-key 0000000000000001000000000000000200000000000000030000000000000004";
+
 pub const UNION: &str = "Example:\n  mdb union a.mdb b.mdb -o both.mdb";
 
 pub const DIFF: &str = "Example:\n  mdb diff old.mdb new.mdb -o added.mdb";

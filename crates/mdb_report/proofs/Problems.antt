@@ -8,7 +8,7 @@ use Rattle.xet_core_structures.specs.declared.merklehash.DataHash.{DataHash}
 use Rattle.shard_bytes.specs.declared.check.Finding.{Finding}
 use Rattle.shard_bytes.specs.Checking.{IsFinding}
 use Rattle.mdb_report.specs.declared.problem.Problem.{Problem}
-use Rattle.mdb_report.specs.declared.problem.Problem.TheVariants.{Bytes, Name}
+use Rattle.mdb_report.specs.declared.problem.Problem.TheVariants.{Bytes, Name, Hash}
 use Rattle.mdb_report.specs.Problems.{IsProblem}
 
 -- each finding is a problem
@@ -45,6 +45,7 @@ pub all_if_named : (name bytes : List ℕ) (fs : List Finding) (problems : List 
     → ((f : Finding) → IsFinding bytes f → Contains fs f) → problems ≡ map Bytes fs → (p : Problem) → IsProblem name bytes p → Contains problems p
 all_if_named name bytes fs problems found accepted has all are (Bytes f) true_of = all_findings_are bytes fs problems all are f true_of
 all_if_named name bytes fs problems found accepted has all are Name unnamed = absurd (unnamed (accepted.0 has))
+all_if_named name bytes fs problems found accepted has all are (Hash hash) none = absurd none
 
 -- with the name's problem all are there
 pub all_with_name : (name bytes : List ℕ) (fs : List Finding) (some problems : List Problem) → ((f : Finding) → IsFinding bytes f → Contains fs f) → some ≡ map Bytes fs
@@ -52,3 +53,4 @@ pub all_with_name : (name bytes : List ℕ) (fs : List Finding) (some problems :
 all_with_name name bytes fs some problems all are more (Bytes f) true_of =
     subst (λ ps. Contains ps (Bytes f)) (sym more) (Contains-append_left some (Name ∷ []) (Bytes f) (all_findings_are bytes fs some all are f true_of))
 all_with_name name bytes fs some problems all are more Name unnamed = subst (λ ps. Contains ps Name) (sym more) (Contains-push some Name)
+all_with_name name bytes fs some problems all are more (Hash hash) none = absurd none

@@ -13,7 +13,7 @@ use Rattle.mdb_report.specs.Summary.{ArePartsOf}
 abbrev pub FindsProblems : Inquiry → Type 0
 FindsProblems Summary = ⊤
 FindsProblems Brief = ⊤
-FindsProblems (Check named) = ⊤
+FindsProblems (Check named key) = ⊤
 FindsProblems _ = ⊥
 
 -- the inquiry looks something up: files by their hashes, or a run of chunks
@@ -40,5 +40,5 @@ HasAscendingParts bytes =
 abbrev pub IsClean : Inquiry → List ℕ → Type 0
 IsClean Summary bytes = HasAscendingParts bytes
 IsClean Brief bytes = HasAscendingParts bytes
-IsClean (Check named) bytes = IsWhole bytes
+IsClean (Check named key) bytes = IsWhole bytes
 IsClean _ bytes = ⊤

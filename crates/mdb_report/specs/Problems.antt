@@ -9,12 +9,13 @@ use Rattle.shard_bytes.specs.declared.check.Finding.{Finding}
 use Rattle.shard_bytes.specs.declared.check.Finding.TheVariants.{Cut, Refused, OutOfOrder, Differs}
 use Rattle.shard_bytes.specs.Checking.{IsFinding}
 use Rattle.mdb_report.specs.declared.problem.Problem.{Problem}
-use Rattle.mdb_report.specs.declared.problem.Problem.TheVariants.{Bytes, Name}
+use Rattle.mdb_report.specs.declared.problem.Problem.TheVariants.{Bytes, Name, Hash}
 
--- a problem is true of a file with this name and these bytes
+-- a problem is true of a file with this name and these bytes; without a key none is of a hash
 abbrev pub IsProblem : List ℕ → List ℕ → Problem → Type 0
 IsProblem name bytes (Bytes finding) = IsFinding bytes finding
 IsProblem name bytes Name = ¬ IsShardName name
+IsProblem name bytes (Hash hash) = ⊥
 
 -- the name is what a path has after its last slash, or all of it if it has none
 abbrev pub IsFileName : List ℕ → List ℕ → Type 0

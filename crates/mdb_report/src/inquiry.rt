@@ -6,10 +6,12 @@ ghost use Rattle.mdb_report.specs.Parts.{PartsAscend};
 ghost use Rattle.mdb_report.specs.Answers.{FindsProblems, LooksUp, IsClean, HasAscendingParts, SaysNoMore};
 
 use crate::brief::Brief;
-use crate::hex::{HashReport, Hex};
+use crate::hex::{HashReport, Hex, NameReport};
 use crate::line::{Layout, Style, print};
 use crate::lookup::{FoundReport, RunReport};
-use crate::problem::{ProblemReport, file_name, problems_of, problems_of_bytes};
+use crate::problem::{
+    ProblemReport, file_name, problems_of, problems_of_bytes, problems_under_key,
+};
 use crate::records::{ChunkReport, XorbReport, file_reports};
 use crate::summary::Summary;
 use crate::tables::{Table, lacks_chunk_table, lacks_file_table};
@@ -21,8 +23,9 @@ use std::alloc::{AllocError, Global};
 use std::io;
 use std::io::Write;
 use xet_core_structures::error::CoreError;
-use xet_core_structures::merklehash::MerkleHash;
+use xet_core_structures::merklehash::{HMACKey, MerkleHash, keyed_hash};
 use xet_core_structures::source::MemorySource;
+use xet_core_structures::utils::shard_file_name;
 use xet_core_structures::xorb_structs::MDBXorbInfo;
 
 /// What a shard is asked.
@@ -33,9 +36,14 @@ pub enum Inquiry {
     /// The same in a line, without where the parts are.
     Brief,
     /// What is not as the library would write it, and with `named` whether the file has the name of
-    /// a shard.
+    /// a shard: with a key, the one that its bytes have.
     Check {
         named: bool,
+        key: Option<HMACKey>,
+    },
+    /// The name that its bytes have by their hash under a key.
+    Name {
+        key: HMACKey,
     },
     /// Its files, with their rows or without.
     Files {
@@ -145,8 +153,19 @@ pub fn print_answer<W: Write>(
     match inquiry {
         Inquiry::Summary => return summarize(alloc, file, bytes, layout.style, output),
         Inquiry::Brief => return brief_of(alloc, file, bytes, layout.style, tally, output),
-        Inquiry::Check { named } => {
-            return check(alloc, file, *named, bytes, layout.style, output);
+        Inquiry::Check { named, key } => {
+            return check(alloc, file, *named, *key, bytes, layout.style, output);
+        }
+        Inquiry::Name { key } => {
+            let name = shard_file_name(alloc, &keyed_hash(*key, bytes))?;
+            print(
+                alloc,
+                &NameReport {
+                    name: name.as_str(),
+                },
+                layout,
+                output,
+            )?;
         }
         Inquiry::Files { long } => print_files(alloc, bytes, *long, layout, output)?,
         Inquiry::Xorbs { .. } | Inquiry::Chunks { .. } => {
@@ -284,6 +303,7 @@ fn check<W: Write>(
     alloc: Global,
     file: &str,
     named: bool,
+    key: Option<HMACKey>,
     bytes: &[u8],
     style: Style,
     output: &mut W,
@@ -291,10 +311,10 @@ fn check<W: Write>(
     ensures { IfOk result (λ answer. (answer ≢ Answer.FoundNothing)
         × (answer ≡ Answer.Printed → IsWhole bytes.now)) }
 {
-    let problems = if named {
-        problems_of(alloc, file_name(file), bytes)?
-    } else {
-        problems_of_bytes(alloc, bytes)?
+    let problems = match (named, key) {
+        (true, Some(key)) => problems_under_key(alloc, file_name(file), key, bytes)?,
+        (true, None) => problems_of(alloc, file_name(file), bytes)?,
+        (false, _) => problems_of_bytes(alloc, bytes)?,
     };
     let info = load_bytes(alloc, bytes).ok();
     for problem in &problems {

@@ -1,7 +1,8 @@
 //! What a check finds, in words.
 
-ghost use Rattle.std.specs.Prelude.{◌≡◌, ◌↔◌, [], map, All, Contains, IfOk, IfErr};
-ghost use Rattle.xet_core_structures.specs.Names.{IsShardName};
+ghost use Rattle.std.specs.Prelude.{◌≡◌, ◌↔◌, [], map, All, Contains, IfOk, IfErr, MatchOption};
+ghost use Rattle.xet_core_structures.specs.Blake3.{keyed_hash};
+ghost use Rattle.xet_core_structures.specs.Names.{IsShardName, NamesShard};
 ghost use Rattle.shard_bytes.specs.Checking.{IsWhole};
 ghost use Rattle.mdb_report.specs.declared.problem.Problem.{Problem};
 ghost use Rattle.xet_core_structures.specs.declared.shard_format.MDBShardInfo.{MDBShardInfo};
@@ -14,6 +15,7 @@ use shard_bytes::format::Format;
 use std::alloc::{AllocError, Global};
 use std::fmt;
 use xet_core_structures::error::{CoreError, Result};
+use xet_core_structures::merklehash::{HMACKey, MerkleHash, keyed_hash};
 use xet_core_structures::shard_format::MDBShardInfo;
 use xet_core_structures::utils::parse_shard_filename;
 
@@ -24,6 +26,8 @@ pub enum Problem {
     Bytes(Finding),
     /// The name is not 64 hexadecimal digits and `.mdb`.
     Name,
+    /// The name has another hash than the bytes, which have this one.
+    Hash(MerkleHash),
 }
 
 /// A problem, and the file that has it.
@@ -59,6 +63,7 @@ impl<'a> ProblemReport<'a> {
 fn code_of(problem: Problem) -> &'static str {
     match problem {
         Problem::Name => "name",
+        Problem::Hash(_) => "hash_differs",
         Problem::Bytes(finding) => match finding {
             Finding::Unsupported(Format::NoTag) => "no_tag",
             Finding::Unsupported(Format::OtherVersion(_)) => "other_version",
@@ -144,6 +149,40 @@ pub fn problems_of_bytes(alloc: Global, bytes: &[u8]) -> Result<Vec<Problem>>
     Ok(problems_in(alloc, findings.as_slice())?)
 }
 
+/// The problems of a file with this name and these bytes, as [`problems_of`] has them, and then that
+/// of its name if it has another hash than the bytes have under a key.
+///
+/// The only error is `OutOfMemory`.
+pub fn problems_under_key(
+    alloc: Global,
+    name: &str,
+    key: HMACKey,
+    bytes: &[u8],
+) -> Result<Vec<Problem>>
+    ensures whole { IfOk result
+        (λ problems. (problems.items ≡ [])
+        ↔ (IsWhole bytes.now × NamesShard name.now (keyed_hash key bytes.now))) }
+    ensures causes { IfErr result (λ e. e ≡ CoreError.OutOfMemory) }
+{
+    let mut problems = problems_of(alloc, name, bytes)?;
+    let Some(hash) = other_hash(name, key, bytes) else {
+        return Ok(problems);
+    };
+    problems.push(Problem::Hash(hash))?;
+    Ok(problems)
+}
+
+// The hash that bytes have under a key, if a name is that of a shard with another one.
+fn other_hash(name: &str, key: HMACKey, bytes: &[u8]) -> Option<MerkleHash>
+    ensures { MatchOption result (IsShardName name.now → NamesShard name.now (keyed_hash key bytes.now))
+        (λ hash. (hash ≡ keyed_hash key bytes.now) × IsShardName name.now
+        × (¬ NamesShard name.now hash)) }
+{
+    let named = parse_shard_filename(name)?;
+    let hash = keyed_hash(key, bytes);
+    if named == hash { None } else { Some(hash) }
+}
+
 fn problems_in(alloc: Global, findings: &[Finding]) -> std::result::Result<Vec<Problem>, AllocError>
     ensures { IfOk result (λ problems. problems.items ≡ map Problem.Bytes findings.now) }
 {
@@ -176,6 +215,10 @@ impl fmt::Display for Problem {
         match *self {
             Problem::Bytes(finding) => write!(f, "{}", InWords(finding)),
             Problem::Name => write!(f, "its name is not 64 hexadecimal digits and .mdb"),
+            Problem::Hash(hash) => write!(
+                f,
+                "its bytes have the hash {hash}, and its name another"
+            ),
         }
     }
 }
