@@ -110,6 +110,32 @@ def test_kinds_of_bytes():
         refused("Io", xet_shards.merge, [ONE_FILE, nothing])
 
 
+def test_merge_into():
+    shards = [minimal_xorbs(), minimal_xorbs()]
+    merged = xet_shards.merge(shards)
+    # The output has tables, which the inputs have not.
+    assert len(shards[0]) < len(merged) <= xet_shards.merge_room(shards)
+    with tempfile.TemporaryFile() as file:
+        file.truncate(xet_shards.merge_room(shards))
+        with mmap.mmap(file.fileno(), 0) as out:
+            assert xet_shards.merge_into(shards, out) == len(merged)
+            assert out[: len(merged)] == merged
+    out = bytearray(len(merged) - 1)
+    assert xet_shards.merge_into(shards, out, strict=True) == len(merged)
+    assert out == bytes(len(out))
+    out.append(0)
+    assert xet_shards.merge_into(shards, memoryview(out)) == len(merged)
+    assert out == merged
+    raises(ValueError, xet_shards.merge_into, [], out)
+    raises(TypeError, xet_shards.merge_into, shards, merged)
+    assert refused("Io", xet_shards.merge_into, [shards[0], b""], out).index == 1
+
+
+def minimal_xorbs():
+    """Returns a shard without tables, of one xorb of a hundred chunks."""
+    return xet_shards.minimal(shards_of(({}, {"200": [str(it) for it in range(300, 400)]}))[0], 1000)
+
+
 def test_buffers_are_released():
     shard = bytearray(ONE_FILE)
     xet_shards.merge([shard, shard])

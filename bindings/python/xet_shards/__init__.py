@@ -26,16 +26,19 @@ from typing import Any, Callable, Dict, Iterable, Iterator, List, Optional, Sequ
 
 __all__ = [
     "Buffer", "Chunk", "Disagreement", "DisagreementError", "File", "Finding", "Info", "ListedFile", "MalformedError",
-    "MalformedRecord", "NO_EXPIRY", "NO_KEY", "Run", "Segment", "Table", "XetError", "Xorb", "check", "difference",
-    "eligible", "export", "files", "find_disagreement", "find_file", "find_malformed", "from_table", "hash_bytes",
-    "hash_of_name", "hash_texts", "hmac", "load", "merge", "minimal", "query_chunks", "shard_name", "subset", "table",
-    "union", "write", "write_v2", "xorbs",
+    "MalformedRecord", "NO_EXPIRY", "NO_KEY", "Run", "Segment", "Table", "WritableBuffer", "XetError", "Xorb", "check",
+    "difference", "eligible", "export", "files", "find_disagreement", "find_file", "find_malformed", "from_table",
+    "hash_bytes", "hash_of_name", "hash_texts", "hmac", "load", "merge", "merge_into", "merge_room", "minimal",
+    "query_chunks", "shard_name", "subset", "table", "union", "write", "write_v2", "xorbs",
 ]
 
 __version__ = "0.1.0"
 
 Buffer = Union[bytes, bytearray, memoryview, mmap.mmap, "array[Any]"]
 """The bytes of a shard. Other objects with a buffer are taken as well."""
+
+WritableBuffer = Union[bytearray, memoryview, mmap.mmap, "array[Any]"]
+"""Bytes that can be written to."""
 
 NO_KEY = "0" * 64
 """The key of an export that leaves chunk hashes as they are, and of a shard whose chunk hashes are not keyed."""
@@ -827,12 +830,37 @@ def merge(
     well-formed, and a `DisagreementError` if two do not agree; so what it returns has no order, whatever is given.
     """
     shards = list(shards)
+    # Pages that no one writes to cost nothing, and with this room no merge is made twice.
+    out = mmap.mmap(-1, merge_room(shards), flags=mmap.MAP_PRIVATE | mmap.MAP_ANONYMOUS)
+    return out[: merge_into(shards, out, strict, start, stop)]
+
+
+def merge_room(shards: Iterable[Buffer]) -> int:
+    """Returns the bytes that are enough for `merge_into` of these shards, whatever they hold."""
+    with _Addresses(*shards) as data:
+        # As in xet_union_room of xet.h.
+        return 352 + sum(length for _, length in data) // 3 * 8
+
+
+def merge_into(
+    shards: Iterable[Buffer],
+    out: WritableBuffer,
+    strict: bool = False,
+    start: Optional[str] = None,
+    stop: Optional[str] = None,
+) -> int:
+    """Writes what `merge` returns to the front of a buffer that can be written, and returns the number of its bytes.
+
+    If the buffer is too small it stays as it is: then the number is greater than its length. With inputs and output in
+    files that are mapped, a merge needs memory of its own only for tables and for where records lie.
+    """
+    shards = list(shards)
     if not shards:
         raise ValueError("no shard is given")
     try:
         if start is not None or stop is not None:
-            return _merged_range(shards, strict, start, stop)
-        return _merged(shards, strict)
+            return _merge_range_to(shards, out, strict, start, stop)
+        return _merge_to(shards, out, strict)
     except (DisagreementError, MalformedError):
         raise
     except XetError as error:
@@ -844,7 +872,7 @@ def _to_blame(shards: Sequence[Buffer], number: int) -> Optional[int]:
     key = None
     for index, shard in enumerate(shards):
         try:
-            _merged([shard], False)
+            _merge_to([shard], bytearray(0), False)
             its_key = load(shard).key
         except XetError as error:
             if error.number == number:
@@ -856,33 +884,31 @@ def _to_blame(shards: Sequence[Buffer], number: int) -> Optional[int]:
     return None
 
 
-def _merged(shards: Sequence[Buffer], strict: bool) -> bytes:
-    differing, found = c_size_t(), _Disagreement()
+def _merge_to(shards: Sequence[Buffer], out: WritableBuffer, strict: bool) -> int:
+    room, written, differing, found = memoryview(out).nbytes, c_size_t(), c_size_t(), _Disagreement()
+    array = (c_char * room).from_buffer(out)
     with _Addresses(*shards) as data:
-        listed, size = _list(data), sum(length for _, length in data)
-        if not strict:
-            return _made(
-                size, lambda out, room, written: _library.xet_merge(listed, len(data), out, room, byref(written))
+        listed, count = _list(data), len(data)
+        if strict:
+            number = _library.xet_merge_agreeing(
+                listed, count, array, room, byref(written), byref(differing), byref(found)
             )
-        try:
-            return _made(
-                size,
-                lambda out, room, written: _library.xet_merge_agreeing(
-                    listed, len(data), out, room, byref(written), byref(differing), byref(found)
-                ),
-            )
-        except XetError as error:
-            if error.number not in (_DISAGREE, _MALFORMED):
-                raise
-            malformed = error.number == _MALFORMED
-    if malformed:
+        else:
+            number = _library.xet_merge(listed, count, array, room, byref(written))
+    if number == _MALFORMED:
         raise MalformedError(_malformed(found))
-    raise DisagreementError(_disagreement(found, differing.value))
+    if number == _DISAGREE:
+        raise DisagreementError(_disagreement(found, differing.value))
+    if number != _SHORT:
+        _check(number)
+    return written.value
 
 
-def _merged_range(shards: Sequence[Buffer], strict: bool, start: Optional[str], stop: Optional[str]) -> bytes:
+def _merge_range_to(
+    shards: Sequence[Buffer], out: WritableBuffer, strict: bool, start: Optional[str], stop: Optional[str]
+) -> int:
     words = [_words(NO_KEY if it is None else it) for it in (start, stop)]
-    asked = _Range(*words, start is not None, stop is not None)
+    asked, room, written = _Range(*words, start is not None, stop is not None), memoryview(out).nbytes, c_size_t()
     if strict:
         malformed = find_malformed(shards)
         if malformed:
@@ -890,16 +916,12 @@ def _merged_range(shards: Sequence[Buffer], strict: bool, start: Optional[str], 
         differing = find_disagreement(shards)
         if differing:
             raise DisagreementError(differing)
+    array = (c_char * room).from_buffer(out)
     with _Addresses(*shards) as data:
-        listed, room, written = _list(data), sum(length for _, length in data) // 3 * 8 + 352, c_size_t()
-        # Of memory that is mapped only what is written to is taken.
-        with mmap.mmap(-1, room) as out:
-            array = (c_char * room).from_buffer(out)
-            try:
-                _check(_library.xet_merge_range(listed, len(data), byref(asked), array, room, byref(written)))
-            finally:
-                del array
-            return out[: written.value]
+        number = _library.xet_merge_range(_list(data), len(data), byref(asked), array, room, byref(written))
+    if number != _SHORT:
+        _check(number)
+    return written.value
 
 
 def find_disagreement(shards: Iterable[Buffer]) -> Optional[Disagreement]:
