@@ -342,6 +342,19 @@ static void check_find_disagreement(const struct input *input) {
     free_block(&found);
 }
 
+static void check_find_malformed(const struct input *input) {
+    called = "xet_find_malformed";
+    xet_bytes list[SHARDS];
+    list_shards(input, list);
+    struct block found = new_struct(input, sizeof(xet_disagreement)), told = new_struct(input, sizeof(bool));
+    void *out = found.bytes;
+    uint32_t error = result(xet_find_malformed(list, input->count, (void *)told.bytes, out), OF_SECTIONS);
+    require(error == XET_OK || !*told.bytes, "an error tells a record");
+    check_malformed(input, &found, *told.bytes);
+    free_block(&found);
+    free_block(&told);
+}
+
 static void check_texts(const struct input *input) {
     struct {
         const char *name;

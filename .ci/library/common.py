@@ -52,6 +52,6 @@ def error_constants():
 def error_numbers():
     """Returns the numbers of errors, with their names, by `error_number` of crates/xet_c."""
     numbers = {int(number): name for name, number in re.findall(r"CoreError::(\w+)(?:\(_\))? => (\d+),", sources())}
-    for constant, name in (("SHORT", "Short"), ("DISAGREE", "Disagree")):
+    for constant, name in (("SHORT", "Short"), ("DISAGREE", "Disagree"), ("MALFORMED", "Malformed")):
         numbers[int(re.search(rf"XET_{constant}: u32 = (\d+);", sources())[1])] = name
     return numbers

@@ -48,7 +48,7 @@ def check_declarations():
         if name != "XetHash" and bodies.get(rust_type(name)) != fields:
             return f"the fields of {rust_type(name)} in bindings/rust are not those of {name}"
     numbers = re.findall(r"^            (\d+) => Error::(\w+),", text, re.M)
-    constants = re.findall(r"const (SHORT|DISAGREE): u32 = (\d+);", text)
+    constants = re.findall(r"const (SHORT|DISAGREE|MALFORMED): u32 = (\d+);", text)
     numbers += [(number, name.title()) for name, number in constants]
     # Those that xet.h marks with a star no call returns.
     header = re.findall(r"^    XET_\w+ = (\d+),? +/\* (?!\* \*/)", error_constants(), re.M)
