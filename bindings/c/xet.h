@@ -168,7 +168,8 @@ uint32_t xet_union(const uint8_t *first, size_t first_length, const uint8_t *sec
  * same way, down to single shards; if only one is given it is united with itself. If the sections of the inputs hold
  * well-formed shards that agree pairwise, under one key, it is the bytes of their join, which has no order, or fails
  * for memory or for too many rows. xet_merge_agreeing finds out whether they do. It is written to `out` itself, when
- * all that can fail is done; the other calls make what they write first, and copy it.
+ * all that can fail is done, and so is what xet_merge_range writes; the other calls make their bytes first, and copy
+ * them.
  *
  * Where several inputs are refused, the error may be that of another than xet_union tells.
  *
