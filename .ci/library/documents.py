@@ -64,3 +64,24 @@ def check_trusted():
     page = page[page.index("## What is trusted") :]
     lacking = sorted({it for names in crates.values() for it in names - set(crates) if f"`{it}`" not in page})
     return f"docs/PROVED.md does not name as trusted: {', '.join(lacking)}" if lacking else None
+
+
+def anchors(text):
+    """Returns the names by which links lead to the headings of a page."""
+    headings = re.findall(r"^#+ (.*)$", re.sub(r"^```.*?^```", "", text, flags=re.S | re.M), re.M)
+    return {re.sub(r"[^\w\- ]", "", it.lower()).replace(" ", "-") for it in headings}
+
+
+def check_links():
+    """Each link of a page leads to a file or a folder, and to a heading if it names one."""
+    pages = [it for depth in ("*", "*/*", "*/*/*") for it in glob.glob(f"{TOP}/{depth}.md")]
+    broken = []
+    for page in pages:
+        text = re.sub(r"^```.*?^```", "", read(page), flags=re.S | re.M)
+        for link in re.findall(r"\]\(([^)\s]+)\)", text):
+            path, _, heading = link.partition("#")
+            target = os.path.join(os.path.dirname(page), path) if path else page
+            if ":" in link or os.path.exists(target) and (not heading or heading in anchors(read(target))):
+                continue
+            broken.append(f"{os.path.relpath(page, TOP)}: {link}")
+    return f"these links lead nowhere: {', '.join(broken)}" if broken else None
