@@ -4,7 +4,7 @@
 //! stays.
 
 use std::error::Error;
-use std::fs::File;
+use std::fs::OpenOptions;
 use std::io::Write;
 use std::process::{self, ExitCode};
 use std::{env, fs, io};
@@ -21,7 +21,7 @@ fn write(path: &str, bytes: &[u8]) -> Result<(), Box<dyn Error>> {
 }
 
 fn write_new(path: &str, bytes: &[u8]) -> io::Result<()> {
-    let mut file = File::create_new(path)?;
+    let mut file = OpenOptions::new().write(true).create_new(true).open(path)?;
     file.write_all(bytes)?;
     file.sync_all()
 }

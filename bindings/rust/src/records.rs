@@ -137,7 +137,7 @@ pub fn write_records(files: &[ListedFile], xorbs: &[Xorb], expiry: Option<u64>) 
         let file = &it.file;
         let hashes = file.verification.as_ref().map(Vec::len);
         if it.flags & (WITH_VERIFICATION | WITH_SHA256 | WITH_AUX) != file.flags()
-            || hashes.is_some_and(|count| count != file.segments.len())
+            || hashes.map_or(false, |count| count != file.segments.len())
         {
             return Err(Error::InvalidArguments);
         }

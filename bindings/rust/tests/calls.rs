@@ -4,6 +4,7 @@ mod common;
 
 use common::{hash, Shard};
 use std::error::Error as _;
+use std::slice::from_ref;
 use std::thread;
 use xet_shards::{
     Disagreement, Error, Export, File, Finding, Hash, ListedFile, Minimal, Part, RecordHash, Xorb, NO_EXPIRY, NO_KEY,
@@ -223,7 +224,7 @@ fn records_that_no_shard_has() {
     let xorb = Xorb { hash: hash("10"), flags: 0, bytes: 0, bytes_on_disk: 0, chunks: vec![] };
     let chunk = |bytes| xet_shards::Chunk { bytes, ..Default::default() };
     let refused = Err(Error::InvalidArguments);
-    let one = |file: &ListedFile, xorb: &Xorb| xet_shards::write_records(&[file.clone()], &[xorb.clone()], None);
+    let one = |file: &ListedFile, xorb: &Xorb| xet_shards::write_records(from_ref(file), from_ref(xorb), None);
     assert!(one(&file, &xorb).is_ok());
     assert_eq!(one(&ListedFile { hash: Hash([u64::MAX; 4]), ..file.clone() }, &xorb), refused);
     assert_eq!(one(&ListedFile { flags: 1, ..file.clone() }, &xorb), refused);

@@ -204,7 +204,7 @@ fn fault(script: &str, expected: &str, is_original: bool) -> Option<String> {
         wanted == line || line.starts_with("refused: ") && wanted.split(' ').take(2).eq(line.split(' ').take(2))
     };
     for (at, line) in run.printed.iter().enumerate() {
-        if !expected.get(at).is_some_and(|wanted| is_same(wanted, line)) {
+        if !expected.get(at).map_or(false, |wanted| is_same(wanted, line)) {
             return Some(format!("line {}: wanted {:?}, got {line:?}", at + 1, expected.get(at)));
         }
     }
@@ -218,7 +218,7 @@ fn run_folder(folder: &str, is_chosen: impl Fn(&str) -> bool) -> usize {
     for entry in fs::read_dir(vectors().join(folder)).expect("vectors/ is there, or XET_VECTORS names it") {
         let path = entry.expect("a file").path();
         let name = path.file_stem().and_then(|it| it.to_str()).expect("a name").to_owned();
-        if path.extension().is_none_or(|it| it != "script") || !is_chosen(&name) {
+        if path.extension().map_or(true, |it| it != "script") || !is_chosen(&name) {
             continue;
         }
         let script = fs::read_to_string(&path).expect("a script");
