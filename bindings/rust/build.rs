@@ -1,34 +1,67 @@
-//! Links `libxet.a`, which `bindings/build.sh` makes: from the folder that `XET_LIB_DIR` names, else from
-//! `bindings/out`.
+//! Links the library for C: from the folder that `XET_LIB_DIR` names, else from `bindings/out` of the repository, where
+//! `bindings/build.sh` makes it, else from where pkg-config finds it.
 
 use std::env;
-use std::path::PathBuf;
-use std::process::exit;
+use std::path::{Path, PathBuf};
+use std::process::{exit, Command};
 
 fn main() {
-    println!("cargo:rerun-if-env-changed=XET_LIB_DIR");
+    for name in ["XET_LIB_DIR", "PKG_CONFIG", "PKG_CONFIG_PATH"] {
+        println!("cargo:rerun-if-env-changed={name}");
+    }
     // The documentation is built without the library.
     if env::var_os("DOCS_RS").is_some() {
         return;
     }
     let target = env::var("TARGET").expect("cargo sets TARGET");
     if !target.starts_with("x86_64-") || !target.contains("linux") {
-        stop(&format!("libxet.a is built for Linux on x86-64, not for {target}"));
+        stop(&format!("libxet is built for Linux on x86-64, not for {target}"));
     }
-    let folder = match env::var_os("XET_LIB_DIR") {
-        Some(folder) => PathBuf::from(folder),
-        None => PathBuf::from(env!("CARGO_MANIFEST_DIR")).join("../out"),
-    };
-    let archive = folder.join("libxet.a");
-    println!("cargo:rerun-if-changed={}", archive.display());
-    if !archive.is_file() {
-        stop(&format!(
-            "{} is not there: run bindings/build.sh, or set XET_LIB_DIR to the folder of libxet.a",
-            archive.display()
-        ));
-    }
+    let folder = named().or_else(beside).or_else(installed).unwrap_or_else(|| {
+        stop(concat!(
+            "libxet.a is not there: set XET_LIB_DIR to its folder, or PKG_CONFIG_PATH to that of xet.pc, as a release ",
+            "has them; or in the repository run bindings/build.sh"
+        ))
+    });
     println!("cargo:rustc-link-search=native={}", folder.display());
-    println!("cargo:rustc-link-lib=static=xet");
+    // The archive leaves nothing to be found when the program runs.
+    let kind = if has(&folder, "libxet.a") { "static" } else { "dylib" };
+    println!("cargo:rustc-link-lib={kind}=xet");
+}
+
+/// The folder that the caller names, which has to have the library.
+fn named() -> Option<PathBuf> {
+    let folder = PathBuf::from(env::var_os("XET_LIB_DIR")?);
+    if !has(&folder, "libxet.a") && !has(&folder, "libxet.so") {
+        stop(&format!("XET_LIB_DIR names {}, where there is no libxet.a and no libxet.so", folder.display()));
+    }
+    Some(folder)
+}
+
+/// The folder of the repository in which `bindings/build.sh` makes the archive, if it is there.
+fn beside() -> Option<PathBuf> {
+    let folder = Path::new(env!("CARGO_MANIFEST_DIR")).join("../out");
+    has(&folder, "libxet.a").then_some(folder)
+}
+
+/// The folder of an installed library that has all calls of this version, and none that a later one has changed.
+fn installed() -> Option<PathBuf> {
+    let program = env::var_os("PKG_CONFIG").unwrap_or_else(|| "pkg-config".into());
+    let (least, first): (_, u64) = (env!("CARGO_PKG_VERSION"), env!("CARGO_PKG_VERSION_MAJOR").parse().ok()?);
+    let wanted = [format!("xet >= {least}"), format!("xet < {}", first + 1)];
+    let has_version = Command::new(&program).arg("--exists").args(&wanted).status().ok()?;
+    let printed = Command::new(&program).args(["--variable=libdir", "xet"]).output().ok()?;
+    let folder = PathBuf::from(String::from_utf8(printed.stdout).ok()?.trim());
+    (has_version.success() && printed.status.success() && folder.is_dir()).then_some(folder)
+}
+
+/// Whether a folder has a file, whose changes cargo then looks for.
+fn has(folder: &Path, name: &str) -> bool {
+    let path = folder.join(name);
+    if path.is_file() {
+        println!("cargo:rerun-if-changed={}", path.display());
+    }
+    path.is_file()
 }
 
 fn stop(why: &str) -> ! {
