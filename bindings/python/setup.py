@@ -25,7 +25,7 @@ class PlatformDistribution(Distribution):
 class BuildWithLibrary(build_py):
     def run(self):
         if not glob.glob(LIBRARY):
-            raise SystemExit(f"{LIBRARY} is not there: run bindings/build.sh, which makes it")
+            raise SystemExit(f"{LIBRARY} is not there: install a wheel of a release, or run bindings/build.sh of the repository, which makes it")
         super().run()
 
 
@@ -33,7 +33,8 @@ class WheelOfAnyPython(bdist_wheel):
     """The shared object is opened by ctypes, so any version of Python 3 will do."""
 
     def get_tag(self):
-        return "py3", "none", super().get_tag()[2]
+        # Who knows on which systems the library runs may say so.
+        return "py3", "none", os.environ.get("XET_WHEEL_PLATFORM") or super().get_tag()[2]
 
 
 setup(
