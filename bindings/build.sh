@@ -42,7 +42,7 @@ fi
 "$kit/toolchain/bin/llvm-ar" rcs libxet.a xet.o
 echo '{ global: xet_*; local: *; };' >exports
 ${CC:-cc} -shared -o "libxet.so.$version" -Wl,-soname,"$soname" -Wl,--whole-archive libxet.a -Wl,--no-whole-archive \
-    -Wl,--version-script=exports -Wl,-z,defs -Wl,-z,noexecstack
+    -Wl,--version-script=exports -Wl,-z,defs -Wl,-z,noexecstack -Wl,-z,relro -Wl,-z,now
 
 if [ -z "$prefix" ]; then
     mkdir -p "$top/bindings/out"
