@@ -1,0 +1,31 @@
+"""Runs checks, and counts them."""
+from .common import Skip
+
+
+class Checks:
+    """Counts checks that passed, and keeps what is wrong with the others."""
+
+    def __init__(self):
+        self.passed, self.faults, self.skipped = 0, [], []
+
+    def run(self, check, *arguments):
+        """Runs a check, which returns what is wrong, or None; or how many passed, and what is wrong with others."""
+        try:
+            found = check(*arguments)
+        except Skip as why:
+            self.skipped.append(str(why))
+            return
+        except Exception as error:
+            found = f"{check.__module__}.{check.__name__}: {type(error).__name__}: {error}"
+        passed, faults = found if isinstance(found, tuple) else (int(found is None), [found] if found else [])
+        self.passed += passed
+        self.faults += faults
+
+    def told(self, name):
+        """Prints what was skipped and what is wrong, and the counts, and returns the status to end with."""
+        for why in sorted(set(self.skipped)):
+            print(f"{name}: skipped: {why}")
+        for why in self.faults:
+            print(f"{name}: {why}")
+        print(f"{self.passed} passed, {len(self.faults)} failed")
+        return 1 if self.faults else 0
