@@ -1,0 +1,76 @@
+"""What of the repository's and the toolchain's crates is in the binaries of a release."""
+import os
+import re
+import shutil
+
+from .common import TOP, Fault, read
+
+# The crates whose code is in the binaries, with all that they use.
+PROGRAMS = ("mdb", "shardtool", "xet_c")
+LIBRARY = ("xet_c",)
+
+
+def used():
+    """Returns for each crate of the repository what it uses, by crates.txt."""
+    rows = re.findall(r"^(\w+)(?: staticlib)?:(.*)$", read(f"{TOP}/crates.txt"), re.M)
+    return {name: libraries.split() for name, libraries in rows}
+
+
+def below(crates, uses):
+    """Returns these crates and all that they use, in the repository and in the toolchain."""
+    found, left = set(), list(crates)
+    while left:
+        name = left.pop()
+        if name not in found:
+            found.add(name)
+            left += uses(name)
+    return found
+
+
+def folder():
+    """Returns the folder of the toolchain."""
+    there = shutil.which("rt")
+    if not there:
+        raise Fault("rt is not on the path")
+    return os.path.dirname(os.path.dirname(os.path.realpath(there)))
+
+
+def libraries(name):
+    """Returns what a crate uses, of the repository or of the toolchain."""
+    uses = used()
+    if name in uses:
+        return [*uses[name], "std"]
+    return re.findall(r"^dep (\w+)$", read(f"{folder()}/rlibs/{name}.rlib/format"), re.M)
+
+
+def crates(programs):
+    """Returns the crates of the repository whose code is in these, and those of the toolchain."""
+    names, own = sorted(below(programs, libraries)), used()
+    return [it for it in names if it in own], [it for it in names if it not in own]
+
+
+def texts(name):
+    """Returns the names of a crate's licences, of which that of MIT is taken where there is a choice."""
+    names = sorted(it for it in os.listdir(f"{folder()}/rattle/{name}") if it.startswith("LICENSE"))
+    return [it for it in names if it != "LICENSE-APACHE" or "LICENSE-MIT" not in names]
+
+
+def licences(programs):
+    """Returns the texts of the licences of the toolchain's crates whose code is in these, by their names."""
+    names = [(name, text) for name in crates(programs)[1] for text in texts(name)]
+    return {f"{name}.{text}": read(f"{folder()}/rattle/{name}/{text}", "rb") for name, text in names}
+
+
+def component(name, toolchain):
+    """Returns what is known of a crate of the toolchain: which crate it is a port of, and its licences."""
+    page = f"{folder()}/rattle/{name}/README.md"
+    # The pages name the Rust crates that are ported, with their versions.
+    of_name = rf"(?<![\w-]){name.replace('_', '[_-]')}(?:_builder)?`? (\d+\.\d+\.\d+)"
+    ported = re.search(of_name, read(page)) if os.path.isfile(page) else None
+    entry = {"type": "library", "group": "rattle", "name": name, "version": ported[1] if ported else toolchain}
+    if ported:
+        entry["description"] = f"a port of this version of the Rust crate {name}, of {toolchain}"
+    known = {"LICENSE-MIT": {"id": "MIT"}}
+    if texts(name):
+        entry["licenses"] = [{"license": known.get(it, {"name": it})} for it in texts(name)]
+    return entry
