@@ -1,9 +1,11 @@
 -- Shards that are written again of what is read.
 
 pub mod KeyedExport
+pub mod PartOrder
 pub mod PartSplit
 pub mod Rewriting
 pub mod ChunkMerging
 pub mod Gathering
 pub mod InARow
+pub mod RowShard
 pub mod SectionParts

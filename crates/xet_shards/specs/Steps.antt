@@ -9,6 +9,7 @@ pub mod KeyedExport
 pub mod Lookup
 pub mod MinimalShard
 pub mod MinimalWriting
+pub mod PartOrder
 pub mod RunReading
 pub mod RunSteps
 pub mod SectionReading

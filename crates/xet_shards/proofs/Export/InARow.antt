@@ -1,12 +1,12 @@
 -- Parts one after another are the layout of all records.
-use Rattle.std.proofs.Common.{◌≡◌, ℕ, List, [], ◌∷◌, ◌++◌, map, flat_map, get_or, length, Bor, ◌<◌, Option, refl, sym, ap, ◌∙◌, subst, append_assoc, arith}
+use Rattle.std.proofs.Common.{◌≡◌, ℕ, List, [], ◌∷◌, ◌++◌, map, flat_map, get_or, length, Bor, ◌<◌, ◌≤◌, Option, refl, sym, ap, ◌∙◌, subst, append_assoc, arith}
 use Rattle.std.specs.Prelude.{All, unwrap_or}
 use Rattle.std.specs.Io.KnownBytes.{Appends}
 use Rattle.std.specs.List.Sorted.{IsPermutation}
 use Rattle.std.proofs.KnownBytes.{Appends-trans}
 use Rattle.std.proofs.lemmas.Grind.{flat_map-append}
 use Rattle.std.proofs.lemmas.List.Folds.{flat_map-map}
-use Rattle.std.proofs.lemmas.List.Elements.{All-nil, All-cons, All-append, All-drop}
+use Rattle.std.proofs.lemmas.List.Elements.{All-nil, All-cons, All-append, All-drop, All-map}
 use Rattle.std.proofs.lemmas.List.Sorted.{IsPermutation-trans}
 use Rattle.xet_base.specs.declared.merklehash.DataHash.{DataHash}
 use Rattle.xet_records.specs.declared.file_structs.MDBFileInfo.{MDBFileInfo}
@@ -19,14 +19,18 @@ use Rattle.xet_shards.specs.declared.shard_format.export.chunk_merging.Cursor.{C
 use Rattle.xet_shards.specs.declared.shard_format.export.gathering.Totals.{Totals}
 use Rattle.xet_shards.specs.declared.shard_format.export.part_split.Split.{Split}
 use Rattle.xet_shards.specs.declared.shard_format.export.section_parts.SectionPart.{SectionPart}
-use Rattle.xet_shards.specs.Export.InARow.{Laid, laid_out, IsPartUnder, files_in, xorbs_in, options_under, AreBytesOf}
+use Rattle.xet_shards.specs.Export.InARow.{Laid, laid_out, IsPartUnder, files_in, xorbs_in, options_under, AscendBoth, AreBytesOf, AppendsRow}
 use Rattle.xet_shards.specs.Steps.Gathering.{HasGathered}
 use Rattle.xet_shards.specs.Steps.InARow.{HoldSections, HoldsRows, rows_held, Merges, all_of, IsSplitOf}
 use Rattle.xet_shards.specs.Write.Layout.{header_value, footer_value, shard_header_bytes, shard_footer_bytes, layout_of}
-use Rattle.xet_shards.specs.Write.Section.{section_bytes}
+use Rattle.xet_shards.specs.Write.Section.{section_bytes, total_rows}
+use Rattle.xet_records.specs.Limits.{MAX_ROWS}
+use Rattle.xet_shards.proofs.Export.RowShard.{row_of}
 use Rattle.xet_shards.specs.Write.Tables.{ChunkTableRow, table_bytes, chunk_table_rows, chunk_table_bytes, chunk_table_row_bytes}
 use Rattle.xet_shards.proofs.Write.ChunkSorting.{sorted_is_table}
 use Rattle.xet_shards.proofs.Write.Sections.{fits_ever, files_fit_in, xorbs_fit}
+use Rattle.xet_shards.specs.Write.WithOptions.{Ascends}
+use Rattle.xet_shards.proofs.Write.WithOptions.{files_ascend, xorbs_ascend}
 use Rattle.xet_shards.proofs.Ends.EndsUnique.{ends_of_bytes}
 use Rattle.std.specs.FinMap.{values}
 use Rattle.xet_base.specs.KeyedHash.{no_key}
@@ -90,6 +94,23 @@ parts_fit key (part ∷ parts) fit =
     let stored = (fits_ever file_records part.version part.files (fit 0 part (omega arith)).files_fit).stored in
     All-append FitsRecord part.files (files_in parts) (λ k r below. (stored k r below).widths) (parts_fit key parts (All-drop (IsPartUnder key) 1 (part ∷ parts) fit))
 
+-- what the order of gathered sections says of the parts
+pub in_order : (key : DataHash) (parts : List Laid) (files xorbs : List SectionPart) (cursors : List Cursor) (totals : Totals) → All (IsPartUnder key) parts → All (λ part. AscendBoth part.files part.xorbs) parts
+    → HasGathered files xorbs cursors totals parts
+    → ((records : List (List MDBFileInfo)) → HoldSections file_records files records → All (All file_records.IsStored) records → All (Ascends file_records) records → Ascends file_records (all_of records))
+    → ((records : List (List MDBXorbInfo)) → HoldSections xorb_records xorbs records → All (All xorb_records.IsStored) records → All (Ascends xorb_records) records → Ascends xorb_records (all_of records))
+    → AscendBoth (files_in parts) (xorbs_in parts)
+in_order key parts files xorbs cursors totals fit each held files_checked xorbs_checked = record {
+  files_ascend = subst (Ascends file_records) (all_files parts)
+      (files_checked (map (λ p. p.files) parts) held.files_held
+      (All-map (All file_records.IsStored) (λ (p : Laid). p.files) parts (λ k d below. (fits_ever file_records (get_or parts k d).version (get_or parts k d).files (fit k d below).files_fit).stored))
+      (All-map (Ascends file_records) (λ (p : Laid). p.files) parts (λ k d below. (each k d below).files_ascend)));
+  xorbs_ascend = subst (Ascends xorb_records) (all_xorbs parts)
+      (xorbs_checked (map (λ p. p.xorbs) parts) held.xorbs_held
+      (All-map (All xorb_records.IsStored) (λ (p : Laid). p.xorbs) parts (λ k d below. (fit k d below).xorbs_fit.stored))
+      (All-map (Ascends xorb_records) (λ (p : Laid). p.xorbs) parts (λ k d below. (each k d below).xorbs_ascend)));
+}
+
 -- the key of the first part is that of all
 pub first_key : (key : DataHash) (parts : List Laid) (shards : List (Bor (List ℕ))) (d : Bor (List ℕ)) (split : Split) → All (IsPartUnder key) parts → map laid_out parts ≡ map (λ x. x.now) shards → 0 < length shards
     → ((key : DataHash) (part : Laid) → IsPartUnder key part → (get_or shards 0 d).now ≡ laid_out part → IsSplitOf part split) → split.footer.chunk_hash_hmac_key ≡ key
@@ -107,9 +128,10 @@ pub record ArePartsOf (shards : List Shard) (bytes : List (List ℕ)) : Type 0 w
   pub are : map laid_out parts ≡ bytes
   pub files_are : files_in parts ≡ flat_map (λ s. values s.files) shards
   pub xorbs_are : xorbs_in parts ≡ flat_map (λ s. values s.xorbs) shards
+  pub ascend : All (λ part. AscendBoth part.files part.xorbs) parts
 
 pub parts_of : (shards : List Shard) (bytes : List (List ℕ)) → AreBytesOf shards bytes → ArePartsOf shards bytes
-parts_of [] [] is = record { parts = []; fit = All-nil (IsPartUnder no_key); are = refl; files_are = refl; xorbs_are = refl }
+parts_of [] [] is = record { parts = []; fit = All-nil (IsPartUnder no_key); are = refl; files_are = refl; xorbs_are = refl; ascend = All-nil (λ (part : Laid). AscendBoth part.files part.xorbs) }
 parts_of [] (b ∷ bytes) is = absurd is
 parts_of (s ∷ shards) [] is = absurd is
 parts_of (s ∷ shards) (b ∷ bytes) (is, others) =
@@ -126,4 +148,13 @@ parts_of (s ∷ shards) (b ∷ bytes) (is, others) =
       are = λ i. sym is.bytes_are i ∷ rest.are i;
       files_are = ap (λ fs. values s.files ++ fs) rest.files_are;
       xorbs_are = ap (λ xs. values s.xorbs ++ xs) rest.xorbs_are;
+      ascend = All-cons (λ (part : Laid). AscendBoth part.files part.xorbs) part rest.parts (record { files_ascend = files_ascend s is.shard; xorbs_ascend = xorbs_ascend s is.shard }) rest.ascend;
     }
+
+-- what was written of shards, whose records ascend, is the shard that has them all
+pub row_written : (shards : List Shard) (bytes : List (List ℕ)) (old new : Option (List ℕ)) → AreBytesOf shards bytes → (are : ArePartsOf shards bytes) → AscendBoth (files_in are.parts) (xorbs_in are.parts)
+    → total_rows file_records (files_in are.parts) ≤ MAX_ROWS → total_rows xorb_records (xorbs_in are.parts) ≤ MAX_ROWS
+    → Appends old new (layout_of (files_in are.parts) (xorbs_in are.parts) (options_under no_key)) → AppendsRow shards old new
+row_written shards bytes old new is are ascend file_rows xorb_rows written =
+    row_of shards bytes old new is (subst (λ fs. AscendBoth fs (flat_map (λ s. values s.xorbs) shards)) are.files_are (subst (AscendBoth (files_in are.parts)) are.xorbs_are ascend)) (subst (λ fs. total_rows file_records fs ≤ MAX_ROWS) are.files_are file_rows) (subst (λ xs. total_rows xorb_records xs ≤ MAX_ROWS) are.xorbs_are xorb_rows)
+    (subst (Appends old new) (λ i. layout_of (are.files_are i) (are.xorbs_are i) (options_under no_key)) written)

@@ -22,7 +22,7 @@ use Rattle.xet_shards.proofs.Ends.EndsUnique.{only_info, ends_of_layout}
 use Rattle.xet_shards.proofs.Write.Layouts.{length-shard_header_bytes}
 
 -- a part between two others
-piece : (xs front mid rest : List ℕ) (a b : ℕ) → xs ≡ front ++ (mid ++ rest) → length front ≡ a → a + length mid ≡ b → slice_range xs a b ≡ mid
+pub piece : (xs front mid rest : List ℕ) (a b : ℕ) → xs ≡ front ++ (mid ++ rest) → length front ≡ a → a + length mid ≡ b → slice_range xs a b ≡ mid
 piece xs front mid rest a b are begins ends =
     front_is (b - a) (drop a xs) mid rest (omega (arith, ends)) (rest_is a xs front (mid ++ rest) begins are)
 

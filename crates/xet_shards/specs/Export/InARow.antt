@@ -1,19 +1,20 @@
 -- Shards whose records come one after another, and the shard that has the records of all.
-use Rattle.std.specs.Prelude.{◌≡◌, ◌⊎◌, ⊤, ℕ, true, List, [], ◌∷◌, flat_map, None}
+use Rattle.std.specs.Prelude.{◌≡◌, ◌⊎◌, ⊤, ℕ, true, List, [], ◌∷◌, flat_map, Option, None}
+use Rattle.std.specs.Io.KnownBytes.{Appends}
 use Rattle.xet_base.specs.declared.error.CoreError.{CoreError}
 use Rattle.xet_base.specs.declared.merklehash.DataHash.{DataHash}
 use Rattle.xet_base.specs.Errors.{IsInvalidShard, IsWriteError}
 use Rattle.xet_records.specs.declared.file_structs.MDBFileInfo.{MDBFileInfo}
 use Rattle.xet_records.specs.declared.xorb_structs.MDBXorbInfo.{MDBXorbInfo}
 use Rattle.xet_records.specs.declared.record_reader.FormatVersion.{FormatVersion}
-use Rattle.xet_records.specs.FileRecord.{file_records_in}
+use Rattle.xet_records.specs.FileRecord.{file_records, file_records_in}
 use Rattle.xet_records.specs.XorbRecord.{xorb_records}
 use Rattle.std.specs.FinMap.{values}
-use Rattle.xet_shards.specs.Content.Shard.{Shard}
+use Rattle.xet_shards.specs.Content.Shard.{Shard, IsShard}
 use Rattle.xet_shards.specs.Write.WrittenShard.{IsBytesOf}
 use Rattle.xet_shards.specs.Ends.Ends.{FitsFooter}
-use Rattle.xet_shards.specs.Write.Layout.{LayoutOptions, plain_options, footer_value, layout_of}
-use Rattle.xet_shards.specs.Write.WithOptions.{FitsSection}
+use Rattle.xet_shards.specs.Write.Layout.{LayoutOptions, plain_options, footer_value, layout_of, layout}
+use Rattle.xet_shards.specs.Write.WithOptions.{FitsSection, Ascends}
 
 -- a part: files and xorbs, a version, the key of the chunk hashes, and two timestamps
 pub record Laid : Type 0 where
@@ -62,6 +63,11 @@ options_under key = record (plain_options None) { key = key }
 abbrev pub IsBadPart : CoreError → Type 0
 IsBadPart e = IsInvalidShard e ⊎ IsWriteError e
 
+-- the hashes of files ascend, and those of xorbs
+pub record AscendBoth (files : List MDBFileInfo) (xorbs : List MDBXorbInfo) : Type 0 where
+  pub files_ascend : Ascends file_records files
+  pub xorbs_ascend : Ascends xorb_records xorbs
+
 -- each of the byte strings is that of the shard at its place
 abbrev pub AreBytesOf : List Shard → List (List ℕ) → Type 0
 AreBytesOf [] [] = ⊤
@@ -74,3 +80,10 @@ AreBytesOf (s ∷ shards) (bytes ∷ all) = IsBytesOf s bytes × AreBytesOf shar
 pub record AreInARow (shards : List Shard) (all : Shard) : Type 0 where
   pub files : values all.files ≡ flat_map (λ s. values s.files) shards
   pub xorbs : values all.xorbs ≡ flat_map (λ s. values s.xorbs) shards
+
+-- the bytes of the shard that has the records of these, in their order, were appended
+pub record AppendsRow (shards : List Shard) (old new : Option (List ℕ)) : Type 0 where
+  pub all : Shard
+  pub is_shard : IsShard all
+  pub row : AreInARow shards all
+  pub appended : Appends old new (layout all None)

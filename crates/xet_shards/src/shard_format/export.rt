@@ -11,6 +11,7 @@ pub(super) mod gathering;
 pub(crate) mod in_a_row;
 pub(super) mod keyed_chunks;
 pub(super) mod keyed_export;
+pub(super) mod part_order;
 pub(super) mod part_split;
 pub(crate) mod rewriting;
 pub(super) mod section_parts;

@@ -4,19 +4,20 @@
 //! of the parts before, and chunk tables are merged. Beside 40 bytes a part and section, no memory
 //! is needed.
 
-ghost use Rattle.std.specs.Prelude.{◌≡◌, ◌+◌, None, List, All, OnOk, IfOk, map, length, sum_by};
+ghost use Rattle.std.specs.Prelude.{◌≡◌, ◌+◌, List, All, OnOk, IfOk, map, length, sum_by};
 ghost use Rattle.std.specs.Io.KnownBytes.{Appends};
 ghost use Rattle.xet_records.specs.declared.file_structs.MDBFileInfo.{MDBFileInfo};
 ghost use Rattle.xet_records.specs.declared.xorb_structs.MDBXorbInfo.{MDBXorbInfo};
 ghost use Rattle.xet_records.specs.FileRecord.{FitsRecord};
 ghost use Rattle.xet_shards.specs.Content.Shard.{Shard};
-ghost use Rattle.xet_shards.specs.Export.InARow.{Laid, laid_out, IsPartUnder, files_in, xorbs_in, options_under, AreBytesOf, AreInARow};
+ghost use Rattle.xet_shards.specs.Export.InARow.{Laid, laid_out, IsPartUnder, files_in, xorbs_in, options_under, AscendBoth, AreBytesOf, AppendsRow};
 ghost use Rattle.xet_shards.specs.Steps.Gathering.{HasTotals, HasGathered};
 ghost use Rattle.xet_base.specs.declared.merklehash.DataHash.{DataHash};
-ghost use Rattle.xet_shards.specs.Write.Layout.{layout, layout_of, footer_value, info_of};
+ghost use Rattle.xet_shards.specs.Write.Layout.{layout_of, footer_value, info_of};
 
 use super::chunk_merging::write_merged;
 use super::gathering::{Gathered, Totals, gather};
+use super::part_order::check_order;
 use super::part_split::split_shard;
 use super::section_parts::{write_rows, write_tables};
 use crate::shard_format::ends::footer::MDBShardFileFooter;
@@ -36,7 +37,8 @@ use xet_records::xorb_structs::MDBXorbInfo;
 /// key of the first and without expiry, and returns its header and footer. Sections and tables are
 /// copied and not checked.
 ///
-/// `InvalidArguments` if there is no shard or if their keys differ, and then nothing is written.
+/// `InvalidArguments` if there is no shard, if their keys differ, or if the hashes of files or those
+/// of xorbs don't ascend from one shard to the next; then nothing is written.
 /// `InvalidShard` if the offsets of a footer are not in order, if the rows of a section pass
 /// 4294967295 or if a chunk table does not ascend, `ShardVersion` or `UnexpectedEof` if there is no
 /// header or no footer, `OutOfMemory` if an allocation fails. Any other error is the writer's.
@@ -50,10 +52,12 @@ pub fn shards_in_a_row<W: Write>(
         → OnOk result
         (Appends (W.contents writer.old) (W.contents writer.new)
         (layout_of (files_in parts) (xorbs_in parts) (options_under key))) }
-    ensures shard { (written : List Shard) → (all : Shard) → AreInARow written all
-        → AreBytesOf written (map (λ x. x.now) shards.now)
-        → OnOk result
-        (Appends (W.contents writer.old) (W.contents writer.new) (layout all None)) }
+    ensures order { (key : DataHash) → (parts : List Laid) → All (IsPartUnder key) parts
+        → map laid_out parts ≡ map (λ x. x.now) shards.now
+        → All (λ part. AscendBoth part.files part.xorbs) parts
+        → IfOk result (λ _. AscendBoth (files_in parts) (xorbs_in parts)) }
+    ensures shard { (written : List Shard) → AreBytesOf written (map (λ x. x.now) shards.now)
+        → OnOk result (AppendsRow written (W.contents writer.old) (W.contents writer.new)) }
     ensures info { (key : DataHash) → (parts : List Laid) → All (IsPartUnder key) parts
         → map laid_out parts ≡ map (λ x. x.now) shards.now
         → IfOk result
@@ -64,6 +68,8 @@ pub fn shards_in_a_row<W: Write>(
     }
     let key = split_shard(alloc, shards[0])?.footer.chunk_hash_hmac_key;
     let gathered = gather(alloc, shards, key)?;
+    check_order::<MDBFileInfo>(alloc, gathered.files.as_slice())?;
+    check_order::<MDBXorbInfo>(alloc, gathered.xorbs.as_slice())?;
     write_gathered(alloc, writer, gathered, key)
 }
 
