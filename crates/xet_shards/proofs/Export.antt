@@ -2,6 +2,7 @@
 
 pub mod KeyedExport
 pub mod PartOrder
+pub mod Permutations
 pub mod PartSplit
 pub mod Rewriting
 pub mod ChunkMerging

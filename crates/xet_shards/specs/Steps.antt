@@ -1,6 +1,7 @@
 -- Words that only contracts inside the crate and proofs speak of.
 
 pub mod ChunkLookup
+pub mod ChunkMerging
 pub mod FileStore
 pub mod Gathering
 pub mod InARow

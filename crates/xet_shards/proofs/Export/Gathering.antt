@@ -1,12 +1,12 @@
 -- Gathering the parts of shards.
-use Rattle.std.proofs.Common.{◌≡◌, ℕ, ◌+◌, ◌/◌, ◌-◌, List, [], ◌∷◌, ◌++◌, length, map, flat_map, take, get_or, Bor, ◌<◌, ◌≤◌, refl, sym, ap, ◌∙◌, subst, arith}
+use Rattle.std.proofs.Common.{◌≡◌, ℕ, ◌+◌, ◌^◌, ◌/◌, ◌-◌, List, [], ◌∷◌, ◌++◌, length, map, flat_map, take, get_or, Bor, ◌<◌, ◌≤◌, refl, sym, ap, ◌∙◌, subst, arith}
 use Rattle.std.specs.Prelude.{All, sum_by}
 use Rattle.std.specs.List.Sorted.{IsPermutation}
 use Rattle.std.proofs.Math.Nat.{mul-div_cancel_left}
 use Rattle.std.proofs.lemmas.List.{length-append, length-map, get_or-map, take_more, take_all}
-use Rattle.std.proofs.lemmas.List.Elements.{All-nil, All-push}
-use Rattle.std.proofs.lemmas.List.Sorted.{IsPermutation-refl, IsPermutation-append, IsPermutation-map}
-use Rattle.std.proofs.lemmas.List.Sums.{sum_by-append}
+use Rattle.std.proofs.lemmas.List.Elements.{All-nil, All-cons, All-push, All-append, All-weaker}
+use Rattle.std.proofs.lemmas.List.Sorted.{IsPermutation-refl, IsPermutation-append, IsPermutation-map, All-permutation}
+use Rattle.std.proofs.lemmas.List.Sums.{sum_by-append, sum_by-cons, sum_by_push}
 use Rattle.xet_base.specs.KeyedHash.{no_key}
 use Rattle.xet_records.specs.declared.record_reader.FormatVersion.TheVariants.{V3}
 use Rattle.xet_base.specs.declared.merklehash.DataHash.{DataHash}
@@ -14,7 +14,7 @@ use Rattle.xet_records.specs.declared.file_structs.MDBFileInfo.{MDBFileInfo}
 use Rattle.xet_records.specs.declared.xorb_structs.MDBXorbInfo.{MDBXorbInfo}
 use Rattle.xet_records.specs.RecordKind.{RecordKind}
 use Rattle.xet_records.specs.FileRecord.{file_records, FitsRecord, size_of_file}
-use Rattle.xet_records.specs.XorbRecord.{xorb_records, FitsXorb}
+use Rattle.xet_records.specs.XorbRecord.{xorb_records, xorb_row_count, FitsXorb}
 use Rattle.xet_records.proofs.Lengths.{length-file_record_bytes, length-xorb_record_bytes, length-all_record_bytes}
 use Rattle.xet_shards.specs.declared.shard_format.ends.footer.MDBShardFileFooter.{MDBShardFileFooter}
 use Rattle.xet_shards.specs.declared.shard_format.export.chunk_merging.Cursor.{Cursor}
@@ -22,16 +22,20 @@ use Rattle.xet_shards.specs.declared.shard_format.export.gathering.Totals.{Total
 use Rattle.xet_shards.specs.declared.shard_format.export.part_split.Split.{Split}
 use Rattle.xet_shards.specs.declared.shard_format.export.section_parts.SectionPart.{SectionPart}
 use Rattle.xet_shards.specs.Export.InARow.{Laid, laid_out, IsPartUnder, files_in, xorbs_in}
-use Rattle.xet_shards.specs.Steps.InARow.{HoldSections, HoldsRows, rows_held, FitsTableRow, IsSplitOf}
+use Rattle.xet_shards.specs.Steps.InARow.{HoldSections, IsSplitOf}
+use Rattle.xet_shards.specs.Steps.ChunkMerging.{HoldsRows, rows_held, FitsTableRow}
 use Rattle.xet_shards.specs.Steps.Gathering.{AddsPart, HoldTables, HasGathered}
 use Rattle.xet_shards.specs.Read.TableReading.{FitsStart, FitsTriple, triple_of}
 use Rattle.xet_shards.specs.Write.Ranges.{chunk_row_later}
-use Rattle.xet_shards.specs.Write.Section.{total_rows}
-use Rattle.xet_shards.specs.Write.Tables.{ChunkTableRow, starts, table_bytes, chunk_table, chunk_table_rows, chunk_table_bytes}
+use Rattle.xet_shards.specs.Write.Section.{total_rows, with_fronts}
+use Rattle.std.specs.List.{enumerate_from}
+use Rattle.xet_records.specs.declared.xorb_structs.XorbChunkSequenceEntry.{XorbChunkSequenceEntry}
+use Rattle.xet_shards.specs.Write.Tables.{ChunkTableRow, starts, table_bytes, chunk_table, chunk_table_rows_from, chunk_table_rows, chunk_table_bytes}
 use Rattle.xet_shards.proofs.ShardInMemory.Walks.{flat_map-push}
 use Rattle.xet_shards.proofs.Export.SectionParts.{map-push}
 use Rattle.xet_shards.proofs.Write.ChunkSorting.{table_moved}
 use Rattle.xet_shards.proofs.Write.Ranges.{chunk_table_rows-append}
+use Rattle.xet_shards.proofs.Write.TableOrder.{chunk_table-sorted}
 use Rattle.xet_shards.proofs.Write.Sections.{fits_ever}
 use Rattle.xet_shards.proofs.Write.Tables.{length-starts}
 use Rattle.xet_shards.proofs.Write.WrittenTables.{starts_fit, xorb_starts_fit, chunk_table_fits}
@@ -53,14 +57,39 @@ all_fit rows fit = All-unmap rows fit
     All-unmap : (rows : List ChunkTableRow) → All FitsTriple (map triple_of rows) → All FitsTableRow rows
     All-unmap rows fit k d below = subst FitsTriple (get_or-map triple_of rows k d (triple_of d) below) (fit k (triple_of d) (omega (arith, below, length-map rows triple_of)))
 
--- a table more
-table_more : (cursors : List Cursor) (before xorbs : List MDBXorbInfo) (cursor : Cursor) → HoldTables cursors before → cursor.rest.now ≡ chunk_table_bytes xorbs → cursor.first ≡ total_rows xorb_records before
-    → All FitsTableRow (chunk_table xorbs) → HoldTables (cursors ++ cursor ∷ []) (before ++ xorbs)
+-- the row of each row of the chunk table is one of the section
+rows_of_chunks : (row n : ℕ) (cs : List XorbChunkSequenceEntry) (bound : ℕ) → row < bound → All (λ (r : ChunkTableRow). r.row < bound) (map (λ (c : ℕ × XorbChunkSequenceEntry). record { word = c.1.chunk_hash.word0; row = row; index = c.0 }) (enumerate_from n cs))
+rows_of_chunks row n [] bound below = All-nil (λ (r : ChunkTableRow). r.row < bound)
+rows_of_chunks row n (c ∷ cs) bound below =
+    All-cons (λ (r : ChunkTableRow). r.row < bound) (record { word = c.chunk_hash.word0; row = row; index = n }) _ below (rows_of_chunks row (n + 1) cs bound below)
+
+rows_within : (front xorbs : List MDBXorbInfo) (bound : ℕ) → total_rows xorb_records front + total_rows xorb_records xorbs ≤ bound
+    → All (λ (r : ChunkTableRow). r.row < bound) (flat_map (λ e. chunk_table_rows_from (total_rows xorb_records e.0) e.1.chunks) (with_fronts front xorbs))
+rows_within front [] bound few = All-nil (λ (r : ChunkTableRow). r.row < bound)
+rows_within front (x ∷ xorbs) bound few =
+    let rest : total_rows xorb_records (front ++ x ∷ []) + total_rows xorb_records xorbs ≤ bound = omega (arith, few, sum_by_push xorb_row_count front x, sum_by-cons xorb_row_count x xorbs) in
+    All-append (λ (r : ChunkTableRow). r.row < bound) (chunk_table_rows_from (total_rows xorb_records front) x.chunks) _
+    (rows_of_chunks (total_rows xorb_records front) 0 x.chunks bound (omega (arith, few, sum_by-cons xorb_row_count x xorbs))) (rows_within (front ++ x ∷ []) xorbs bound rest)
+
+-- what a cursor at the front of a chunk table holds
+holds_table : (xorbs : List MDBXorbInfo) (cursor : Cursor) → cursor.rest.now ≡ chunk_table_bytes xorbs → All FitsXorb xorbs → total_rows xorb_records xorbs ≤ 4294967295 → cursor.first + total_rows xorb_records xorbs < 2 ^ 32
+    → HoldsRows (cursor, chunk_table xorbs)
 unfolding chunk_table_bytes
-table_more cursors before xorbs cursor hold bytes first fit = record {
+holds_table xorbs cursor bytes fit few fits = record {
+  bytes = bytes;
+  fits = all_fit (chunk_table xorbs) (chunk_table_fits xorbs fit few);
+  ascend = chunk_table-sorted xorbs;
+  later_fits = All-weaker (λ (r : ChunkTableRow). r.row < total_rows xorb_records xorbs) (λ (r : ChunkTableRow). cursor.first + r.row < 2 ^ 32) (λ r below. omega (arith, below, fits)) (chunk_table xorbs)
+      (All-permutation (λ (r : ChunkTableRow). r.row < total_rows xorb_records xorbs) (chunk_table_rows xorbs) (chunk_table xorbs) (table_moved xorbs) (rows_within [] xorbs (total_rows xorb_records xorbs) (omega arith)));
+}
+
+-- a table more
+table_more : (cursors : List Cursor) (before xorbs : List MDBXorbInfo) (cursor : Cursor) → HoldTables cursors before → cursor.first ≡ total_rows xorb_records before
+    → HoldsRows (cursor, chunk_table xorbs) → HoldTables (cursors ++ cursor ∷ []) (before ++ xorbs)
+table_more cursors before xorbs cursor hold first holds = record {
   held = hold.held ++ (cursor, chunk_table xorbs) ∷ [];
   cursors_are = map-push (λ (h : Cursor × List ChunkTableRow). h.0) hold.held (cursor, chunk_table xorbs) ∙ ap (λ cs. cs ++ cursor ∷ []) hold.cursors_are;
-  hold = All-push HoldsRows hold.held (cursor, chunk_table xorbs) hold.hold (record { bytes = bytes; fits = fit });
+  hold = All-push HoldsRows hold.held (cursor, chunk_table xorbs) hold.hold holds;
   moved =
       subst (IsPermutation (chunk_table_rows (before ++ xorbs))) (sym (flat_map-push rows_held hold.held (cursor, chunk_table xorbs)))
       (subst (λ rows. IsPermutation rows (flat_map rows_held hold.held ++ rows_held (cursor, chunk_table xorbs)))
@@ -89,9 +118,9 @@ pub one_gathered : (key : DataHash) (files xorbs : List SectionPart) (cursors : 
     → HasGathered files xorbs cursors totals parts → IsPartUnder key part → IsSplitOf part split → AddsPart totals split more
     → file_part.rows.now ≡ split.files.now → file_part.count ≡ more.file_rows - totals.file_rows → file_part.table.now ≡ split.file_table.now
     → xorb_part.rows.now ≡ split.xorbs.now → xorb_part.count ≡ more.xorb_rows - totals.xorb_rows → xorb_part.table.now ≡ split.xorb_table.now
-    → cursor.rest.now ≡ split.chunk_table.now → cursor.first ≡ totals.xorb_rows
+    → cursor.rest.now ≡ split.chunk_table.now → cursor.first ≡ totals.xorb_rows → more.xorb_rows < 2 ^ 32
     → HasGathered (files ++ file_part ∷ []) (xorbs ++ xorb_part ∷ []) (cursors ++ cursor ∷ []) more (parts ++ part ∷ [])
-one_gathered key files xorbs cursors totals more parts part split file_part xorb_part cursor before fits is adds file_rows file_count file_table xorb_rows xorb_count xorb_table rest first =
+one_gathered key files xorbs cursors totals more parts part split file_part xorb_part cursor before fits is adds file_rows file_count file_table xorb_rows xorb_count xorb_table rest first rows_fit =
     let file_fits = fits_ever file_records part.version part.files fits.files_fit in
     let file_widths : All FitsRecord part.files = λ k r below. (file_fits.stored k r below).widths in
     let xorb_widths : All FitsXorb part.xorbs = λ k r below. (fits.xorbs_fit.stored k r below).widths in
@@ -109,8 +138,8 @@ one_gathered key files xorbs cursors totals more parts part split file_part xorb
           (hold_more xorb_records xorbs (map (λ p. p.xorbs) parts) xorb_part part.xorbs before.xorbs_held (xorb_rows ∙ is.xorbs) (xorb_count ∙ omega (arith, more_xorb_rows)) (xorb_table ∙ is.xorb_table)
           (xorb_starts_fit part.xorbs xorb_widths fits.xorbs_fit.rows));
       tables_held = subst (HoldTables (cursors ++ cursor ∷ [])) (sym all_xorbs)
-          (table_more cursors (xorbs_in parts) part.xorbs cursor before.tables_held (rest ∙ is.chunk_table) (first ∙ ts.xorb_rows)
-          (all_fit (chunk_table part.xorbs) (chunk_table_fits part.xorbs xorb_widths fits.xorbs_fit.rows)));
+          (table_more cursors (xorbs_in parts) part.xorbs cursor before.tables_held (first ∙ ts.xorb_rows)
+          (holds_table part.xorbs cursor (rest ∙ is.chunk_table) xorb_widths fits.xorbs_fit.rows (omega (arith, first, more_xorb_rows, rows_fit))));
       totals_are = record {
         files_are = adds.files ∙ omega (arith, ts.files_are, ap (λ (f : MDBShardFileFooter). f.file_lookup_num_entry) footer, length-starts file_records part.files, length-append (files_in parts) part.files) ∙ ap length (sym all_files);
         file_rows = more_file_rows ∙ omega (arith, ts.file_rows, sum_by-append file_records.row_count (files_in parts) part.files) ∙ ap (total_rows file_records) (sym all_files);
@@ -132,17 +161,17 @@ module _ (key : DataHash) (parts : List Laid) (shards : List (Bor (List ℕ))) (
   lens = sym (length-map parts laid_out) ∙ ap length are ∙ length-map shards (λ (x : Bor (List ℕ)). x.now)
 
   pub gathered_next : (files xorbs : List SectionPart) (cursors : List Cursor) (totals more : Totals) (i : ℕ) (d : Bor (List ℕ)) (split : Split) → i < length shards → HasGathered files xorbs cursors totals (take i parts)
-      → ((key : DataHash) (part : Laid) → IsPartUnder key part → (get_or shards i d).now ≡ laid_out part → IsSplitOf part split) → AddsPart totals split more
+      → ((key : DataHash) (part : Laid) → IsPartUnder key part → (get_or shards i d).now ≡ laid_out part → IsSplitOf part split) → AddsPart totals split more → more.xorb_rows < 2 ^ 32
       → HasGathered (files ++ record { rows = split.files; count = more.file_rows - totals.file_rows; table = split.file_table } ∷ []) (xorbs ++ record { rows = split.xorbs; count = more.xorb_rows - totals.xorb_rows; table = split.xorb_table } ∷ [])
       (cursors ++ record { rest = split.chunk_table; first = totals.xorb_rows } ∷ []) more (take (i + 1) parts)
-  gathered_next files xorbs cursors totals more i d split below before splits adds =
+  gathered_next files xorbs cursors totals more i d split below before splits adds rows_fit =
       let within : i < length parts = omega (arith, below, lens) in
       let part : Laid = get_or parts i no_part in
       let bytes : (get_or shards i d).now ≡ laid_out part =
       sym (get_or-map (λ (x : Bor (List ℕ)). x.now) shards i d [] below) ∙ ap (λ bs. get_or bs i []) (sym are) ∙ get_or-map laid_out parts i no_part [] within in
       let here : IsPartUnder key part = fit i no_part within in
       subst (HasGathered _ _ _ more) (sym (take_more parts i no_part within))
-      (one_gathered key files xorbs cursors totals more (take i parts) part split _ _ _ before here (splits key part here bytes) adds refl refl refl refl refl refl refl refl)
+      (one_gathered key files xorbs cursors totals more (take i parts) part split _ _ _ before here (splits key part here bytes) adds refl refl refl refl refl refl refl refl rows_fit)
 
   pub all_gathered : (files xorbs : List SectionPart) (cursors : List Cursor) (totals : Totals) (i : ℕ) → length shards ≤ i → HasGathered files xorbs cursors totals (take i parts) → HasGathered files xorbs cursors totals parts
   all_gathered files xorbs cursors totals i past before = subst (HasGathered files xorbs cursors totals) (take_all i parts (omega (arith, past, lens))) before

@@ -1,5 +1,5 @@
 -- Parts one after another are the layout of all records.
-use Rattle.std.proofs.Common.{◌≡◌, ℕ, List, [], ◌∷◌, ◌++◌, map, flat_map, get_or, length, Bor, ◌<◌, ◌≤◌, Option, refl, sym, ap, ◌∙◌, subst, append_assoc, arith}
+use Rattle.std.proofs.Common.{◌≡◌, ℕ, ◌+◌, List, [], ◌∷◌, ◌++◌, map, flat_map, get_or, length, Bor, ◌<◌, ◌≤◌, Option, refl, sym, ap, ◌∙◌, subst, append_assoc, arith}
 use Rattle.std.specs.Prelude.{All, unwrap_or}
 use Rattle.std.specs.Io.KnownBytes.{Appends}
 use Rattle.std.specs.List.Sorted.{IsPermutation}
@@ -7,7 +7,7 @@ use Rattle.std.proofs.KnownBytes.{Appends-trans}
 use Rattle.std.proofs.lemmas.Grind.{flat_map-append}
 use Rattle.std.proofs.lemmas.List.Folds.{flat_map-map}
 use Rattle.std.proofs.lemmas.List.Elements.{All-nil, All-cons, All-append, All-drop, All-map}
-use Rattle.std.proofs.lemmas.List.Sorted.{IsPermutation-trans}
+use Rattle.std.proofs.lemmas.List.Sorted.{IsPermutation-trans, length_permutation}
 use Rattle.xet_base.specs.declared.merklehash.DataHash.{DataHash}
 use Rattle.xet_records.specs.declared.file_structs.MDBFileInfo.{MDBFileInfo}
 use Rattle.xet_records.specs.declared.xorb_structs.MDBXorbInfo.{MDBXorbInfo}
@@ -20,14 +20,16 @@ use Rattle.xet_shards.specs.declared.shard_format.export.gathering.Totals.{Total
 use Rattle.xet_shards.specs.declared.shard_format.export.part_split.Split.{Split}
 use Rattle.xet_shards.specs.declared.shard_format.export.section_parts.SectionPart.{SectionPart}
 use Rattle.xet_shards.specs.Export.InARow.{Laid, laid_out, IsPartUnder, files_in, xorbs_in, options_under, AscendBoth, AreBytesOf, AppendsRow}
-use Rattle.xet_shards.specs.Steps.Gathering.{HasGathered}
-use Rattle.xet_shards.specs.Steps.InARow.{HoldSections, HoldsRows, rows_held, Merges, all_of, IsSplitOf}
+use Rattle.xet_shards.specs.Steps.Gathering.{HasTotals, HasGathered}
+use Rattle.xet_shards.specs.Steps.InARow.{HoldSections, all_of, IsSplitOf}
+use Rattle.xet_shards.specs.Steps.ChunkMerging.{HoldsRows, rows_held, Merges}
 use Rattle.xet_shards.specs.Write.Layout.{header_value, footer_value, shard_header_bytes, shard_footer_bytes, layout_of}
 use Rattle.xet_shards.specs.Write.Section.{section_bytes, total_rows}
 use Rattle.xet_records.specs.Limits.{MAX_ROWS}
 use Rattle.xet_shards.proofs.Export.RowShard.{row_of}
 use Rattle.xet_shards.specs.Write.Tables.{ChunkTableRow, table_bytes, chunk_table_rows, chunk_table_bytes, chunk_table_row_bytes}
 use Rattle.xet_shards.proofs.Write.ChunkSorting.{sorted_is_table}
+use Rattle.xet_shards.proofs.Write.XorbLayouts.{xorb_rows-chunks, length-chunk_table_rows}
 use Rattle.xet_shards.proofs.Write.Sections.{fits_ever, files_fit_in, xorbs_fit}
 use Rattle.xet_shards.specs.Write.WithOptions.{Ascends}
 use Rattle.xet_shards.proofs.Write.WithOptions.{files_ascend, xorbs_ascend}
@@ -65,14 +67,21 @@ merged_table xorbs rows old new moved merges =
     subst (λ rs. Appends old new (flat_map chunk_table_row_bytes rs))
     (sym (sorted_is_table xorbs (chunk_table_rows xorbs) merges.sorted refl (IsPermutation-trans (chunk_table_rows xorbs) rows merges.sorted moved merges.moved) merges.in_order)) merges.written
 
-pub all_written : (files xorbs : List SectionPart) (cursors : List Cursor) (totals : Totals) (parts : List Laid) (key : DataHash) (footer : MDBShardFileFooter) (o a b c d e f g h i : Option (List ℕ)) → HasGathered files xorbs cursors totals parts
+-- the chunks of all parts are as many as the rows of their tables
+count_is : (totals : Totals) (parts : List Laid) (chunks : ℕ) → HasTotals totals (files_in parts) (xorbs_in parts) → chunks + totals.xorbs ≡ totals.xorb_rows → (rows : List ChunkTableRow)
+    → IsPermutation (chunk_table_rows (xorbs_in parts)) rows → chunks ≡ length rows
+count_is totals parts chunks are sum rows moved =
+    omega (arith, sum, are.xorbs_are, are.xorb_rows, xorb_rows-chunks (xorbs_in parts), length-chunk_table_rows (xorbs_in parts), length_permutation (chunk_table_rows (xorbs_in parts)) rows moved)
+
+pub all_written : (files xorbs : List SectionPart) (cursors : List Cursor) (totals : Totals) (parts : List Laid) (key : DataHash) (footer : MDBShardFileFooter) (chunks : ℕ) (o a b c d e f g h i : Option (List ℕ)) → HasGathered files xorbs cursors totals parts
+    → chunks + totals.xorbs ≡ totals.xorb_rows
     → Appends o a (shard_header_bytes (header_value V3)) → Appends a b (flat_map (λ s. s.rows.now) files) → Appends b c (file_records.header_bytes file_records.bookend)
     → Appends c d (flat_map (λ s. s.rows.now) xorbs) → Appends d e (xorb_records.header_bytes xorb_records.bookend)
     → ((records : List (List MDBFileInfo)) → HoldSections file_records files records → Appends e f (table_bytes file_records (all_of records)))
     → ((records : List (List MDBXorbInfo)) → HoldSections xorb_records xorbs records → Appends f g (table_bytes xorb_records (all_of records)))
-    → ((held : List (Cursor × List ChunkTableRow)) → map (λ h. h.0) held ≡ cursors → All HoldsRows held → Merges (flat_map rows_held held) g h)
+    → ((held : List (Cursor × List ChunkTableRow)) → map (λ h. h.0) held ≡ cursors → All HoldsRows held → chunks ≡ length (flat_map rows_held held) → Merges (flat_map rows_held held) g h)
     → Appends h i (shard_footer_bytes footer) → footer ≡ footer_value (files_in parts) (xorbs_in parts) (options_under key) → Appends o i (layout_of (files_in parts) (xorbs_in parts) (options_under key))
-all_written files xorbs cursors totals parts key footer o a b c d e f g h i held header file_rows file_end xorb_rows xorb_end file_table xorb_table merges end footer_is =
+all_written files xorbs cursors totals parts key footer chunks o a b c d e f g h i held sum header file_rows file_end xorb_rows xorb_end file_table xorb_table merges end footer_is =
     let fs = files_in parts in
     let xs = xorbs_in parts in
     let one : Appends a b (flat_map file_records.record_bytes fs) =
@@ -82,7 +91,7 @@ all_written files xorbs cursors totals parts key footer o a b c d e f g h i held
     let three : Appends e f (table_bytes file_records fs) = subst (λ rs. Appends e f (table_bytes file_records rs)) (all_files parts) (file_table (map (λ p. p.files) parts) held.files_held) in
     let four : Appends f g (table_bytes xorb_records xs) = subst (λ rs. Appends f g (table_bytes xorb_records rs)) (all_xorbs parts) (xorb_table (map (λ p. p.xorbs) parts) held.xorbs_held) in
     let tables = held.tables_held in
-    let five : Appends g h (chunk_table_bytes xs) = merged_table xs (flat_map rows_held tables.held) g h tables.moved (merges tables.held tables.cursors_are tables.hold) in
+    let five : Appends g h (chunk_table_bytes xs) = merged_table xs (flat_map rows_held tables.held) g h tables.moved (merges tables.held tables.cursors_are tables.hold (count_is totals parts chunks held.totals_are sum (flat_map rows_held tables.held) tables.moved)) in
     let six : Appends h i (shard_footer_bytes (footer_value fs xs (options_under key))) = subst (λ ft. Appends h i (shard_footer_bytes ft)) footer_is end in
     subst (Appends o i) (layout_from_parts fs xs key)
     (Appends-trans o h i _ _ (Appends-trans o g h _ _ (Appends-trans o f g _ _ (Appends-trans o e f _ _ (Appends-trans o d e _ _ (Appends-trans o c d _ _ (Appends-trans o b c _ _ (Appends-trans o a b _ _ header one) file_end) two) xorb_end) three) four) five) six)

@@ -10,7 +10,8 @@ use Rattle.xet_shards.specs.declared.shard_format.export.gathering.Totals.{Total
 use Rattle.xet_shards.specs.declared.shard_format.export.part_split.Split.{Split}
 use Rattle.xet_shards.specs.declared.shard_format.export.section_parts.SectionPart.{SectionPart}
 use Rattle.xet_shards.specs.Export.InARow.{Laid, files_in, xorbs_in}
-use Rattle.xet_shards.specs.Steps.InARow.{HoldSections, HoldsRows, rows_held}
+use Rattle.xet_shards.specs.Steps.InARow.{HoldSections}
+use Rattle.xet_shards.specs.Steps.ChunkMerging.{HoldsRows, rows_held}
 use Rattle.xet_shards.specs.Write.Section.{total_rows}
 use Rattle.xet_shards.specs.Write.Tables.{ChunkTableRow, chunk_table_rows}
 

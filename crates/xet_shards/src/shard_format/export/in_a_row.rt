@@ -110,7 +110,7 @@ fn write_gathered<W: Write>(
     WrittenXorbs::write_bookend(writer)?;
     write_tables::<MDBFileInfo, W>(alloc, writer, files.as_slice())?;
     write_tables::<MDBXorbInfo, W>(alloc, writer, xorbs.as_slice())?;
-    write_merged(alloc, writer, cursors, u64::from(chunks))?;
+    write_merged(alloc, writer, cursors.as_slice(), u64::from(chunks))?;
     metadata.serialize(writer)?;
     Ok(MDBShardInfo { header, metadata })
 }

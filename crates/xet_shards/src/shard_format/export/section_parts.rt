@@ -1,8 +1,8 @@
 //! Sections of parts, and their tables, written one after another.
 
-ghost use Rattle.std.specs.Prelude.{◌≡◌, ◌+◌, ◌⊎◌, ℕ, List, All, OnOk, IfOk, IfErr, map, flat_map};
+ghost use Rattle.std.specs.Prelude.{◌≡◌, ◌+◌, ◌^◌, ◌≤◌, ◌⊎◌, ℕ, List, All, OnOk, IfOk, IfErr, map, flat_map};
 ghost use Rattle.std.specs.Io.KnownBytes.{Appends};
-ghost use Rattle.xet_base.specs.Errors.{IsWriteError};
+ghost use Rattle.xet_base.specs.Errors.{IsInvalidShard, IsWriteError};
 ghost use Rattle.xet_shards.specs.Export.InARow.{IsBadPart};
 ghost use Rattle.xet_shards.specs.Read.TableReading.{FitsStart};
 ghost use Rattle.xet_shards.specs.Steps.InARow.{HoldSections, all_of};
@@ -64,7 +64,8 @@ pub(in crate::shard_format) fn write_tables<R: SectionRecord, W: Write>(
 // The sum, or `InvalidShard` if it passes `u32`.
 pub(in crate::shard_format) fn later(alloc: Global, first: u32, count: u32) -> Result<u32>
     ensures sum { IfOk result (λ n. n ≡ first + count) }
-    ensures causes { IfErr result IsBadPart }
+    ensures passes { IfErr result (λ _. 2 ^ 32 ≤ first + count) }
+    ensures causes { IfErr result IsInvalidShard }
 {
     match first.checked_add(count) {
         Some(sum) => Ok(sum),

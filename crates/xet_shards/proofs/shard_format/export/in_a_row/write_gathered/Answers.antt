@@ -1,4 +1,4 @@
-use Rattle.std.proofs.Common.{List, flat_map, sym, subst, rules, ◌≡◌, ◌+◌}
+use Rattle.std.proofs.Common.{List, flat_map, sym, ◌∙◌, subst, rules, ◌≡◌, ◌+◌}
 use Rattle.std.specs.Io.KnownBytes.{Appends}
 use Rattle.xet_records.specs.FileRecord.{file_records}
 use Rattle.xet_records.specs.XorbRecord.{xorb_records}
@@ -15,9 +15,9 @@ returns-clause-bytes g c = λ parts held fit.
     let contents = g.W.Write.contents in
     let all = c.args.gathered in
     let sum : c.in-Some.chunks + all.totals.xorbs ≡ all.totals.xorb_rows = search rules in
-    all_written all.files.items all.xorbs.items all.cursors.items all.totals parts c.args.key c.footer_of_parts-metadata.result
+    all_written all.files.items all.xorbs.items all.cursors.items all.totals parts c.args.key c.footer_of_parts-metadata.result c.in-Some.chunks
     (contents c.args.writer.now) (contents c.serialize.new.writer) (contents c.write_rows.new.writer) (contents c.write_bookend.new.writer) (contents c.write_rows-2.new.writer) (contents c.write_bookend-2.new.writer)
-    (contents c.write_tables.new.writer) (contents c.write_tables-2.new.writer) (contents c.write_merged.new.writer) (contents c.serialize-2.new.writer) held
+    (contents c.write_tables.new.writer) (contents c.write_tables-2.new.writer) (contents c.write_merged.new.writer) (contents c.serialize-2.new.writer) held sum
     (subst (λ (h : MDBShardFileHeader). Appends (contents c.args.writer.now) (contents c.serialize.new.writer) (shard_header_bytes h)) c.of_version-header.ensures c.in_ok-serialize.ensures.bytes)
     (subst (λ (ss : List SectionPart). Appends (contents c.serialize.new.writer) (contents c.write_rows.new.writer) (flat_map (λ s. s.rows.now) ss)) c.as_slice.ensures.value c.in_ok-write_rows.ensures.bytes)
     c.in_ok-write_bookend.ensures.bytes
@@ -25,6 +25,6 @@ returns-clause-bytes g c = λ parts held fit.
     c.in_ok-write_bookend-2.ensures.bytes
     (λ records hold. c.in_ok-write_tables.ensures.bytes records (subst (λ ss. HoldSections file_records ss records) (sym c.as_slice-3.ensures.value) hold))
     (λ records hold. c.in_ok-write_tables-2.ensures.bytes records (subst (λ ss. HoldSections xorb_records ss records) (sym c.as_slice-4.ensures.value) hold))
-    c.in_ok-write_merged.ensures.bytes
+    (λ tables are hold count. c.in_ok-write_merged.ensures.held tables (are ∙ sym c.as_slice-5.ensures.value) hold (c.from.ensures ∙ count))
     c.in_ok-serialize-2.ensures.bytes
     (c.footer_of_parts-metadata.ensures (files_in parts) (xorbs_in parts) fit held.totals_are sum)
