@@ -21,10 +21,10 @@ use Rattle.xet_shards.specs.declared.shard_format.export.chunk_merging.Cursor.{C
 use Rattle.xet_shards.specs.declared.shard_format.export.gathering.Totals.{Totals}
 use Rattle.xet_shards.specs.declared.shard_format.export.part_split.Split.{Split}
 use Rattle.xet_shards.specs.declared.shard_format.export.section_parts.SectionPart.{SectionPart}
-use Rattle.xet_shards.specs.Export.InARow.{Laid, laid_out, IsPartUnder, files_in, xorbs_in}
+use Rattle.xet_shards.specs.Export.InARow.{Laid, laid_out, IsPartUnder, files_in, xorbs_in, FitTogether}
 use Rattle.xet_shards.specs.Steps.InARow.{HoldSections, IsSplitOf}
 use Rattle.xet_shards.specs.Steps.ChunkMerging.{HoldsRows, rows_held, FitsTableRow}
-use Rattle.xet_shards.specs.Steps.Gathering.{AddsPart, HoldTables, HasGathered}
+use Rattle.xet_shards.specs.Steps.Gathering.{AddsPart, FitWith, HoldTables, HasGathered}
 use Rattle.xet_shards.specs.Read.TableReading.{FitsStart, FitsTriple, triple_of}
 use Rattle.xet_shards.specs.Write.Ranges.{chunk_row_later}
 use Rattle.xet_shards.specs.Write.Section.{total_rows, with_fronts}
@@ -32,6 +32,7 @@ use Rattle.std.specs.List.{enumerate_from}
 use Rattle.xet_records.specs.declared.xorb_structs.XorbChunkSequenceEntry.{XorbChunkSequenceEntry}
 use Rattle.xet_shards.specs.Write.Tables.{ChunkTableRow, starts, table_bytes, chunk_table, chunk_table_rows_from, chunk_table_rows, chunk_table_bytes}
 use Rattle.xet_shards.proofs.ShardInMemory.Walks.{flat_map-push}
+use Rattle.xet_shards.proofs.Export.Permutations.{sum_through}
 use Rattle.xet_shards.proofs.Export.SectionParts.{map-push}
 use Rattle.xet_shards.proofs.Write.ChunkSorting.{table_moved}
 use Rattle.xet_shards.proofs.Write.Ranges.{chunk_table_rows-append}
@@ -153,12 +154,96 @@ one_gathered key files xorbs cursors totals more parts part split file_part xorb
       };
     }
 
+length_rows : {H R : Type 0} (K : RecordKind H R) → ((r : R) → 0 < K.row_count r) → (rs : List R) → length rs ≤ total_rows K rs
+length_rows K some [] = omega arith
+length_rows K some (r ∷ rs) = omega (arith, some r, length_rows K some rs, sum_by-cons K.row_count r rs)
+
+abbrev stored_of : MDBXorbInfo → ℕ
+stored_of x = x.metadata.num_bytes_in_xorb
+
+abbrev on_disk_of : MDBXorbInfo → ℕ
+on_disk_of x = x.metadata.num_bytes_on_disk
+
+-- where the sums over all parts fit, so do those with one part more
+fit_with : (key : DataHash) (parts : List Laid) (i : ℕ) (d part : Laid) (files xorbs : List SectionPart) (cursors : List Cursor) (totals : Totals) (split : Split) → i < length parts → get_or parts i d ≡ part
+    → FitTogether (files_in parts) (xorbs_in parts) → IsPartUnder key part → HasGathered files xorbs cursors totals (take i parts) → IsSplitOf part split → FitWith totals split
+fit_with key parts i d part files xorbs cursors totals split below part_is fit fits before is =
+    let file_fits = fits_ever file_records part.version part.files fits.files_fit in
+    let file_widths : All FitsRecord part.files = λ k r below. (file_fits.stored k r below).widths in
+    let ts = before.totals_are in
+    let file_rows : length split.files.now / 48 ≡ total_rows file_records part.files = ap (λ (bs : List ℕ). length bs / 48) is.files ∙ length-file_rows part.files file_widths in
+    let xorb_rows : length split.xorbs.now / 48 ≡ total_rows xorb_records part.xorbs = ap (λ (bs : List ℕ). length bs / 48) is.xorbs ∙ length-xorb_rows part.xorbs in
+    let footer = is.footer_is in
+    let all_file_rows : total_rows file_records (files_in (take i parts)) + total_rows file_records part.files ≤ total_rows file_records (files_in parts) =
+    subst (λ (p : Laid). total_rows file_records (files_in (take i parts)) + total_rows file_records p.files ≤ total_rows file_records (files_in parts)) part_is (sum_through (λ (p : Laid). p.files) file_records.row_count parts i d below) in
+    let all_xorb_rows : total_rows xorb_records (xorbs_in (take i parts)) + total_rows xorb_records part.xorbs ≤ total_rows xorb_records (xorbs_in parts) =
+    subst (λ (p : Laid). total_rows xorb_records (xorbs_in (take i parts)) + total_rows xorb_records p.xorbs ≤ total_rows xorb_records (xorbs_in parts)) part_is (sum_through (λ (p : Laid). p.xorbs) xorb_records.row_count parts i d below) in
+    let all_sizes : sum_by size_of_file (files_in (take i parts)) + sum_by size_of_file part.files ≤ sum_by size_of_file (files_in parts) =
+    subst (λ (p : Laid). sum_by size_of_file (files_in (take i parts)) + sum_by size_of_file p.files ≤ sum_by size_of_file (files_in parts)) part_is (sum_through (λ (p : Laid). p.files) size_of_file parts i d below) in
+    let all_stored : sum_by stored_of (xorbs_in (take i parts)) + sum_by stored_of part.xorbs ≤ sum_by stored_of (xorbs_in parts) =
+    subst (λ (p : Laid). sum_by stored_of (xorbs_in (take i parts)) + sum_by stored_of p.xorbs ≤ sum_by stored_of (xorbs_in parts)) part_is (sum_through (λ (p : Laid). p.xorbs) stored_of parts i d below) in
+    let all_on_disk : sum_by on_disk_of (xorbs_in (take i parts)) + sum_by on_disk_of part.xorbs ≤ sum_by on_disk_of (xorbs_in parts) =
+    subst (λ (p : Laid). sum_by on_disk_of (xorbs_in (take i parts)) + sum_by on_disk_of p.xorbs ≤ sum_by on_disk_of (xorbs_in parts)) part_is (sum_through (λ (p : Laid). p.xorbs) on_disk_of parts i d below) in
+    record {
+      files = omega (
+        arith,
+        fit.rows.file_rows,
+        ts.files_are,
+        ap (λ (f : MDBShardFileFooter). f.file_lookup_num_entry) footer,
+        length-starts file_records part.files,
+        length_rows file_records (λ r. omega arith) (files_in (take i parts)),
+        length_rows file_records (λ r. omega arith) part.files,
+        all_file_rows,
+      );
+      file_rows = omega (arith, fit.rows.file_rows, ts.file_rows, file_rows, all_file_rows);
+      xorbs = omega (
+        arith,
+        fit.rows.xorb_rows,
+        ts.xorbs_are,
+        ap (λ (f : MDBShardFileFooter). f.xorb_lookup_num_entry) footer,
+        length-starts xorb_records part.xorbs,
+        length_rows xorb_records (λ r. omega arith) (xorbs_in (take i parts)),
+        length_rows xorb_records (λ r. omega arith) part.xorbs,
+        all_xorb_rows,
+      );
+      xorb_rows = omega (arith, fit.rows.xorb_rows, ts.xorb_rows, xorb_rows, all_xorb_rows);
+      materialized_bytes = omega (arith, fit.materialized, ts.materialized_bytes, ap (λ (f : MDBShardFileFooter). f.materialized_bytes) footer, all_sizes);
+      stored_bytes = omega (arith, fit.stored, ts.stored_bytes, ap (λ (f : MDBShardFileFooter). f.stored_bytes) footer, all_stored);
+      stored_bytes_on_disk = omega (arith, fit.on_disk, ts.stored_bytes_on_disk, ap (λ (f : MDBShardFileFooter). f.stored_bytes_on_disk) footer, all_on_disk);
+    }
+
 abbrev no_part : Laid
 no_part = record { files = []; xorbs = []; version = V3; key = no_key; creation = 0; expiry = 0 }
 
 module _ (key : DataHash) (parts : List Laid) (shards : List (Bor (List ℕ))) (fit : All (IsPartUnder key) parts) (are : map laid_out parts ≡ map (λ x. x.now) shards) where
   lens : length parts ≡ length shards
   lens = sym (length-map parts laid_out) ∙ ap length are ∙ length-map shards (λ (x : Bor (List ℕ)). x.now)
+
+  module _ (i : ℕ) (d : Bor (List ℕ)) (below : i < length shards) where
+    part_within : i < length parts
+    part_within = omega (arith, below, lens)
+
+    abbrev part_here : Laid
+    part_here = get_or parts i no_part
+
+    part_bytes : (get_or shards i d).now ≡ laid_out part_here
+    part_bytes = sym (get_or-map (λ (x : Bor (List ℕ)). x.now) shards i d [] below) ∙ ap (λ bs. get_or bs i []) (sym are) ∙ get_or-map laid_out parts i no_part [] part_within
+
+    -- a part is split
+    pub part_splits : (P : Type 0) → ((key : DataHash) (part : Laid) → IsPartUnder key part → (get_or shards i d).now ≡ laid_out part → P) → P
+    part_splits P from = from key part_here (fit i no_part part_within) part_bytes
+
+    -- its key is that of all
+    pub same_key : (split : Split) → ((key : DataHash) (part : Laid) → IsPartUnder key part → (get_or shards i d).now ≡ laid_out part → IsSplitOf part split) → split.footer.chunk_hash_hmac_key ≡ key
+    same_key split splits =
+        let here = fit i no_part part_within in
+        ap (λ (f : MDBShardFileFooter). f.chunk_hash_hmac_key) (splits key part_here here part_bytes).footer_is ∙ here.key_is
+
+    pub part_fits : (files xorbs : List SectionPart) (cursors : List Cursor) (totals : Totals) (split : Split) → HasGathered files xorbs cursors totals (take i parts)
+        → ((key : DataHash) (part : Laid) → IsPartUnder key part → (get_or shards i d).now ≡ laid_out part → IsSplitOf part split) → FitTogether (files_in parts) (xorbs_in parts) → FitWith totals split
+    part_fits files xorbs cursors totals split before splits together =
+        let here = fit i no_part part_within in
+        fit_with key parts i no_part part_here files xorbs cursors totals split part_within refl together here before (splits key part_here here part_bytes)
 
   pub gathered_next : (files xorbs : List SectionPart) (cursors : List Cursor) (totals more : Totals) (i : ℕ) (d : Bor (List ℕ)) (split : Split) → i < length shards → HasGathered files xorbs cursors totals (take i parts)
       → ((key : DataHash) (part : Laid) → IsPartUnder key part → (get_or shards i d).now ≡ laid_out part → IsSplitOf part split) → AddsPart totals split more → more.xorb_rows < 2 ^ 32

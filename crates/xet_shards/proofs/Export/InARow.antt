@@ -1,6 +1,8 @@
 -- Parts one after another are the layout of all records.
-use Rattle.std.proofs.Common.{◌≡◌, ℕ, ◌+◌, List, [], ◌∷◌, ◌++◌, map, flat_map, get_or, length, Bor, ◌<◌, ◌≤◌, Option, refl, sym, ap, ◌∙◌, subst, append_assoc, arith}
-use Rattle.std.specs.Prelude.{All, unwrap_or}
+use Rattle.std.proofs.Common.{◌≡◌, ℕ, ◌+◌, List, [], ◌∷◌, ◌++◌, map, flat_map, get_or, length, Bor, ◌<◌, ◌≤◌, ◌^◌, Option, None, Ok, Err, refl, sym, ap, ◌∙◌, subst, append_assoc, arith}
+use Rattle.std.specs.Prelude.{All, unwrap_or, IfOk, OnOk}
+use Rattle.std.specs.declared.result.Result.{Result}
+use Rattle.std.proofs.lemmas.List.{length-map}
 use Rattle.std.specs.Io.KnownBytes.{Appends}
 use Rattle.std.specs.List.Sorted.{IsPermutation}
 use Rattle.std.proofs.KnownBytes.{Appends-trans}
@@ -19,11 +21,12 @@ use Rattle.xet_shards.specs.declared.shard_format.export.chunk_merging.Cursor.{C
 use Rattle.xet_shards.specs.declared.shard_format.export.gathering.Totals.{Totals}
 use Rattle.xet_shards.specs.declared.shard_format.export.part_split.Split.{Split}
 use Rattle.xet_shards.specs.declared.shard_format.export.section_parts.SectionPart.{SectionPart}
-use Rattle.xet_shards.specs.Export.InARow.{Laid, laid_out, IsPartUnder, files_in, xorbs_in, options_under, AscendBoth, AreBytesOf, AppendsRow}
+use Rattle.xet_shards.specs.Export.InARow.{Laid, laid_out, IsPartUnder, files_in, xorbs_in, options_under, AscendBoth, HaveFewRows, FitTogether, ArePartsInARow, AreBytesOf, AreInARow, AppendsRow}
 use Rattle.xet_shards.specs.Steps.Gathering.{HasTotals, HasGathered}
 use Rattle.xet_shards.specs.Steps.InARow.{HoldSections, all_of, IsSplitOf}
 use Rattle.xet_shards.specs.Steps.ChunkMerging.{HoldsRows, rows_held, Merges}
-use Rattle.xet_shards.specs.Write.Layout.{header_value, footer_value, shard_header_bytes, shard_footer_bytes, layout_of}
+use Rattle.xet_shards.specs.Write.Layout.{header_value, footer_value, shard_header_bytes, shard_footer_bytes, plain_options, layout_of, layout}
+use Rattle.xet_shards.specs.Ends.Ends.{FitsFooter}
 use Rattle.xet_shards.specs.Write.Section.{section_bytes, total_rows}
 use Rattle.xet_records.specs.Limits.{MAX_ROWS}
 use Rattle.xet_shards.proofs.Export.RowShard.{row_of}
@@ -36,7 +39,8 @@ use Rattle.xet_shards.proofs.Write.WithOptions.{files_ascend, xorbs_ascend}
 use Rattle.xet_shards.proofs.Ends.EndsUnique.{ends_of_bytes}
 use Rattle.std.specs.FinMap.{values}
 use Rattle.xet_base.specs.KeyedHash.{no_key}
-use Rattle.xet_shards.specs.Content.Shard.{Shard}
+use Rattle.xet_shards.specs.Content.Shard.{Shard, IsShard}
+use Rattle.xet_shards.specs.Write.WrittenShard.{IsBytesOf}
 
 -- the rows of all parts are those of all their records
 rows_joined : {R : Type 0} (bytes : R → List ℕ) (records : List (List R)) → flat_map (flat_map bytes) records ≡ flat_map bytes (all_of records)
@@ -68,7 +72,7 @@ merged_table xorbs rows old new moved merges =
     (sym (sorted_is_table xorbs (chunk_table_rows xorbs) merges.sorted refl (IsPermutation-trans (chunk_table_rows xorbs) rows merges.sorted moved merges.moved) merges.in_order)) merges.written
 
 -- the chunks of all parts are as many as the rows of their tables
-count_is : (totals : Totals) (parts : List Laid) (chunks : ℕ) → HasTotals totals (files_in parts) (xorbs_in parts) → chunks + totals.xorbs ≡ totals.xorb_rows → (rows : List ChunkTableRow)
+pub count_is : (totals : Totals) (parts : List Laid) (chunks : ℕ) → HasTotals totals (files_in parts) (xorbs_in parts) → chunks + totals.xorbs ≡ totals.xorb_rows → (rows : List ChunkTableRow)
     → IsPermutation (chunk_table_rows (xorbs_in parts)) rows → chunks ≡ length rows
 count_is totals parts chunks are sum rows moved =
     omega (arith, sum, are.xorbs_are, are.xorb_rows, xorb_rows-chunks (xorbs_in parts), length-chunk_table_rows (xorbs_in parts), length_permutation (chunk_table_rows (xorbs_in parts)) rows moved)
@@ -103,6 +107,14 @@ parts_fit key (part ∷ parts) fit =
     let stored = (fits_ever file_records part.version part.files (fit 0 part (omega arith)).files_fit).stored in
     All-append FitsRecord part.files (files_in parts) (λ k r below. (stored k r below).widths) (parts_fit key parts (All-drop (IsPartUnder key) 1 (part ∷ parts) fit))
 
+-- the records of parts may be in a section
+files_stored : (key : DataHash) (parts : List Laid) → All (IsPartUnder key) parts → All (All file_records.IsStored) (map (λ p. p.files) parts)
+files_stored key parts fit =
+    All-map (All file_records.IsStored) (λ (p : Laid). p.files) parts (λ k d below. (fits_ever file_records (get_or parts k d).version (get_or parts k d).files (fit k d below).files_fit).stored)
+
+xorbs_stored : (key : DataHash) (parts : List Laid) → All (IsPartUnder key) parts → All (All xorb_records.IsStored) (map (λ p. p.xorbs) parts)
+xorbs_stored key parts fit = All-map (All xorb_records.IsStored) (λ (p : Laid). p.xorbs) parts (λ k d below. (fit k d below).xorbs_fit.stored)
+
 -- what the order of gathered sections says of the parts
 pub in_order : (key : DataHash) (parts : List Laid) (files xorbs : List SectionPart) (cursors : List Cursor) (totals : Totals) → All (IsPartUnder key) parts → All (λ part. AscendBoth part.files part.xorbs) parts
     → HasGathered files xorbs cursors totals parts
@@ -112,11 +124,11 @@ pub in_order : (key : DataHash) (parts : List Laid) (files xorbs : List SectionP
 in_order key parts files xorbs cursors totals fit each held files_checked xorbs_checked = record {
   files_ascend = subst (Ascends file_records) (all_files parts)
       (files_checked (map (λ p. p.files) parts) held.files_held
-      (All-map (All file_records.IsStored) (λ (p : Laid). p.files) parts (λ k d below. (fits_ever file_records (get_or parts k d).version (get_or parts k d).files (fit k d below).files_fit).stored))
+      (files_stored key parts fit)
       (All-map (Ascends file_records) (λ (p : Laid). p.files) parts (λ k d below. (each k d below).files_ascend)));
   xorbs_ascend = subst (Ascends xorb_records) (all_xorbs parts)
       (xorbs_checked (map (λ p. p.xorbs) parts) held.xorbs_held
-      (All-map (All xorb_records.IsStored) (λ (p : Laid). p.xorbs) parts (λ k d below. (fit k d below).xorbs_fit.stored))
+      (xorbs_stored key parts fit)
       (All-map (Ascends xorb_records) (λ (p : Laid). p.xorbs) parts (λ k d below. (each k d below).xorbs_ascend)));
 }
 
@@ -161,9 +173,61 @@ parts_of (s ∷ shards) (b ∷ bytes) (is, others) =
     }
 
 -- what was written of shards, whose records ascend, is the shard that has them all
-pub row_written : (shards : List Shard) (bytes : List (List ℕ)) (old new : Option (List ℕ)) → AreBytesOf shards bytes → (are : ArePartsOf shards bytes) → AscendBoth (files_in are.parts) (xorbs_in are.parts)
-    → total_rows file_records (files_in are.parts) ≤ MAX_ROWS → total_rows xorb_records (xorbs_in are.parts) ≤ MAX_ROWS
-    → Appends old new (layout_of (files_in are.parts) (xorbs_in are.parts) (options_under no_key)) → AppendsRow shards old new
-row_written shards bytes old new is are ascend file_rows xorb_rows written =
-    row_of shards bytes old new is (subst (λ fs. AscendBoth fs (flat_map (λ s. values s.xorbs) shards)) are.files_are (subst (AscendBoth (files_in are.parts)) are.xorbs_are ascend)) (subst (λ fs. total_rows file_records fs ≤ MAX_ROWS) are.files_are file_rows) (subst (λ xs. total_rows xorb_records xs ≤ MAX_ROWS) are.xorbs_are xorb_rows)
+pub row_written : {T E : Type 0} (shards : List Shard) (bytes : List (List ℕ)) (old new : Option (List ℕ)) → AreBytesOf shards bytes → (are : ArePartsOf shards bytes) (result : Result T E)
+    → IfOk result (λ _. AscendBoth (files_in are.parts) (xorbs_in are.parts)) → IfOk result (λ _. HaveFewRows (files_in are.parts) (xorbs_in are.parts))
+    → OnOk result (Appends old new (layout_of (files_in are.parts) (xorbs_in are.parts) (options_under no_key))) → OnOk result (AppendsRow shards old new)
+row_written shards bytes old new is are (Err e) ascend rows written = tt
+row_written shards bytes old new is are (Ok value) ascend rows written =
+    row_of shards bytes old new is (subst (λ fs. AscendBoth fs (flat_map (λ s. values s.xorbs) shards)) are.files_are (subst (AscendBoth (files_in are.parts)) are.xorbs_are ascend))
+    (subst (λ fs. total_rows file_records fs ≤ MAX_ROWS) are.files_are rows.file_rows) (subst (λ xs. total_rows xorb_records xs ≤ MAX_ROWS) are.xorbs_are rows.xorb_rows)
     (subst (Appends old new) (λ i. layout_of (are.files_are i) (are.xorbs_are i) (options_under no_key)) written)
+
+-- the numbers of the footer of a shard without a key
+pub plain_widths : (s : Shard) → IsShard s → FitsFooter (footer_value (values s.files) (values s.xorbs) (plain_options None))
+plain_widths s shard =
+    let is : IsBytesOf s (layout s None) = record { shard = shard; version = V3; files = tt; expiry = None; expiry_fits = tt; bytes_are = refl } in
+    (ends_of_bytes s (layout s None) is).footer_widths
+
+-- the rows and bytes of a shard
+pub fit_together : (s : Shard) → IsShard s → FitTogether (values s.files) (values s.xorbs)
+fit_together s shard =
+    let sums = (plain_widths s shard).sums in
+    record {
+      rows = record { file_rows = shard.file_rows; xorb_rows = shard.xorb_rows };
+      materialized = sums 1 0 (omega arith);
+      stored = sums 2 0 (omega arith);
+      on_disk = sums 0 0 (omega arith);
+    }
+
+-- shards that one shard has in a row are parts in a row
+pub parts_in_a_row : (shards : List Shard) (bytes : List (Bor (List ℕ))) (all : Shard) → IsShard all → AreInARow shards all → AreBytesOf shards (map (λ x. x.now) bytes)
+    → (are : ArePartsOf shards (map (λ x. x.now) bytes)) → 0 < length bytes → ArePartsInARow no_key are.parts
+parts_in_a_row shards bytes all shard row is are some =
+    let files : values all.files ≡ files_in are.parts = row.files ∙ sym are.files_are in
+    let xorbs : values all.xorbs ≡ xorbs_in are.parts = row.xorbs ∙ sym are.xorbs_are in
+    record {
+      some = omega (arith, some, ap length are.are, length-map are.parts laid_out, length-map bytes (λ (x : Bor (List ℕ)). x.now));
+      fit = are.fit;
+      each = are.ascend;
+      ascend = record { files_ascend = subst (Ascends file_records) files (files_ascend all shard); xorbs_ascend = subst (Ascends xorb_records) xorbs (xorbs_ascend all shard) };
+      together = subst (λ fs. FitTogether fs (xorbs_in are.parts)) files (subst (FitTogether (values all.files)) xorbs (fit_together all shard));
+    }
+
+-- the order of parts in a row is not refused
+module _ (key : DataHash) (parts : List Laid) (files xorbs : List SectionPart) (cursors : List Cursor) (totals : Totals) (row : ArePartsInARow key parts) (held : HasGathered files xorbs cursors totals parts) (P : Type 0) where
+  pub files_not_refused : ((records : List (List MDBFileInfo)) → HoldSections file_records files records → All (All file_records.IsStored) records → All (Ascends file_records) records → P × (Ascends file_records (all_of records) → ⊥)) → ⊥
+  files_not_refused refused =
+      (refused (map (λ p. p.files) parts) held.files_held (files_stored key parts row.fit) (All-map (Ascends file_records) (λ (p : Laid). p.files) parts (λ k d below. (row.each k d below).files_ascend))).1
+      (subst (Ascends file_records) (sym (all_files parts)) row.ascend.files_ascend)
+
+  pub xorbs_not_refused : ((records : List (List MDBXorbInfo)) → HoldSections xorb_records xorbs records → All (All xorb_records.IsStored) records → All (Ascends xorb_records) records → P × (Ascends xorb_records (all_of records) → ⊥)) → ⊥
+  xorbs_not_refused refused =
+      (refused (map (λ p. p.xorbs) parts) held.xorbs_held (xorbs_stored key parts row.fit) (All-map (Ascends xorb_records) (λ (p : Laid). p.xorbs) parts (λ k d below. (row.each k d below).xorbs_ascend))).1
+      (subst (Ascends xorb_records) (sym (all_xorbs parts)) row.ascend.xorbs_ascend)
+
+-- the rows of all parts fit 32 bits
+pub file_rows_fit : (parts : List Laid) → FitTogether (files_in parts) (xorbs_in parts) → total_rows file_records (all_of (map (λ p. p.files) parts)) < 2 ^ 32
+file_rows_fit parts together = omega (arith, together.rows.file_rows, ap (total_rows file_records) (all_files parts))
+
+pub xorb_rows_fit : (parts : List Laid) → FitTogether (files_in parts) (xorbs_in parts) → total_rows xorb_records (all_of (map (λ p. p.xorbs) parts)) < 2 ^ 32
+xorb_rows_fit parts together = omega (arith, together.rows.xorb_rows, ap (total_rows xorb_records) (all_xorbs parts))

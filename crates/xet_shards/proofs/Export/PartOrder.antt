@@ -1,5 +1,5 @@
 -- The hashes of parts ascend where those of each do and the first of each is above the last one before it.
-use Rattle.std.proofs.Common.{◌≡◌, ℕ, suc, ◌+◌, ◌*◌, ◌-◌, ◌<◌, ◌≤◌, ◌^◌, Bool, true, false, List, [], ◌∷◌, ◌++◌, length, map, flat_map, take, drop, get_or, Option, None, Some, refl, sym, ap, ◌∙◌, subst, append_assoc, append-nil, arith, true≢false}
+use Rattle.std.proofs.Common.{◌≡◌, ℕ, ◌+◌, ◌*◌, ◌-◌, ◌<◌, ◌≤◌, ◌^◌, true, false, List, [], ◌∷◌, ◌++◌, length, map, flat_map, take, drop, get_or, Option, None, Some, refl, sym, ap, ◌∙◌, subst, append_assoc, append-nil, arith, true≢false}
 use Rattle.std.specs.Prelude.{All, ◌==◌}
 use Rattle.std.proofs.lemmas.Bool.Decides.{nat_tests}
 use Rattle.std.specs.List.{AllByRecursion}
@@ -8,7 +8,6 @@ use Rattle.std.specs.Ordering.{is_lt}
 use Rattle.std.specs.declared.cmp.Ordering.{Ordering}
 use Rattle.std.specs.declared.cmp.Ordering.TheVariants.{Less, Equal, Greater}
 use Rattle.std.proofs.lemmas.List.{length-append, length-map, get_or-map, take_more, take_all, take-append-drop, nil_from_length}
-use Rattle.std.proofs.lemmas.List.Elements.{All-nil, All-cons, All-drop, All-append}
 use Rattle.std.proofs.lemmas.Grind.{flat_map-append}
 use Rattle.std.proofs.lemmas.List.Sums.{sum_by-append, sum_by-cons}
 use Rattle.xet_base.specs.declared.merklehash.DataHash.{DataHash}
@@ -25,10 +24,10 @@ use Rattle.xet_shards.specs.declared.shard_format.export.section_parts.SectionPa
 use Rattle.xet_shards.specs.Read.TableReading.{FitsStart}
 use Rattle.xet_shards.specs.Steps.InARow.{HoldSections, all_of}
 use Rattle.xet_shards.specs.Steps.PartOrder.{HoldsRecords, IsLastHash, HasEnds, is_after}
-use Rattle.xet_shards.specs.Write.Ranges.{start_later}
 use Rattle.xet_shards.specs.Write.Section.{total_rows}
 use Rattle.xet_shards.specs.Write.Tables.{hash_in, start_row, starts, table_bytes}
 use Rattle.xet_shards.specs.Write.WithOptions.{Ascends}
+use Rattle.xet_shards.proofs.Export.Permutations.{all_at}
 use Rattle.xet_shards.proofs.ShardInMemory.Walks.{flat_map-push}
 use Rattle.xet_shards.proofs.Write.Ranges.{starts-append}
 
@@ -78,13 +77,6 @@ module _ {X : Type 0} (key : X → DataHash) where
 last_of : {X : Type 0} (x : X) (xs : List X) → (front : List X) × (l : X) × (x ∷ xs ≡ front ++ l ∷ [])
 last_of x [] = ([], x, refl)
 last_of x (y ∷ ys) = let rest = last_of y ys in (x ∷ rest.0, rest.1, ap (λ zs. x ∷ zs) rest.2)
-
--- what holds of all elements holds of those before one, and of it
-all_at : {X : Type 0} (P : X → Type 0) (front rest : List X) (x : X) → All P (front ++ x ∷ rest) → All P front × P x
-all_at P [] rest x all = (All-nil P, all 0 x (omega arith))
-all_at P (y ∷ front) rest x all =
-    let more = all_at P front rest x (All-drop P 1 (y ∷ front ++ x ∷ rest) all) in
-    (All-cons P y front (all 0 y (omega arith)) more.0, more.1)
 
 -- records ascend, and this is the hash of the last
 pub record AscendTo {H R : Type 0} (K : RecordKind H R) (records : List R) (last : Option DataHash) : Type 0 where
@@ -138,8 +130,13 @@ module _ {H R : Type 0} (K : RecordKind H R) (laws : KindLaws K) where
   unfolding table_bytes
   table_there table front r are =
       let start : ℕ × ℕ = ((hash_in K r).word0, total_rows K front + 0) in
-      omega (arith, ap length (are ∙ ap (flat_map start_row) (starts-append K front (r ∷ [])) ∙ flat_map-push start_row (starts K front) start),
-        length-append (flat_map start_row (starts K front)) (start_row start), length-append (u64_bytes start.0) (u32_bytes start.1), length-u32_bytes start.1)
+      omega (
+        arith,
+        ap length (are ∙ ap (flat_map start_row) (starts-append K front (r ∷ [])) ∙ flat_map-push start_row (starts K front) start),
+        length-append (flat_map start_row (starts K front)) (start_row start),
+        length-append (u64_bytes start.0) (u32_bytes start.1),
+        length-u32_bytes start.1,
+      )
 
   -- a section with records has the first and the last
   module _ (section : SectionPart) (records : List R) (holds : HoldsRecords K section records) (some : 0 < length records) where

@@ -14,8 +14,8 @@ use Rattle.xet_shards.specs.declared.shard_format.ends.info.MDBShardInfo.{MDBSha
 use Rattle.xet_shards.specs.declared.shard_format.export.part_split.Split.{Split}
 use Rattle.xet_shards.specs.Ends.Ends.{HasHeaderAndFooter}
 use Rattle.xet_shards.specs.Export.InARow.{Laid, options_in, laid_out, IsPartUnder}
-use Rattle.xet_shards.specs.Steps.InARow.{IsSplit, IsSplitOf}
-use Rattle.xet_shards.specs.Write.Layout.{LayoutOptions, footer_value, header_value, shard_header_bytes, shard_footer_bytes, layout_of}
+use Rattle.xet_shards.specs.Steps.InARow.{HasRanges, IsSplit, IsSplitOf}
+use Rattle.xet_shards.specs.Write.Layout.{LayoutOptions, footer_value, header_value, info_of, shard_header_bytes, shard_footer_bytes, layout_of}
 use Rattle.xet_shards.specs.Write.Section.{section_bytes}
 use Rattle.xet_shards.specs.Write.Tables.{table_bytes, chunk_table_bytes}
 use Rattle.xet_shards.proofs.Ends.EndsUnique.{only_info, ends_of_layout}
@@ -106,6 +106,27 @@ module _ (part : Laid) where
     chunk_table = is.chunk_table ∙ piece (laid_out part) ((((header ++ file_section) ++ xorb_section) ++ file_table) ++ xorb_table) chunk_table end footer.chunk_lookup_offset footer.footer_offset at_chunk_table four refl;
     footer_is = is.footer_is;
   }
+
+  -- its offsets are in order
+  ranges_of_layout : HasRanges (length (laid_out part)) footer
+  ranges_of_layout = record {
+    files = omega (arith, one, length-append header file_section, head, length-files);
+    xorbs = omega (arith, two, length-append (header ++ file_section) xorb_section, one, length-xorbs);
+    file_table = omega (arith, three, length-append ((header ++ file_section) ++ xorb_section) file_table, two);
+    xorb_table = omega (arith, four, length-append (((header ++ file_section) ++ xorb_section) ++ file_table) xorb_table, three);
+    chunk_table = omega arith;
+    end = omega (arith, ap length at_chunk_table, length-append ((((header ++ file_section) ++ xorb_section) ++ file_table) ++ xorb_table) (chunk_table ++ end), length-append chunk_table end, four);
+  }
+
+-- a part has these ends
+pub ends_of_part : (key : DataHash) (part : Laid) (bytes : List ℕ) → IsPartUnder key part → bytes ≡ laid_out part → HasHeaderAndFooter bytes (info_of part.files part.xorbs (options_in part))
+ends_of_part key part bytes fits are =
+    subst (λ bs. HasHeaderAndFooter bs (info_of part.files part.xorbs (options_in part))) (sym are) (ends_of_layout part.files part.xorbs (options_in part) fits.widths)
+
+pub ranges_of_part : (key : DataHash) (part : Laid) (bytes : List ℕ) (info : MDBShardInfo) → IsPartUnder key part → bytes ≡ laid_out part → HasHeaderAndFooter bytes info → HasRanges (length bytes) info.metadata
+ranges_of_part key part bytes info fits are ends =
+    let same = only_info bytes info (info_of part.files part.xorbs (options_in part)) ends (ends_of_part key part bytes fits are) in
+    subst (λ bs. HasRanges (length bs) info.metadata) (sym are) (subst (λ (i : MDBShardInfo). HasRanges (length (laid_out part)) i.metadata) (sym same) (ranges_of_layout part))
 
 -- what was split is what is laid out there
 pub split_of_part : (key : DataHash) (part : Laid) (bytes : List ℕ) (info : MDBShardInfo) (split : Split) → IsPartUnder key part → bytes ≡ laid_out part → HasHeaderAndFooter bytes info

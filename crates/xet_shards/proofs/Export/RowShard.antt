@@ -1,5 +1,5 @@
 -- The shard that has the records of shards in a row.
-use Rattle.std.proofs.Common.{◌≡◌, ℕ, ◌≤◌, Bool, ◌&&◌, true, T, List, [], ◌∷◌, ◌++◌, map, flat_map, Option, None, refl, sym, ap, ◌∙◌, subst, arith}
+use Rattle.std.proofs.Common.{◌≡◌, ℕ, ◌≤◌, Bool, ◌&&◌, T, List, [], ◌∷◌, ◌++◌, map, flat_map, Option, None, refl, sym, ap, ◌∙◌, subst, arith}
 use Rattle.std.specs.Prelude.{All}
 use Rattle.std.specs.Io.KnownBytes.{Appends}
 use Rattle.std.specs.List.{AllByRecursion}
@@ -18,7 +18,7 @@ use Rattle.xet_records.specs.FileRecord.{file_records, IsWellFormed}
 use Rattle.xet_records.specs.XorbRecord.{xorb_records, IsXorb}
 use Rattle.xet_records.specs.Limits.{MAX_ROWS}
 use Rattle.xet_shards.specs.Content.Shard.{Shard, IsShard, AreFiles, AreXorbs, file_hash_of, xorb_hash_of}
-use Rattle.xet_shards.specs.Export.InARow.{AscendBoth, AreInARow, AreBytesOf, AppendsRow}
+use Rattle.xet_shards.specs.Export.InARow.{AscendBoth, AreBytesOf, AppendsRow}
 use Rattle.xet_shards.specs.Write.Layout.{layout_of, plain_options}
 use Rattle.xet_shards.specs.Write.Section.{total_rows}
 

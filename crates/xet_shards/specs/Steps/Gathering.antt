@@ -1,5 +1,5 @@
 -- What is gathered of parts that are written one after another.
-use Rattle.std.specs.Prelude.{◌≡◌, ◌+◌, ◌/◌, List, map, flat_map, length, sum_by, All}
+use Rattle.std.specs.Prelude.{◌≡◌, ◌+◌, ◌/◌, ◌<◌, ◌^◌, List, map, flat_map, length, sum_by, All}
 use Rattle.std.specs.List.Sorted.{IsPermutation}
 use Rattle.xet_records.specs.declared.file_structs.MDBFileInfo.{MDBFileInfo}
 use Rattle.xet_records.specs.declared.xorb_structs.MDBXorbInfo.{MDBXorbInfo}
@@ -24,6 +24,16 @@ pub record AddsPart (old : Totals) (split : Split) (new : Totals) : Type 0 where
   pub materialized_bytes : new.materialized_bytes ≡ old.materialized_bytes + split.footer.materialized_bytes
   pub stored_bytes : new.stored_bytes ≡ old.stored_bytes + split.footer.stored_bytes
   pub stored_bytes_on_disk : new.stored_bytes_on_disk ≡ old.stored_bytes_on_disk + split.footer.stored_bytes_on_disk
+
+-- the sums with one part more fit
+pub record FitWith (totals : Totals) (split : Split) : Type 0 where
+  pub files : totals.files + split.footer.file_lookup_num_entry < 2 ^ 32
+  pub file_rows : totals.file_rows + length split.files.now / 48 < 2 ^ 32
+  pub xorbs : totals.xorbs + split.footer.xorb_lookup_num_entry < 2 ^ 32
+  pub xorb_rows : totals.xorb_rows + length split.xorbs.now / 48 < 2 ^ 32
+  pub materialized_bytes : totals.materialized_bytes + split.footer.materialized_bytes < 2 ^ 64
+  pub stored_bytes : totals.stored_bytes + split.footer.stored_bytes < 2 ^ 64
+  pub stored_bytes_on_disk : totals.stored_bytes_on_disk + split.footer.stored_bytes_on_disk < 2 ^ 64
 
 -- the numbers of these records, of their rows and of their bytes
 pub record HasTotals (totals : Totals) (files : List MDBFileInfo) (xorbs : List MDBXorbInfo) : Type 0 where

@@ -1,8 +1,9 @@
 //! The parts of shards, gathered for writing them one after another.
 
-ghost use Rattle.std.specs.Prelude.{◌≡◌, ◌+◌, ◌/◌, List, All, IfOk, map};
-ghost use Rattle.xet_shards.specs.Export.InARow.{Laid, laid_out, IsPartUnder};
-ghost use Rattle.xet_shards.specs.Steps.Gathering.{AddsPart, HasGathered};
+ghost use Rattle.std.specs.Prelude.{◌≡◌, ◌+◌, ◌/◌, ◌^◌, ◌≤◌, List, All, IfOk, IfErr, MatchResult, map};
+ghost use Rattle.xet_base.specs.Errors.{IsInvalidShard};
+ghost use Rattle.xet_shards.specs.Export.InARow.{Laid, laid_out, IsPartUnder, files_in, xorbs_in, FitTogether, RefusesRow};
+ghost use Rattle.xet_shards.specs.Steps.Gathering.{AddsPart, FitWith, HasGathered};
 
 use super::chunk_merging::Cursor;
 use super::part_split::{Split, split_shard};
@@ -34,7 +35,8 @@ pub(in crate::shard_format) struct Gathered<'a> {
 
 // The number, or `InvalidShard` if it passes `u32`.
 fn number(alloc: Global, n: u64) -> Result<u32>
-    ensures { IfOk result (λ m. m ≡ n) }
+    ensures value { MatchResult result (λ m. m ≡ n) (λ _. 2 ^ 32 ≤ n) }
+    ensures causes { IfErr result IsInvalidShard }
 {
     if n > u64::from(u32::MAX) {
         return Err(CoreError::InvalidShard(String::new(alloc)));
@@ -44,7 +46,8 @@ fn number(alloc: Global, n: u64) -> Result<u32>
 
 // The sum, or `InvalidShard` if it passes `u64`.
 fn sum(alloc: Global, a: u64, b: u64) -> Result<u64>
-    ensures { IfOk result (λ n. n ≡ a + b) }
+    ensures value { MatchResult result (λ n. n ≡ a + b) (λ _. 2 ^ 64 ≤ a + b) }
+    ensures causes { IfErr result IsInvalidShard }
 {
     match a.checked_add(b) {
         Some(sum) => Ok(sum),
@@ -54,7 +57,9 @@ fn sum(alloc: Global, a: u64, b: u64) -> Result<u64>
 
 // What parts have in sum with one part more. `InvalidShard` if a sum is too great.
 fn with_part(alloc: Global, totals: &Totals, split: &Split<'_>) -> Result<Totals>
-    ensures { IfOk result (AddsPart totals.now split.now) }
+    ensures sums { MatchResult result (AddsPart totals.now split.now)
+        (λ _. FitWith totals.now split.now → ⊥) }
+    ensures causes { IfErr result IsInvalidShard }
 {
     let footer = &split.footer;
     let file_rows = number(alloc, (split.files.len() / 48) as u64)?;
@@ -83,10 +88,15 @@ pub(in crate::shard_format) fn gather<'a>(
     shards: &[&'a [u8]],
     key: HMACKey,
 ) -> Result<Gathered<'a>>
-    ensures { (parts : List Laid) → All (IsPartUnder key) parts
+    ensures gathered { (parts : List Laid) → All (IsPartUnder key) parts
         → map laid_out parts ≡ map (λ x. x.now) shards.now
         → IfOk result
         (λ g. HasGathered g.files.items g.xorbs.items g.cursors.items g.totals parts) }
+    ensures succeeds { (parts : List Laid) → All (IsPartUnder key) parts
+        → map laid_out parts ≡ map (λ x. x.now) shards.now
+        → FitTogether (files_in parts) (xorbs_in parts)
+        → IfErr result (λ e. e ≡ CoreError.OutOfMemory) }
+    ensures causes { IfErr result (RefusesRow (map (λ x. x.now) shards.now)) }
 {
     let mut files = Vec::new(alloc);
     let mut xorbs = Vec::new(alloc);

@@ -4,13 +4,14 @@
 //! of the parts before, and chunk tables are merged. Beside 40 bytes a part and section, no memory
 //! is needed.
 
-ghost use Rattle.std.specs.Prelude.{◌≡◌, ◌+◌, List, All, OnOk, IfOk, map, length, sum_by};
+ghost use Rattle.std.specs.Prelude.{◌≡◌, ◌+◌, ◌<◌, List, All, OnOk, IfOk, IfErr, map, length, sum_by};
+ghost use Rattle.xet_base.specs.Errors.{IsWriteError};
 ghost use Rattle.std.specs.Io.KnownBytes.{Appends};
 ghost use Rattle.xet_records.specs.declared.file_structs.MDBFileInfo.{MDBFileInfo};
 ghost use Rattle.xet_records.specs.declared.xorb_structs.MDBXorbInfo.{MDBXorbInfo};
 ghost use Rattle.xet_records.specs.FileRecord.{FitsRecord};
-ghost use Rattle.xet_shards.specs.Content.Shard.{Shard};
-ghost use Rattle.xet_shards.specs.Export.InARow.{Laid, laid_out, IsPartUnder, files_in, xorbs_in, options_under, AscendBoth, AreBytesOf, AppendsRow};
+ghost use Rattle.xet_shards.specs.Content.Shard.{Shard, IsShard};
+ghost use Rattle.xet_shards.specs.Export.InARow.{Laid, laid_out, IsPartUnder, files_in, xorbs_in, options_under, AscendBoth, HaveFewRows, FitTogether, ArePartsInARow, AreBytesOf, AreInARow, AppendsRow, IsBadPart, RefusesRow};
 ghost use Rattle.xet_shards.specs.Steps.Gathering.{HasTotals, HasGathered};
 ghost use Rattle.xet_base.specs.declared.merklehash.DataHash.{DataHash};
 ghost use Rattle.xet_shards.specs.Write.Layout.{layout_of, footer_value, info_of};
@@ -38,10 +39,12 @@ use xet_records::xorb_structs::MDBXorbInfo;
 /// copied and not checked.
 ///
 /// `InvalidArguments` if there is no shard, if their keys differ, or if the hashes of files or those
-/// of xorbs don't ascend from one shard to the next; then nothing is written.
-/// `InvalidShard` if the offsets of a footer are not in order, if the rows of a section pass
-/// 4294967295 or if a chunk table does not ascend, `ShardVersion` or `UnexpectedEof` if there is no
-/// header or no footer, `OutOfMemory` if an allocation fails. Any other error is the writer's.
+/// of xorbs don't ascend from one shard to the next; then nothing is written. `InvalidShard` if the
+/// offsets of a footer are not in order, if a section does not have the last record that its table
+/// names, if the rows of a section pass 4294967295 or a sum of bytes 64 bits, or if a chunk table
+/// does not ascend; `ShardVersion` or `UnexpectedEof` if a shard has no header or no footer that is
+/// read. Any other error is the writer's, or `OutOfMemory` if an allocation fails; of shards that
+/// are one after another and together few enough rows for one, no error is possible but these.
 pub fn shards_in_a_row<W: Write>(
     alloc: Global,
     shards: &[&[u8]],
@@ -56,12 +59,47 @@ pub fn shards_in_a_row<W: Write>(
         → map laid_out parts ≡ map (λ x. x.now) shards.now
         → All (λ part. AscendBoth part.files part.xorbs) parts
         → IfOk result (λ _. AscendBoth (files_in parts) (xorbs_in parts)) }
-    ensures shard { (written : List Shard) → AreBytesOf written (map (λ x. x.now) shards.now)
-        → OnOk result (AppendsRow written (W.contents writer.old) (W.contents writer.new)) }
     ensures info { (key : DataHash) → (parts : List Laid) → All (IsPartUnder key) parts
         → map laid_out parts ≡ map (λ x. x.now) shards.now
         → IfOk result
         (λ info. info ≡ info_of (files_in parts) (xorbs_in parts) (options_under key)) }
+    ensures succeeds { (key : DataHash) → (parts : List Laid) → ArePartsInARow key parts
+        → map laid_out parts ≡ map (λ x. x.now) shards.now → IfErr result IsWriteError }
+    ensures shard { (written : List Shard) → AreBytesOf written (map (λ x. x.now) shards.now)
+        → OnOk result (AppendsRow written (W.contents writer.old) (W.contents writer.new)) }
+    ensures shard_succeeds { (written : List Shard) → (all : Shard) → IsShard all
+        → AreInARow written all → AreBytesOf written (map (λ x. x.now) shards.now)
+        → 0 < length shards.now → IfErr result IsWriteError }
+    ensures causes { IfErr result (RefusesRow (map (λ x. x.now) shards.now)) }
+    ensures untouched { IfErr result
+        (λ e. e ≡ CoreError.InvalidArguments → W.contents writer.new ≡ W.contents writer.old) }
+{
+    write_parts(alloc, shards, writer)
+}
+
+// The same, without the clauses on bytes of shards.
+fn write_parts<W: Write>(alloc: Global, shards: &[&[u8]], writer: &mut W) -> Result<MDBShardInfo>
+    ensures bytes { (key : DataHash) → (parts : List Laid) → All (IsPartUnder key) parts
+        → map laid_out parts ≡ map (λ x. x.now) shards.now
+        → OnOk result
+        (Appends (W.contents writer.old) (W.contents writer.new)
+        (layout_of (files_in parts) (xorbs_in parts) (options_under key))) }
+    ensures order { (key : DataHash) → (parts : List Laid) → All (IsPartUnder key) parts
+        → map laid_out parts ≡ map (λ x. x.now) shards.now
+        → All (λ part. AscendBoth part.files part.xorbs) parts
+        → IfOk result (λ _. AscendBoth (files_in parts) (xorbs_in parts)) }
+    ensures rows { (key : DataHash) → (parts : List Laid) → All (IsPartUnder key) parts
+        → map laid_out parts ≡ map (λ x. x.now) shards.now
+        → IfOk result (λ _. HaveFewRows (files_in parts) (xorbs_in parts)) }
+    ensures info { (key : DataHash) → (parts : List Laid) → All (IsPartUnder key) parts
+        → map laid_out parts ≡ map (λ x. x.now) shards.now
+        → IfOk result
+        (λ info. info ≡ info_of (files_in parts) (xorbs_in parts) (options_under key)) }
+    ensures succeeds { (key : DataHash) → (parts : List Laid) → ArePartsInARow key parts
+        → map laid_out parts ≡ map (λ x. x.now) shards.now → IfErr result IsWriteError }
+    ensures causes { IfErr result (RefusesRow (map (λ x. x.now) shards.now)) }
+    ensures untouched { IfErr result
+        (λ e. e ≡ CoreError.InvalidArguments → W.contents writer.new ≡ W.contents writer.old) }
 {
     if shards.is_empty() {
         return Err(CoreError::InvalidArguments);
@@ -91,6 +129,10 @@ fn write_gathered<W: Write>(
         → All FitsRecord (files_in parts)
         → IfOk result
         (λ info. info ≡ info_of (files_in parts) (xorbs_in parts) (options_under key)) }
+    ensures succeeds { (parts : List Laid)
+        → HasGathered gathered.entry.files.items gathered.entry.xorbs.items gathered.entry.cursors.items gathered.entry.totals parts
+        → FitTogether (files_in parts) (xorbs_in parts) → IfErr result IsWriteError }
+    ensures causes { IfErr result IsBadPart }
 {
     let Gathered {
         files,

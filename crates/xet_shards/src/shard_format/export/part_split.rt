@@ -1,9 +1,8 @@
 //! The bytes of a shard, split into its parts.
 
-ghost use Rattle.std.specs.Prelude.{◌≡◌, ◌⊎◌, IfOk, IfErr, IfSome, slice_range};
-ghost use Rattle.xet_base.specs.Errors.{IsDeviceError, IsShardVersion};
-ghost use Rattle.xet_shards.specs.Export.InARow.{Laid, laid_out, IsPartUnder};
-ghost use Rattle.xet_shards.specs.Steps.InARow.{IsSplit, IsSplitOf};
+ghost use Rattle.std.specs.Prelude.{◌≡◌, ◌<◌, ◌⊎◌, length, IfErr, MatchOption, MatchResult, slice_range};
+ghost use Rattle.xet_shards.specs.Export.InARow.{Laid, laid_out, IsPartUnder, IsNoPart};
+ghost use Rattle.xet_shards.specs.Steps.InARow.{HasRanges, IsSplit, IsSplitOf};
 ghost use Rattle.xet_base.specs.declared.merklehash.DataHash.{DataHash};
 
 use crate::shard_format::ends::footer::MDBShardFileFooter;
@@ -28,7 +27,8 @@ pub(in crate::shard_format) struct Split<'a> {
 
 // The bytes from one offset up to another, if they are there.
 fn range_of(bytes: &[u8], from: u64, to: u64) -> Option<&[u8]>
-    ensures { IfSome result (λ part. part.now ≡ slice_range bytes.now from to) }
+    ensures { MatchOption result ((to < from) ⊎ (length bytes.now < to))
+        (λ part. part.now ≡ slice_range bytes.now from to) }
 {
     if from > to || to > bytes.len() as u64 {
         return None;
@@ -38,7 +38,8 @@ fn range_of(bytes: &[u8], from: u64, to: u64) -> Option<&[u8]>
 
 // The parts between the offsets that the footer names.
 fn parts_at<'a>(bytes: &'a [u8], footer: &MDBShardFileFooter) -> Option<Split<'a>>
-    ensures { IfSome result (IsSplit bytes.now footer.now) }
+    ensures { MatchOption result (HasRanges (length bytes.now) footer.now → ⊥)
+        (IsSplit bytes.now footer.now) }
 {
     let row_size = ROW_SIZE as u64;
     let files_end = footer.xorb_info_offset.checked_sub(row_size)?;
@@ -56,8 +57,9 @@ fn parts_at<'a>(bytes: &'a [u8], footer: &MDBShardFileFooter) -> Option<Split<'a
 /// The parts of a shard's bytes. `ShardVersion` or `UnexpectedEof` if header or footer are not
 /// those of a shard, `InvalidShard` if the offsets are not in order.
 pub(in crate::shard_format) fn split_shard(alloc: Global, bytes: &[u8]) -> Result<Split<'_>>
-    ensures { (key : DataHash) → (part : Laid) → IsPartUnder key part
-        → bytes.now ≡ laid_out part → IfOk result (IsSplitOf part) }
+    ensures split { (key : DataHash) → (part : Laid) → IsPartUnder key part
+        → bytes.now ≡ laid_out part → MatchResult result (IsSplitOf part) (λ e. ⊥) }
+    ensures causes { IfErr result (IsNoPart bytes.now) }
 {
     let mut source = MemorySource::new(bytes);
     let info = MDBShardInfo::load_from_reader(alloc, &mut source)?;

@@ -1,12 +1,13 @@
 //! Sections of parts, and their tables, written one after another.
 
-ghost use Rattle.std.specs.Prelude.{◌≡◌, ◌+◌, ◌^◌, ◌≤◌, ◌⊎◌, ℕ, List, All, OnOk, IfOk, IfErr, map, flat_map};
+ghost use Rattle.std.specs.Prelude.{◌≡◌, ◌+◌, ◌^◌, ◌<◌, ◌≤◌, ◌⊎◌, ℕ, List, All, OnOk, IfOk, IfErr, map, flat_map};
 ghost use Rattle.std.specs.Io.KnownBytes.{Appends};
 ghost use Rattle.xet_base.specs.Errors.{IsInvalidShard, IsWriteError};
 ghost use Rattle.xet_shards.specs.Export.InARow.{IsBadPart};
 ghost use Rattle.xet_shards.specs.Read.TableReading.{FitsStart};
 ghost use Rattle.xet_shards.specs.Steps.InARow.{HoldSections, all_of};
 ghost use Rattle.xet_shards.specs.Write.Ranges.{start_later};
+ghost use Rattle.xet_shards.specs.Write.Section.{total_rows};
 ghost use Rattle.xet_shards.specs.Write.Tables.{start_row, table_bytes};
 
 use std::alloc::Global;
@@ -51,6 +52,8 @@ pub(in crate::shard_format) fn write_tables<R: SectionRecord, W: Write>(
         → OnOk result
         (Appends (W.contents writer.old) (W.contents writer.new)
         (table_bytes R.kind (all_of records))) }
+    ensures succeeds { (records : List (List R)) → HoldSections R.kind sections.now records
+        → total_rows R.kind (all_of records) < 2 ^ 32 → IfErr result IsWriteError }
     ensures causes { IfErr result IsBadPart }
 {
     let mut first = 0;
@@ -79,6 +82,9 @@ fn write_later<W: Write>(alloc: Global, writer: &mut W, table: &[u8], first: u32
         → OnOk result
         (Appends (W.contents writer.old) (W.contents writer.new)
         (flat_map start_row (map (start_later first) rows))) }
+    ensures succeeds { (rows : List (ℕ × ℕ)) → table.now ≡ flat_map start_row rows
+        → All FitsStart rows → All (λ row. row.1 + first < 2 ^ 32) rows
+        → IfErr result IsWriteError }
     ensures causes { IfErr result IsBadPart }
 {
     let mut rest = table;

@@ -1,59 +1,15 @@
-use Rattle.std.proofs.Common.{◌≡◌, ◌<◌, ◌^◌, ◌∙◌, ℕ, List, Bor, None, map, length, All, sym, subst, arith, rules}
-use Rattle.std.specs.Prelude.{OnOk, IfOk}
-use Rattle.std.proofs.lemmas.Bool.Decides.{nat_tests}
-use Rattle.std.proofs.lemmas.Result.{on_ok_weaker}
-use Rattle.std.specs.Io.KnownBytes.{Appends}
-use Rattle.xet_base.specs.declared.merklehash.DataHash.{DataHash}
-use Rattle.xet_records.specs.FileRecord.{file_records}
-use Rattle.xet_records.specs.XorbRecord.{xorb_records}
-use Rattle.xet_shards.specs.Export.InARow.{Laid, laid_out, IsPartUnder, files_in, xorbs_in, options_under, AscendBoth}
-use Rattle.xet_shards.specs.Steps.Gathering.{HasGathered}
-use Rattle.xet_shards.specs.Steps.InARow.{HoldSections}
-use Rattle.xet_shards.specs.Write.Layout.{layout_of, info_of}
+use Rattle.std.proofs.Common.{Bor, List, ℕ, map}
 use Rattle.xet_base.specs.KeyedHash.{no_key}
-use Rattle.xet_shards.proofs.Export.InARow.{first_key, parts_fit, parts_of, in_order, row_written}
-use Rattle.xet_shards.proofs.shard_format.export.in_a_row.shards_in_a_row.Given as given
+use Rattle.xet_shards.proofs.Export.InARow.{parts_of, row_written, parts_in_a_row}
 use Rattle.xet_shards.proofs.shard_format.export.in_a_row.shards_in_a_row.Goals as goal
-
-pub returns-clause-bytes : goal.returns-clause-bytes
-returns-clause-bytes g c = λ key parts fit are.
-    let some : 0 < length c.args.shards.now = grind (arith, nat_tests, c.is_empty.ensures, c.if-is_empty.ensures, c.if-is_empty.false) in
-    let same : c.in_ok-key.field-0.footer.chunk_hash_hmac_key ≡ key = first_key key parts c.args.shards.now _ c.in_ok-key.field-0 fit are some c.in_ok-key.ensures in
-    subst (λ k. OnOk c.write_gathered.result (Appends (g.W.Write.contents c.args.writer.now) (g.W.Write.contents c.write_gathered.new.writer) (layout_of (files_in parts) (xorbs_in parts) (options_under k)))) same
-    (c.write_gathered.ensures.bytes parts (c.in_ok-gathered.ensures parts (subst (λ k. All (IsPartUnder k) parts) (sym same) fit) are) (parts_fit key parts fit))
-
-pub returns-clause-info : goal.returns-clause-info
-returns-clause-info g c = λ key parts fit are.
-    let some : 0 < length c.args.shards.now = grind (arith, nat_tests, c.is_empty.ensures, c.if-is_empty.ensures, c.if-is_empty.false) in
-    let same : c.in_ok-key.field-0.footer.chunk_hash_hmac_key ≡ key = first_key key parts c.args.shards.now _ c.in_ok-key.field-0 fit are some c.in_ok-key.ensures in
-    subst (λ k. IfOk c.write_gathered.result (λ info. info ≡ info_of (files_in parts) (xorbs_in parts) (options_under k))) same
-    (c.write_gathered.ensures.info parts (c.in_ok-gathered.ensures parts (subst (λ k. All (IsPartUnder k) parts) (sym same) fit) are) (parts_fit key parts fit))
-
--- what was gathered of parts under a key
-held : (g : given.Over) (c : goal.After-write_gathered g) (key : DataHash) (parts : List Laid) → All (IsPartUnder key) parts → map laid_out parts ≡ map (λ (x : Bor (List ℕ)). x.now) c.args.shards.now
-    → HasGathered c.in_ok-gathered.gathered.files.items c.in_ok-gathered.gathered.xorbs.items c.in_ok-gathered.gathered.cursors.items c.in_ok-gathered.gathered.totals parts
-held g c key parts fit are =
-    let some : 0 < length c.args.shards.now = grind (arith, nat_tests, c.is_empty.ensures, c.if-is_empty.ensures, c.if-is_empty.false) in
-    let same : c.in_ok-key.field-0.footer.chunk_hash_hmac_key ≡ key = first_key key parts c.args.shards.now _ c.in_ok-key.field-0 fit are some c.in_ok-key.ensures in
-    c.in_ok-gathered.ensures parts (subst (λ k. All (IsPartUnder k) parts) (sym same) fit) are
-
-ascending : (g : given.Over) (c : goal.After-write_gathered g) (key : DataHash) (parts : List Laid) → All (IsPartUnder key) parts → map laid_out parts ≡ map (λ (x : Bor (List ℕ)). x.now) c.args.shards.now
-    → All (λ part. AscendBoth part.files part.xorbs) parts → AscendBoth (files_in parts) (xorbs_in parts)
-ascending g c key parts fit are each =
-    in_order key parts _ _ _ _ fit each (held g c key parts fit are)
-    (λ records hold. c.in_ok-check_order.ensures.order records (subst (λ ss. HoldSections file_records ss records) (sym c.as_slice.ensures.value) hold))
-    (λ records hold. c.in_ok-check_order-2.ensures.order records (subst (λ ss. HoldSections xorb_records ss records) (sym c.as_slice-2.ensures.value) hold))
-
-pub returns-clause-order : goal.returns-clause-order
-returns-clause-order g c = λ key parts fit are each.
-    on_ok_weaker c.write_gathered.result (λ _. ascending g c key parts fit are each) (returns-clause-bytes g c key parts fit are)
 
 pub returns-clause-shard : goal.returns-clause-shard
 returns-clause-shard g c = λ written is.
     let parts = parts_of written (map (λ (x : Bor (List ℕ)). x.now) c.args.shards.now) is in
-    let totals = (held g c no_key parts.parts parts.fit parts.are).totals_are in
-    let file_rows : c.in_ok-gathered.gathered.totals.file_rows < 2 ^ 32 = search rules in
-    let xorb_rows : c.in_ok-gathered.gathered.totals.xorb_rows < 2 ^ 32 = search rules in
-    on_ok_weaker c.write_gathered.result
-    (row_written written (map (λ (x : Bor (List ℕ)). x.now) c.args.shards.now) _ _ is parts (ascending g c no_key parts.parts parts.fit parts.are parts.ascend) (omega (arith, totals.file_rows)) (omega (arith, totals.xorb_rows)))
-    (returns-clause-bytes g c no_key parts.parts parts.fit parts.are)
+    row_written written (map (λ (x : Bor (List ℕ)). x.now) c.args.shards.now) _ _ is parts c.write_parts.result
+    (c.write_parts.ensures.order no_key parts.parts parts.fit parts.are parts.ascend) (c.write_parts.ensures.rows no_key parts.parts parts.fit parts.are) (c.write_parts.ensures.bytes no_key parts.parts parts.fit parts.are)
+
+pub returns-clause-shard_succeeds : goal.returns-clause-shard_succeeds
+returns-clause-shard_succeeds g c = λ written all shard row is some.
+    let parts = parts_of written (map (λ (x : Bor (List ℕ)). x.now) c.args.shards.now) is in
+    c.write_parts.ensures.succeeds no_key parts.parts (parts_in_a_row written c.args.shards.now all shard row is parts some) parts.are

@@ -1,4 +1,5 @@
-use Rattle.std.proofs.Common.{List, flat_map, sym, ◌∙◌, subst, rules, ◌≡◌, ◌+◌}
+use Rattle.std.proofs.Common.{List, map, flat_map, sym, ◌∙◌, subst, arith, rules, ◌≡◌, ◌+◌}
+use Rattle.xet_shards.proofs.Write.XorbLayouts.{xorb_rows-chunks}
 use Rattle.std.specs.Io.KnownBytes.{Appends}
 use Rattle.xet_records.specs.FileRecord.{file_records}
 use Rattle.xet_records.specs.XorbRecord.{xorb_records}
@@ -7,7 +8,9 @@ use Rattle.xet_shards.specs.declared.shard_format.export.section_parts.SectionPa
 use Rattle.xet_shards.specs.Export.InARow.{files_in, xorbs_in}
 use Rattle.xet_shards.specs.Steps.InARow.{HoldSections}
 use Rattle.xet_shards.specs.Write.Layout.{shard_header_bytes}
-use Rattle.xet_shards.proofs.Export.InARow.{all_written}
+use Rattle.std.proofs.lemmas.Result.{err_from_is_err_and}
+use Rattle.xet_base.specs.Errors.{IsWriteError}
+use Rattle.xet_shards.proofs.Export.InARow.{all_written, count_is, file_rows_fit, xorb_rows_fit}
 use Rattle.xet_shards.proofs.shard_format.export.in_a_row.write_gathered.Goals as goal
 
 pub returns-clause-bytes : goal.returns-clause-bytes
@@ -28,3 +31,27 @@ returns-clause-bytes g c = λ parts held fit.
     (λ tables are hold count. c.in_ok-write_merged.ensures.held tables (are ∙ sym c.as_slice-5.ensures.value) hold (c.from.ensures ∙ count))
     c.in_ok-serialize-2.ensures.bytes
     (c.footer_of_parts-metadata.ensures (files_in parts) (xorbs_in parts) fit held.totals_are sum)
+
+pub returns-in_err-write_tables-clause-succeeds : goal.returns-in_err-write_tables-clause-succeeds
+returns-in_err-write_tables-clause-succeeds g c = λ parts held together.
+    let bad = c.in_err-write_tables.ensures.succeeds (map (λ p. p.files) parts) (subst (λ ss. HoldSections file_records ss (map (λ p. p.files) parts)) (sym c.as_slice-3.ensures.value) held.files_held) (file_rows_fit parts together) in
+    let p = err_from_is_err_and c.from_residual-in_err-write_tables.result c.from_residual-in_err-write_tables.ensures.1 in
+    rw (p.1) (subst IsWriteError (sym p.2) bad)
+
+pub returns-in_err-write_tables-2-clause-succeeds : goal.returns-in_err-write_tables-2-clause-succeeds
+returns-in_err-write_tables-2-clause-succeeds g c = λ parts held together.
+    let bad = c.in_err-write_tables-2.ensures.succeeds (map (λ p. p.xorbs) parts) (subst (λ ss. HoldSections xorb_records ss (map (λ p. p.xorbs) parts)) (sym c.as_slice-4.ensures.value) held.xorbs_held) (xorb_rows_fit parts together) in
+    let p = err_from_is_err_and c.from_residual-in_err-write_tables-2.result c.from_residual-in_err-write_tables-2.ensures.1 in
+    rw (p.1) (subst IsWriteError (sym p.2) bad)
+
+pub returns-in_err-write_merged-clause-succeeds : goal.returns-in_err-write_merged-clause-succeeds
+returns-in_err-write_merged-clause-succeeds g c = λ parts held together.
+    let tables = held.tables_held in
+    let sum : c.in-Some.chunks + c.args.gathered.totals.xorbs ≡ c.args.gathered.totals.xorb_rows = search rules in
+    let bad = c.in_err-write_merged.ensures.held tables.held (tables.cursors_are ∙ sym c.as_slice-5.ensures.value) tables.hold (c.from.ensures ∙ count_is c.args.gathered.totals parts c.in-Some.chunks held.totals_are sum _ tables.moved) in
+    let p = err_from_is_err_and c.from_residual-in_err-write_merged.result c.from_residual-in_err-write_merged.ensures.1 in
+    rw (p.1) (subst IsWriteError (sym p.2) bad)
+
+pub returns-in_default-clause-succeeds : goal.returns-in_default-clause-succeeds
+returns-in_default-clause-succeeds g c = λ parts held together.
+    absurd (omega (arith, c.in_default.ensures, held.totals_are.xorbs_are, held.totals_are.xorb_rows, xorb_rows-chunks (xorbs_in parts)))

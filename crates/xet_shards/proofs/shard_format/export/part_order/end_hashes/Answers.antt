@@ -1,7 +1,6 @@
 use Rattle.std.proofs.Common.{rules, sym, subst, ◌*◌, take, drop}
 use Rattle.xet_shards.proofs.Export.PartOrder.{first_long, table_long, rows_long, has_ends, header_read}
 use Rattle.xet_shards.specs.Steps.PartOrder.{HasEnds}
-use Rattle.xet_shards.specs.declared.shard_format.export.part_order.EndHashes.{EndHashes}
 use Rattle.xet_shards.proofs.shard_format.export.part_order.end_hashes.Goals as goal
 
 pub returns-in_err-first : goal.returns-in_err-first

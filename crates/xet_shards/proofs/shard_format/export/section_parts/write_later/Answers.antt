@@ -1,5 +1,5 @@
-use Rattle.std.proofs.Common.{rules}
-use Rattle.xet_shards.proofs.Export.SectionParts.{one_start_written, all_starts_written}
+use Rattle.std.proofs.Common.{◌^◌, arith, rules}
+use Rattle.xet_shards.proofs.Export.SectionParts.{one_start_written, row_read_fits, all_starts_written}
 use Rattle.xet_shards.proofs.shard_format.export.section_parts.write_later.Goals as goal
 
 pub loop-rest-preserved : goal.loop-rest-preserved
@@ -9,3 +9,9 @@ loop-rest-preserved g c = λ rows are fit.
 
 pub returns-clause-bytes : goal.returns-clause-bytes
 returns-clause-bytes g c = λ rows are fit. all_starts_written c.args.first rows c.loop-rest.rest.now _ (g.W.Write.contents c.loop-rest.writer) (c.loop-rest.invariant rows are fit) (search rules)
+
+pub returns-in_err-later-clause-succeeds : goal.returns-in_err-later-clause-succeeds
+returns-in_err-later-clause-succeeds g c = λ rows are fit within.
+    let fits = row_read_fits c.args.first (2 ^ 32) rows c.loop-rest.rest.now c.split_u64-word.result.1.now c.split_u32-row.result.1.now c.split_u64-word.result.0 c.split_u32-row.result.0 _ (g.W.Write.contents c.loop-rest.writer)
+    (c.loop-rest.invariant rows are fit) (search rules) (search rules) c.split_u64-word.ensures.bytes c.split_u32-row.ensures.bytes within in
+    absurd (omega (arith, fits, c.in_err-later.ensures.passes))
