@@ -2,6 +2,7 @@
 
 pub mod MergeTrees
 pub mod RangeTrees
+pub mod RangeParts
 pub mod MappedJoins
 pub mod TreeXorbs
 pub mod TreesOfExports

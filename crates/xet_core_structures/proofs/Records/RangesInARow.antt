@@ -13,9 +13,10 @@ use Rattle.xet_base.specs.declared.merklehash.DataHash.{DataHash}
 use Rattle.xet_base.specs.Hash.{hash_cmp}
 use Rattle.xet_base.proofs.HashOrder.{hash_cmp-IsTotalOrder, hash_cmp-IsAntisymmetric}
 use Rattle.xet_shards.specs.Content.Shard.{Shard}
+use Rattle.xet_shards.specs.Export.InARow.{AreInARow}
 use Rattle.xet_shards.proofs.Content.Maps.{both_left, both_right}
 use Rattle.xet_shards.proofs.ShardInMemory.Sums.{all_of_map}
-use Rattle.xet_core_structures.specs.Records.Ranges.{KeepsThose, IsPartOf, is_from, is_before, is_up_to, is_within, ranges_between, AreCuts, AreInARow}
+use Rattle.xet_core_structures.specs.Records.Ranges.{KeepsThose, IsPartOf, is_from, is_before, is_up_to, is_within, ranges_between, AreCuts}
 use Rattle.xet_core_structures.proofs.Records.Parts.{kept}
 use Rattle.xet_core_structures.proofs.Records.Within.{one_part, part_of, part_of_is}
 

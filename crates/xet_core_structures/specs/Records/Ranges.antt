@@ -1,6 +1,6 @@
 -- Shards with the records of others whose hashes pass a test, as that of being within a range.
-use Rattle.std.specs.Prelude.{◌≡◌, ⊤, Bool, true, not, ◌&&◌, List, [], ◌∷◌, flat_map, Option, None, Some, if◌then◌else◌}
-use Rattle.std.specs.FinMap.{FinMap, get, values}
+use Rattle.std.specs.Prelude.{◌≡◌, ⊤, Bool, true, not, ◌&&◌, List, [], ◌∷◌, Option, None, Some, if◌then◌else◌}
+use Rattle.std.specs.FinMap.{FinMap, get}
 use Rattle.std.specs.List.{filter}
 use Rattle.std.specs.Ordering.{is_lt}
 use Rattle.xet_base.specs.declared.merklehash.DataHash.{DataHash}
@@ -51,8 +51,3 @@ ranges_between from (k ∷ ks) to = record { from = from; to = Some k } ∷ rang
 abbrev pub AreCuts : Option DataHash → List DataHash → Option DataHash → Type 0
 AreCuts from [] to = ⊤
 AreCuts from (k ∷ ks) to = (is_from from k ≡ true) × (is_up_to to k ≡ true) × AreCuts (Some k) ks to
-
--- the records of these shards, one shard after another, are those of this one
-pub record AreInARow (parts : List Shard) (whole : Shard) : Type 0 where
-  pub files : values whole.files ≡ flat_map (λ s. values s.files) parts
-  pub xorbs : values whole.xorbs ≡ flat_map (λ s. values s.xorbs) parts

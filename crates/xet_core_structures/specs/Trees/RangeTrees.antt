@@ -1,5 +1,5 @@
 -- Trees of unions of which only the records in a range of hashes are written.
-use Rattle.std.specs.Prelude.{◌≡◌, ◌⊎◌, ℕ, ◌≤◌, List, length, Contains}
+use Rattle.std.specs.Prelude.{◌≡◌, ◌⊎◌, ℕ, ◌≤◌, List, map, length, All, Contains}
 use Rattle.std.specs.List.{AllZip}
 use Rattle.xet_base.specs.declared.error.CoreError.{CoreError}
 use Rattle.xet_base.specs.declared.error.CoreError.TheVariants.{InvalidArguments}
@@ -7,7 +7,9 @@ use Rattle.xet_base.specs.declared.merklehash.DataHash.{DataHash}
 use Rattle.xet_shards.specs.declared.shard_format.ends.info.MDBShardInfo.{MDBShardInfo}
 use Rattle.xet_shards.specs.Ends.Ends.{HasHeaderAndFooter}
 use Rattle.xet_shards.specs.Content.Joins.{IsJoinOf, AgreePairwise}
-use Rattle.xet_shards.specs.Content.Shard.{Shard}
+use Rattle.xet_shards.specs.Content.Shard.{Shard, IsShard}
+use Rattle.xet_shards.specs.Export.InARow.{Laid, laid_out, IsPartUnder, files_in, xorbs_in, options_under, ArePartsInARow}
+use Rattle.xet_shards.specs.Write.Layout.{layout_of}
 use Rattle.xet_core_structures.specs.declared.set_operations.MergePlan.{MergePlan}
 use Rattle.xet_core_structures.specs.declared.set_operations.MergePlan.TheVariants.{Leaf, Both'}
 use Rattle.xet_core_structures.specs.declared.set_operations.ranges.HashRange.{HashRange}
@@ -64,3 +66,12 @@ pub record IsRangeMerge (range : HashRange) (key : DataHash) (inputs : List (Lis
 pub record IsHeldLayout (key : DataHash) (s : Shard) (bytes : List ℕ) : Type 0 where
   pub bytes_are : bytes ≡ keyed_layout s key
   pub holds : HoldsShard key s bytes
+
+-- the byte strings are parts under a key, one after another, of which the layout of this shard is
+-- written; if it is a shard, they are in a row
+pub record AreRangesOf (key : DataHash) (whole : Shard) (bytes : List (List ℕ)) : Type 0 where
+  pub parts : List Laid
+  pub fit : All (IsPartUnder key) parts
+  pub are : map laid_out parts ≡ bytes
+  pub whole_is : layout_of (files_in parts) (xorbs_in parts) (options_under key) ≡ keyed_layout whole key
+  pub row : IsShard whole → ArePartsInARow key parts

@@ -12,12 +12,14 @@ ghost use Rattle.xet_core_structures.specs.declared.set_operations.MergePlan.{Me
 ghost use Rattle.xet_core_structures.specs.declared.set_operations.ranges.HashRange.{HashRange};
 ghost use Rattle.xet_core_structures.specs.Records.Sizes.{rows_of_shard, bytes_at};
 ghost use Rattle.xet_core_structures.specs.Trees.MergeTrees.{leaves, HasUnion};
-ghost use Rattle.xet_core_structures.specs.Trees.RangeTrees.{IsRangeOf, RangeWrites};
+ghost use Rattle.xet_core_structures.specs.Trees.RangeTrees.{IsRangeOf, RangeWrites, IsHeldLayout, AreRangesOf};
 ghost use Rattle.xet_core_structures.specs.TwoShards.ByteResults.{keyed_layout, keyed_options, UnitesBytes};
-ghost use Rattle.xet_shards.specs.Write.Layout.{layout_of};
+ghost use Rattle.xet_base.specs.KeyedHash.{no_key};
+ghost use Rattle.xet_shards.specs.Write.Layout.{layout_of, layout};
 ghost use Rattle.xet_core_structures.specs.Records.ByteUnion.{IsEitherFile, IsEitherXorb};
 ghost use Rattle.xet_core_structures.specs.Records.RecordPairs.{Combines, AreApart};
-ghost use Rattle.xet_core_structures.specs.Records.Ranges.{IsPartOf, is_within, ranges_between, AreCuts, AreInARow};
+ghost use Rattle.xet_core_structures.specs.Records.Ranges.{IsPartOf, is_within, ranges_between, AreCuts};
+ghost use Rattle.xet_shards.specs.Export.InARow.{AreInARow};
 ghost use Rattle.xet_shards.specs.Content.Joins.{IsJoinOf};
 ghost use Rattle.xet_shards.specs.Content.SetOperations.{ShardsAgree};
 ghost use Rattle.xet_shards.specs.Content.Shard.{Shard};
@@ -66,6 +68,17 @@ pub fn ranges_have_all_records()
     ensures bytes { (key : DataHash) → (parts : List Shard) → (whole : Shard) → AreInARow parts whole
         → keyed_layout whole key ≡ layout_of (flat_map (λ s. values s.files) parts)
         (flat_map (λ s. values s.xorbs) parts) (keyed_options key) }
+{}
+
+/// What `merge_range` writes of the ranges between hashes that ascend, none of which is left out, are
+/// parts in a row: so `shards_in_a_row` writes of them the layout of the join, as the one merge does,
+/// or fails for memory. Without a key that is what `serialize_from` writes of it without expiry.
+pub fn ranges_concatenate()
+    ensures parts { (key : DataHash) → (cuts : List DataHash) → (join : Shard) → (parts : List Shard)
+        → (bytes : List (List ℕ)) → AreCuts None cuts None
+        → AllZip (λ range part. IsPartOf (is_within range) join part) (ranges_between None cuts None)
+        parts → AllZip (IsHeldLayout key) parts bytes → AreRangesOf key join bytes }
+    ensures no_key { (join : Shard) → keyed_layout join no_key ≡ layout join None }
 {}
 
 /// A part of a shard in a range has at most its rows. So what a tree with a union writes of a range
