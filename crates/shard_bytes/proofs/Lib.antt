@@ -5,6 +5,7 @@ pub mod Exclusive
 pub mod Expiring
 pub mod Exporting
 pub mod Formats
+pub mod InARow
 pub mod Inserting
 pub mod Keeping
 pub mod MemoryErrors

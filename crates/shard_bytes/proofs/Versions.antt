@@ -1,23 +1,19 @@
 -- A shard that is written again in version 2, or has a file with an auxiliary row.
-use Rattle.std.proofs.Common.{◌≡◌, ◌⊎◌, inl, inr, ℕ, Bool, true, false, List, [], ◌∷◌, ◌++◌, map, drop, Some, refl, sym, ap, ◌∙◌, ◌||◌, subst, arith}
-use Rattle.xet_core_structures.specs.declared.error.CoreError.{CoreError}
-use Rattle.xet_core_structures.specs.declared.error.CoreError.TheVariants.{InvalidArguments, OutOfMemory}
+use Rattle.std.proofs.Common.{◌≡◌, inr, ℕ, Bool, true, false, List, [], ◌∷◌, ◌++◌, map, drop, Some, refl, sym, ap, ◌∙◌, ◌||◌, subst}
+use Rattle.xet_core_structures.specs.declared.error.CoreError.TheVariants.{InvalidArguments}
 use Rattle.xet_core_structures.specs.declared.file_structs.MDBFileInfo.{MDBFileInfo}
 use Rattle.xet_core_structures.specs.declared.shard_format.MDBShardFileFooter.{MDBShardFileFooter}
 use Rattle.xet_core_structures.specs.declared.shard_format.MDBShardInfo.{MDBShardInfo}
 use Rattle.xet_core_structures.specs.Ends.{HasHeaderAndFooter}
-use Rattle.xet_core_structures.specs.Errors.{IsWriteError}
 use Rattle.xet_core_structures.specs.FileRecord.{as_read, has_aux_ext}
-use Rattle.xet_core_structures.specs.KeyedExport.{ExportCase, ExportFails}
 use Rattle.xet_core_structures.specs.Layout.{layout_of}
 use Rattle.xet_core_structures.specs.SectionReading.{IsSection, ReadsSection, files_of}
-use Rattle.xet_core_structures.specs.Source.{Source, FailedBy, bytes_left, moved}
+use Rattle.xet_core_structures.specs.Source.{Source, bytes_left, moved}
 use Rattle.xet_shards.specs.Export.Rewriting.{HasSections, WritesAgain}
 use Rattle.xet_shards.proofs.Read.WholeSections.{same_files}
-use Rattle.shard_bytes.specs.Versions.{have_aux_rows, options_in_2, IsInVersion2, NotInVersion2, RefusesVersion2}
+use Rattle.shard_bytes.specs.Versions.{have_aux_rows, options_in_2, IsInVersion2, RefusesVersion2}
 use Rattle.shard_bytes.specs.Steps.Versions.{FindsAuxRows}
 use Rattle.shard_bytes.proofs.Checking.{header_in}
-use Rattle.shard_bytes.proofs.MemoryErrors.{from_memory}
 use Rattle.shard_bytes.proofs.Reading.{source_of}
 
 -- files keep their flags as they are returned

@@ -9,6 +9,7 @@ pub mod expiry;
 pub mod export;
 pub mod find;
 pub mod format;
+pub mod in_a_row;
 pub mod load;
 mod memory;
 pub mod merge;

@@ -1,5 +1,5 @@
 -- The size of a merge of shards that have to agree, as it is shown.
-use Rattle.std.proofs.Common.{◌≡◌, ℕ, List, Ok, Err, sym, subst}
+use Rattle.std.proofs.Common.{ℕ, List, Ok, Err, sym, subst}
 use Rattle.std.specs.Prelude.{IfOk}
 use Rattle.xet_core_structures.specs.Errors.{CoreResult}
 use Rattle.shard_bytes.specs.declared.agree.AgreeingMerge.{AgreeingMerge}

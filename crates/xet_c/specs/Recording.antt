@@ -1,5 +1,5 @@
 -- Records in lists: files and their segments, xorbs and their chunks.
-use Rattle.std.specs.Prelude.{◌≡◌, ◌⊎◌, ⊤, ℕ, ◌≤◌, ◌<◌, Bool, List, [], ◌∷◌, ◌++◌, length, map, flat_map, sum_by, take, drop, All, Some, Ok, Err, option_map, option_to_list, if◌then◌else◌}
+use Rattle.std.specs.Prelude.{◌≡◌, ◌⊎◌, ℕ, ◌≤◌, ◌<◌, Bool, List, [], ◌∷◌, ◌++◌, length, map, flat_map, sum_by, take, drop, All, Some, Ok, Err, option_map, option_to_list, if◌then◌else◌}
 use Rattle.xet_core_structures.specs.declared.error.CoreError.{CoreError}
 use Rattle.xet_core_structures.specs.declared.error.CoreError.TheVariants.{InvalidArguments, OutOfMemory}
 use Rattle.xet_core_structures.specs.declared.file_structs.HashRow.{HashRow}

@@ -25,7 +25,6 @@ use Rattle.xet_core_structures.specs.Trees.Filling.{FillsWith}
 use Rattle.xet_core_structures.specs.Records.Ranges.{IsPartOf, is_within}
 use Rattle.xet_core_structures.specs.Records.ShardContents.{HoldsShard, IsTruncated, IsMalformed}
 use Rattle.xet_core_structures.specs.Trees.MergeTrees.{leaves, InputIs, MergeRefused}
-use Rattle.xet_core_structures.specs.Trees.Parts.{SectionsRefusal}
 use Rattle.xet_core_structures.specs.Trees.RangeTrees.{IsRangeOf, ReadRefusal, RangeWrites, RangeRefusal, IsRangeMerge, IsHeldLayout}
 use Rattle.xet_core_structures.proofs.Records.ByteUnions.{held_in_form, info_found, loads_well, fits_key}
 use Rattle.xet_core_structures.proofs.Records.ShardContents.{only_shard, held_whole, held_well}

@@ -1,4 +1,3 @@
-use Rattle.std.proofs.Common.{ℕ}
 use Rattle.xet_c.specs.Recording.{IsListedXorb}
 use Rattle.xet_c.proofs.Listing.{HasListed}
 use Rattle.xet_c.proofs.write.xorbs_of.Given as goal

@@ -1,6 +1,6 @@
-use Rattle.std.proofs.Common.{◌≡◌, ℕ, List, map, Some, rules, sym, subst}
+use Rattle.std.proofs.Common.{ℕ, List, map, rules, sym, subst}
 use Rattle.std.specs.Borrow.{Bor}
-use Rattle.std.specs.Prelude.{MatchResult, slice_get}
+use Rattle.std.specs.Prelude.{MatchResult}
 use Rattle.xet_core_structures.specs.Trees.RangeTrees.{RangeWrites, RangeRefusal}
 use Rattle.xet_core_structures.specs.Steps.Parts.{IsPart}
 use Rattle.xet_core_structures.proofs.Trees.RangeTrees.{at_input, leaf_part, both_parts}

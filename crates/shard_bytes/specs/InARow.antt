@@ -1,0 +1,11 @@
+-- Shards whose records come one after another, put together to one.
+use Rattle.std.specs.Prelude.{ℕ, List}
+use Rattle.xet_core_structures.specs.InARow.{AreInARow}
+use Rattle.xet_core_structures.specs.Shard.{Shard}
+use Rattle.xet_core_structures.specs.WrittenShard.{IsBytesWithoutExpiry}
+
+-- the bytes are those of the shard that has the records of these, in their order
+pub record IsRowOf (shards : List Shard) (bytes : List ℕ) : Type 0 where
+  pub all : Shard
+  pub row : AreInARow shards all
+  pub is_bytes : IsBytesWithoutExpiry all bytes

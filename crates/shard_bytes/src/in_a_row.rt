@@ -1,0 +1,95 @@
+//! Shards whose records come one after another, put together to one.
+
+ghost use Rattle.std.specs.Prelude.{◌≡◌, List, All, map, length, None, ◌<◌, IfOk, IfErr, MatchResult};
+ghost use Rattle.std.specs.List.{AllZip};
+ghost use Rattle.xet_core_structures.specs.InARow.{Laid, laid_out, IsPartUnder, files_in, xorbs_in, options_under, AscendBoth, ArePartsInARow, AreBytesOf, AreInARow, RefusesRow};
+ghost use Rattle.xet_core_structures.specs.Layout.{layout_of};
+ghost use Rattle.xet_core_structures.specs.Records.Ranges.{IsPartOf, is_within, ranges_between, AreCuts};
+ghost use Rattle.xet_core_structures.specs.Shard.{Shard, IsShard};
+ghost use Rattle.xet_core_structures.specs.Trees.RangeTrees.{IsHeldLayout};
+ghost use Rattle.xet_core_structures.specs.TwoShards.ByteResults.{keyed_layout};
+ghost use Rattle.xet_core_structures.specs.declared.error.CoreError.{CoreError};
+ghost use Rattle.xet_core_structures.specs.declared.merklehash.DataHash.{DataHash};
+ghost use Rattle.shard_bytes.specs.InARow.{IsRowOf};
+ghost use Rattle.shard_bytes.specs.Outcomes.{InMemory};
+
+use crate::memory::in_memory;
+use crate::room::with_room;
+use std::alloc::Global;
+use xet_core_structures::error::Result;
+use xet_shards::shard_writer::shards_in_a_row;
+
+/// The bytes of the shard that has the records of all shards, in their order: so files and xorbs,
+/// each by their own hash, have to ascend from each shard to the next. It is under the key of all,
+/// in version 3, with all tables and without timestamps. Beside the result, memory is needed for
+/// some hundred bytes a shard.
+///
+/// So a merge may be made range by range, by any machine, and then be put together: of what
+/// `merge_range_bytes` gives of ranges that follow one another, without a gap, these are the bytes
+/// that the one merge gives. Sections and tables are copied and not checked; `check_bytes` checks
+/// what is made of shards that are not trusted.
+///
+/// The errors are those of [`shards_in_a_row`], and `OutOfMemory` if an allocation fails.
+pub fn concatenate(alloc: Global, shards: &[&[u8]]) -> Result<Vec<u8>>
+    ensures parts { (key : DataHash) → (parts : List Laid) → All (IsPartUnder key) parts
+        → map laid_out parts ≡ map (λ x. x.now) shards.now
+        → IfOk result
+        (λ bytes. bytes.items ≡ layout_of (files_in parts) (xorbs_in parts) (options_under key)) }
+    ensures order { (key : DataHash) → (parts : List Laid) → All (IsPartUnder key) parts
+        → map laid_out parts ≡ map (λ x. x.now) shards.now
+        → All (λ part. AscendBoth part.files part.xorbs) parts
+        → IfOk result (λ _. AscendBoth (files_in parts) (xorbs_in parts)) }
+    ensures succeeds { (key : DataHash) → (parts : List Laid) → ArePartsInARow key parts
+        → map laid_out parts ≡ map (λ x. x.now) shards.now
+        → IfErr result (λ e. e ≡ CoreError.OutOfMemory) }
+    ensures shard { (written : List Shard) → AreBytesOf written (map (λ x. x.now) shards.now)
+        → IfOk result (λ bytes. IsRowOf written bytes.items) }
+    ensures shard_succeeds { (written : List Shard) → (all : Shard) → IsShard all
+        → AreInARow written all → AreBytesOf written (map (λ x. x.now) shards.now)
+        → 0 < length shards.now → IfErr result (λ e. e ≡ CoreError.OutOfMemory) }
+    ensures ranges { (key : DataHash) → (cuts : List DataHash) → (join : Shard) → (parts : List Shard)
+        → IsShard join → AreCuts None cuts None
+        → AllZip (λ range part. IsPartOf (is_within range) join part) (ranges_between None cuts None)
+        parts → AllZip (IsHeldLayout key) parts (map (λ x. x.now) shards.now)
+        → MatchResult result (λ bytes. bytes.items ≡ keyed_layout join key)
+        (λ e. e ≡ CoreError.OutOfMemory) }
+    ensures causes { IfErr result (InMemory (RefusesRow (map (λ x. x.now) shards.now))) }
+{
+    concatenate_parts(alloc, shards)
+}
+
+// The same, without the clause on ranges.
+fn concatenate_parts(alloc: Global, shards: &[&[u8]]) -> Result<Vec<u8>>
+    ensures parts { (key : DataHash) → (parts : List Laid) → All (IsPartUnder key) parts
+        → map laid_out parts ≡ map (λ x. x.now) shards.now
+        → IfOk result
+        (λ bytes. bytes.items ≡ layout_of (files_in parts) (xorbs_in parts) (options_under key)) }
+    ensures order { (key : DataHash) → (parts : List Laid) → All (IsPartUnder key) parts
+        → map laid_out parts ≡ map (λ x. x.now) shards.now
+        → All (λ part. AscendBoth part.files part.xorbs) parts
+        → IfOk result (λ _. AscendBoth (files_in parts) (xorbs_in parts)) }
+    ensures succeeds { (key : DataHash) → (parts : List Laid) → ArePartsInARow key parts
+        → map laid_out parts ≡ map (λ x. x.now) shards.now
+        → IfErr result (λ e. e ≡ CoreError.OutOfMemory) }
+    ensures shard { (written : List Shard) → AreBytesOf written (map (λ x. x.now) shards.now)
+        → IfOk result (λ bytes. IsRowOf written bytes.items) }
+    ensures shard_succeeds { (written : List Shard) → (all : Shard) → IsShard all
+        → AreInARow written all → AreBytesOf written (map (λ x. x.now) shards.now)
+        → 0 < length shards.now → IfErr result (λ e. e ≡ CoreError.OutOfMemory) }
+    ensures causes { IfErr result (InMemory (RefusesRow (map (λ x. x.now) shards.now))) }
+{
+    let mut bytes = with_room(alloc, total_length(shards))?;
+    match shards_in_a_row(alloc, shards, &mut bytes) {
+        Ok(_) => Ok(bytes),
+        Err(error) => Err(in_memory(error)),
+    }
+}
+
+// The bytes of all shards: what is made of them has no more.
+fn total_length(shards: &[&[u8]]) -> usize {
+    let mut total = 0usize;
+    for shard in shards {
+        total = total.saturating_add(shard.len());
+    }
+    total
+}
