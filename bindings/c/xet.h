@@ -199,6 +199,25 @@ typedef struct xet_range {
 uint32_t xet_merge_range(const xet_bytes *shards, size_t count, const xet_range *range, uint8_t *out, size_t capacity,
                          size_t *written);
 
+/* Writes the shard that has the records of one shard or more, in their order, with all tables, under the key of all, in
+ * version 3 and without timestamps. The hashes of files have to ascend from each shard to the next, and so have those
+ * of xorbs; a shard may have none of either. Of what xet_merge_range writes of ranges that follow one another, the
+ * first without `from` and the last without `to`, it is the bytes that the one xet_merge writes. Of shards as this
+ * library writes them, whose hashes ascend so and which have together at most 4294967295 rows a section, it fails for
+ * memory alone.
+ *
+ * Sections and tables are copied and not checked: of shards that are not trusted xet_check tells what is wrong with
+ * what is made of them. `out` needs no more room than such shards have bytes in all. What is written is made first, and
+ * copied; beyond that it takes some hundred bytes of memory a shard.
+ *
+ * XET_INVALID_ARGUMENTS: there is no shard, the keys differ, or hashes do not ascend from one shard to the next.
+ * XET_SHARD_VERSION, XET_IO: the errors of xet_load, of any of the shards.
+ * XET_INVALID_SHARD: the offsets in a footer are not in order, a section has not the last record that its table names,
+ *     as in shards that lack tables, the rows of a section pass 4294967295 or a sum of bytes 64 bits, or the rows of a
+ *     table of chunks do not ascend, or are not as many as the chunks.
+ * XET_OUT_OF_MEMORY, XET_SHORT. */
+uint32_t xet_concatenate(const xet_bytes *shards, size_t count, uint8_t *out, size_t capacity, size_t *written);
+
 /* A hash under which two shards have records that do not agree, that of a xorb or of a file, and the places of two such
  * shards in the list, from 0 on. */
 typedef struct xet_disagreement {

@@ -14,6 +14,7 @@ mod eligible;
 mod export;
 mod find;
 mod hash;
+mod in_a_row;
 mod keyed;
 mod listed;
 mod load;

@@ -1,0 +1,60 @@
+//! Shards whose records come one after another, put together to one.
+
+ghost use Rattle.std.specs.Prelude.{◌≡◌, ◌<◌, ⊤, List, All, None, map, length};
+ghost use Rattle.std.specs.List.{AllZip};
+ghost use Rattle.xet_core_structures.specs.InARow.{Laid, laid_out, IsPartUnder, files_in, xorbs_in, options_under, AscendBoth, ArePartsInARow, AreBytesOf, AreInARow, RefusesRow};
+ghost use Rattle.xet_core_structures.specs.Layout.{layout_of};
+ghost use Rattle.xet_core_structures.specs.Records.Ranges.{IsPartOf, is_within, ranges_between, AreCuts};
+ghost use Rattle.xet_core_structures.specs.Shard.{Shard, IsShard};
+ghost use Rattle.xet_core_structures.specs.Trees.RangeTrees.{IsHeldLayout};
+ghost use Rattle.xet_core_structures.specs.TwoShards.ByteResults.{keyed_layout};
+ghost use Rattle.xet_core_structures.specs.declared.merklehash.DataHash.{DataHash};
+ghost use Rattle.shard_bytes.specs.InARow.{IsRowOf};
+ghost use Rattle.shard_bytes.specs.Outcomes.{InMemory};
+ghost use Rattle.xet_c.specs.Output.{Outcome};
+
+use crate::output::deliver;
+use shard_bytes::in_a_row::concatenate;
+use std::alloc::Global;
+use xet_core_structures::error::CoreError;
+
+/// The shard that has the records of all shards, in their order, to the front of `out`. The hashes
+/// of files and those of xorbs have to ascend from each shard to the next.
+#[unsafe(no_mangle)]
+pub extern "C" fn xet_concatenate(
+    alloc: Global,
+    shards: &[&[u8]],
+    out: &mut [u8],
+    written: &mut usize,
+) -> u32
+    ensures parts { (key : DataHash) → (parts : List Laid) → All (IsPartUnder key) parts
+        → map laid_out parts ≡ map (λ x. x.now) shards.now
+        → Outcome (λ bytes. bytes ≡ layout_of (files_in parts) (xorbs_in parts) (options_under key))
+        (InMemory (RefusesRow (map (λ x. x.now) shards.now))) out.old out.new written.new result }
+    ensures order { (key : DataHash) → (parts : List Laid) → All (IsPartUnder key) parts
+        → map laid_out parts ≡ map (λ x. x.now) shards.now
+        → All (λ part. AscendBoth part.files part.xorbs) parts
+        → Outcome (λ _. AscendBoth (files_in parts) (xorbs_in parts))
+        (InMemory (RefusesRow (map (λ x. x.now) shards.now))) out.old out.new written.new result }
+    ensures succeeds { (key : DataHash) → (parts : List Laid) → ArePartsInARow key parts
+        → map laid_out parts ≡ map (λ x. x.now) shards.now
+        → Outcome (λ bytes. bytes ≡ layout_of (files_in parts) (xorbs_in parts) (options_under key))
+        (λ e. e ≡ CoreError.OutOfMemory) out.old out.new written.new result }
+    ensures shard { (written_of : List Shard) → AreBytesOf written_of (map (λ x. x.now) shards.now)
+        → Outcome (IsRowOf written_of) (InMemory (RefusesRow (map (λ x. x.now) shards.now))) out.old
+        out.new written.new result }
+    ensures shard_succeeds { (written_of : List Shard) → (all : Shard) → IsShard all
+        → AreInARow written_of all → AreBytesOf written_of (map (λ x. x.now) shards.now)
+        → 0 < length shards.now
+        → Outcome (IsRowOf written_of) (λ e. e ≡ CoreError.OutOfMemory) out.old out.new written.new
+        result }
+    ensures ranges { (key : DataHash) → (cuts : List DataHash) → (join : Shard) → (parts : List Shard)
+        → IsShard join → AreCuts None cuts None
+        → AllZip (λ range part. IsPartOf (is_within range) join part) (ranges_between None cuts None)
+        parts → AllZip (IsHeldLayout key) parts (map (λ x. x.now) shards.now)
+        → Outcome (λ bytes. bytes ≡ keyed_layout join key) (λ e. e ≡ CoreError.OutOfMemory) out.old
+        out.new written.new result }
+{
+    let bytes = concatenate(alloc, shards);
+    deliver(bytes, out, written)
+}
