@@ -424,6 +424,59 @@ def test_merge_in_a_range_of_other_inputs():
     raises(ValueError, xet_shards.merge, [ONE_FILE], stop="100")
 
 
+def test_concatenate():
+    files = {"100": ["200:0:5:5"], "200": ["v=5", "200:0:5:5"], "300": ["300:0:5:5"]}
+    xorbs = {"200": ["21:5", "22:6"], "300": ["20:5"]}
+
+    def those(of_files, of_xorbs):
+        return {it: files[it] for it in of_files}, {it: xorbs[it] for it in of_xorbs}
+
+    low, high, none = shards_of(those(["100", "200"], ["200"]), those(["300"], ["300"]), those([], []))
+    [both] = shards_of(those(files, xorbs))
+    # The chunk of the xorb 300 comes before those of the xorb 200 in the table.
+    assert xet_shards.concatenate([low, high]) == both
+    # Parts without records may stand anywhere, and one part is written anew.
+    for parts in ([none, low, high], [low, none, high], [low, high, none, none], [both]):
+        assert xet_shards.concatenate(parts) == both
+    assert xet_shards.concatenate([none]) == xet_shards.concatenate([none, none]) == none
+    # Files alone and xorbs alone are in order, whichever comes first.
+    only_files, only_xorbs = shards_of(those(files, []), those([], xorbs))
+    assert xet_shards.concatenate([only_files, only_xorbs]) == xet_shards.concatenate([only_xorbs, only_files]) == both
+    # In version 2, and with an expiry.
+    assert xet_shards.concatenate([xet_shards.write_v2(low), high]) == both
+    # Ranges of a merge, whatever the cuts, are the merge.
+    shards = shards_of(those(["100", "300"], ["200"]), those(["200", "300"], ["200", "300"]), those([], []))
+    for count in range(4):
+        for words in itertools.combinations_with_replacement(["0", "100", "101", "200", "250", "300", "301"], count):
+            cuts = [None, *map(hash_text, words), None]
+            parts = [xet_shards.merge(shards, start=one, stop=other) for one, other in zip(cuts, cuts[1:])]
+            assert xet_shards.concatenate(parts) == xet_shards.merge(shards) == both
+
+
+def test_concatenate_refuses():
+    one, two = shard_of("file 100 200:0:5:5", "xorb 200 21:5"), shard_of("file 200 200:0:5:5", "xorb 300 22:5")
+    refused("InvalidArguments", xet_shards.concatenate, [two, one])
+    refused("InvalidArguments", xet_shards.concatenate, [one, one])
+    # Files in order, and xorbs not, and the other way round; the last word of a hash counts.
+    refused("InvalidArguments", xet_shards.concatenate, [one, shard_of("file 200", "xorb 100")])
+    refused("InvalidArguments", xet_shards.concatenate, [one, shard_of("file 50", "xorb 300")])
+    # An order from a shard over one without files.
+    refused("InvalidArguments", xet_shards.concatenate, [two, shard_of("xorb 400"), shard_of("file 100")])
+    # Other keys.
+    keyed = [xet_shards.export(it, hash_text("7"), 0, 2**64 - 1) for it in (one, two)]
+    refused("InvalidArguments", xet_shards.concatenate, [one, keyed[1]])
+    whole = xet_shards.concatenate(keyed)
+    assert whole == xet_shards.merge(keyed) and xet_shards.load(whole).key == hash_text("7")
+    # Shards without tables.
+    refused("InvalidShard", xet_shards.concatenate, [xet_shards.minimal(one, 0)])
+    bare = xet_shards.export(two, xet_shards.NO_KEY, 0, 0, chunk_table=False)
+    refused("InvalidShard", xet_shards.concatenate, [one, bare])
+    # Bytes that are cut, and none.
+    refused("Io", xet_shards.concatenate, [one, two[:199]])
+    refused("ShardVersion", xet_shards.concatenate, [b"?" * 500, one])
+    raises(ValueError, xet_shards.concatenate, [])
+
+
 def test_merge_names_the_input():
     keyed = xet_shards.export(ONE_FILE, hash_text("7"), 1000, 60)
     assert refused("Io", xet_shards.merge, [ONE_FILE, XORB_AND_FILE, ONE_FILE[:199], b""]).index == 2

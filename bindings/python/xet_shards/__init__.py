@@ -27,9 +27,9 @@ from typing import Any, Callable, Dict, Iterable, Iterator, List, Optional, Sequ
 __all__ = [
     "Buffer", "Chunk", "Disagreement", "DisagreementError", "File", "Finding", "Info", "ListedFile", "MalformedError",
     "MalformedRecord", "NO_EXPIRY", "NO_KEY", "Run", "Segment", "Table", "WritableBuffer", "XetError", "Xorb", "check",
-    "difference", "eligible", "export", "files", "find_disagreement", "find_file", "find_malformed", "from_table",
-    "hash_bytes", "hash_of_name", "hash_texts", "hmac", "load", "merge", "merge_into", "merge_room", "minimal",
-    "query_chunks", "shard_name", "subset", "table", "union", "write", "write_v2", "xorbs",
+    "concatenate", "difference", "eligible", "export", "files", "find_disagreement", "find_file", "find_malformed",
+    "from_table", "hash_bytes", "hash_of_name", "hash_texts", "hmac", "load", "merge", "merge_into", "merge_room",
+    "minimal", "query_chunks", "shard_name", "subset", "table", "union", "write", "write_v2", "xorbs",
 ]
 
 __version__ = "0.1.0"
@@ -371,6 +371,7 @@ _CALLS = {
     "xet_union": [*_SHARD, *_SHARD, *_OUT],
     "xet_merge": [*_LIST, *_OUT],
     "xet_merge_range": [*_LIST, POINTER(_Range), *_OUT],
+    "xet_concatenate": [*_LIST, *_OUT],
     "xet_merge_agreeing": [*_LIST, *_OUT, POINTER(c_size_t), POINTER(_Disagreement)],
     "xet_find_disagreement": [*_LIST, POINTER(c_size_t), POINTER(_Disagreement)],
     "xet_find_malformed": [*_LIST, POINTER(c_bool), POINTER(_Disagreement)],
@@ -922,6 +923,24 @@ def _merge_range_to(
     if number != _SHORT:
         _check(number)
     return written.value
+
+
+def concatenate(shards: Iterable[Buffer]) -> bytes:
+    """Returns the shard that has the records of one shard or more, in their order, with all tables and no timestamps.
+
+    The hashes of files have to ascend from each shard to the next, and so have those of xorbs, and the shards have one
+    key. So it puts together what `merge` returns of ranges that follow one another, where `start` of the first and
+    `stop` of the last are left out: the result is that of the one merge. Sections and tables are copied and not
+    checked.
+    """
+    shards = list(shards)
+    if not shards:
+        raise ValueError("no shard is given")
+    with _Addresses(*shards) as data:
+        listed, room = _list(data), sum(length for _, length in data)
+        return _made(
+            room, lambda out, room, written: _library.xet_concatenate(listed, len(data), out, room, byref(written))
+        )
 
 
 def find_disagreement(shards: Iterable[Buffer]) -> Optional[Disagreement]:

@@ -48,6 +48,7 @@ library! {
     fn xet_union(first: &[u8], second: &[u8], out: &mut [u8], written: &mut usize) -> u32;
     fn xet_merge(shards: &[Bytes], out: &mut [u8], written: &mut usize) -> u32;
     fn xet_merge_range(shards: &[Bytes], range: &Range, out: &mut [u8], written: &mut usize) -> u32;
+    fn xet_concatenate(shards: &[Bytes], out: &mut [u8], written: &mut usize) -> u32;
     fn xet_find_disagreement(shards: &[Bytes], differing: &mut usize, found: &mut Disagreement) -> u32;
     fn xet_find_malformed(shards: &[Bytes], malformed: &mut bool, found: &mut Disagreement) -> u32;
     fn xet_merge_agreeing(

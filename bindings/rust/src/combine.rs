@@ -218,6 +218,36 @@ fn next(mut hash: Hash) -> Option<Hash> {
     None
 }
 
+/// The shard that has the records of one shard or more, in their order, with all tables, under the key of all, and
+/// without timestamps. The hashes of files have to ascend from each shard to the next, and so have those of xorbs. Of
+/// what [`merge_range`] gives of ranges that follow one another, from no bound to no bound, it is what the one
+/// [`merge`] gives. Sections and tables are copied and not checked: [`check`](crate::check) tells what is wrong with
+/// what is made of shards that are not trusted.
+///
+/// # Errors
+///
+/// - `InvalidArguments`: there is no shard, the keys differ, or hashes do not ascend from one shard to the next.
+/// - `ShardVersion`, `Io`: as of [`load`](crate::load), of any shard.
+/// - `InvalidShard`: a shard lacks tables, as a minimal one does, or its footer or its table of chunks is not in order,
+///   or the rows of a section pass 4294967295 or a sum of bytes 64 bits.
+/// - `OutOfMemory`: an allocation failed.
+///
+/// ```
+/// use xet_shards::Hash;
+///
+/// # fn main() -> Result<(), Box<dyn std::error::Error>> {
+/// let shards = [std::fs::read("examples/a.mdb")?, std::fs::read("examples/b.mdb")?];
+/// let middle = Hash([1 << 63, 0, 0, 0]);
+/// let parts = [xet_shards::merge_range(&shards, ..middle)?, xet_shards::merge_range(&shards, middle..)?];
+/// assert_eq!(xet_shards::concatenate(&parts)?, xet_shards::merge(&shards)?);
+/// # Ok(())
+/// # }
+/// ```
+pub fn concatenate<T: AsRef<[u8]>>(shards: &[T]) -> Result<Vec<u8>> {
+    let (list, length) = listed(shards)?;
+    bytes_of(length, |out, written| calls::xet_concatenate(&list, out, written))
+}
+
 /// The union of one shard or more as [`merge`] makes it, if each of the shards is well-formed and each two agree. It is
 /// the bytes of their join, whatever the order of the list; nothing else need be known of the shards.
 ///

@@ -30,8 +30,8 @@ mod walk;
 mod write;
 
 pub use combine::{
-    difference, find_disagreement, find_malformed, merge, merge_agreeing, merge_range, union, Disagreement,
-    MalformedRecord, RecordHash,
+    concatenate, difference, find_disagreement, find_malformed, merge, merge_agreeing, merge_range, union,
+    Disagreement, MalformedRecord, RecordHash,
 };
 pub use error::Error;
 pub use finding::{check, Finding, Part};
