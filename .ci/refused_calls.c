@@ -6,7 +6,7 @@
 #include <stdlib.h>
 #include <string.h>
 
-enum { ROOM = 1 << 20, CALLS = 23 };
+enum { ROOM = 1 << 20, CALLS = 28 };
 
 void *__real_malloc(size_t size);
 void *__real_realloc(void *block, size_t size);
@@ -85,10 +85,11 @@ static uint32_t call(int number, size_t *count) {
     const xet_hash file = {{100, 1, 0, 0}}, chunks[2] = {{{21, 1, 0, 0}}, {{22, 1, 0, 0}}}, xorb = {{10, 1, 0, 0}};
     const xet_bytes both[2] = {{first, first_length}, {second, second_length}};
     const xet_bytes twice[2] = {{first, first_length}, {first, first_length}};
+    const xet_range range = {{100, 0, 0, 0}, {0, 0, 0, 0}, true, false};
     size_t differing = 0;
     const char *name = "0000000000000001000000000000000200000000000000030000000000000004.mdb";
     /* These write no count. */
-    if (number == 6 || (number > 14 && number != 18))
+    if (number == 6 || (number > 14 && number != 18 && number != 19 && number != 21))
         *count = 0;
     switch (number) {
     case 0:
@@ -136,14 +137,22 @@ static uint32_t call(int number, size_t *count) {
         return xet_write(files, counts.files, segments, counts.segments, xorbs, counts.xorbs, chunks_of_xorbs,
                          counts.chunks, UINT64_MAX, out.bytes, ROOM, count);
     case 19:
+        return xet_merge_range(both, 2, &range, out.bytes, ROOM, count);
+    case 20: {
+        bool malformed = false;
+        return xet_find_malformed(twice, 2, &malformed, &out.agreeing.first);
+    }
+    case 21:
+        return xet_concatenate(both, 1, out.bytes, ROOM, count);
+    case 22:
         return xet_hash_from_hex((const uint8_t *)name, 64, out.hashes);
-    case 20:
+    case 23:
         return xet_version() == XET_VERSION_NUMBER ? XET_OK : XET_OTHER;
-    case 21:
+    case 24:
         return xet_parse_shard_name((const uint8_t *)name, 68, out.hashes);
-    case 20:
+    case 25:
         return xet_hash_bytes(&file, first, first_length, out.hashes);
-    case 21:
+    case 26:
         return xet_hmac(&file, chunks, out.hashes);
     default:
         return xet_load(first, first_length, &out.info);

@@ -86,6 +86,12 @@ static uint32_t call_merge(const struct input *input, void *out, size_t capacity
     return within_room(error, bytes_of(list, input->count), *written);
 }
 
+static uint32_t call_concatenate(const struct input *input, void *out, size_t capacity, size_t *written) {
+    xet_bytes list[SHARDS];
+    list_shards(input, list);
+    return xet_concatenate(list, input->count, out, capacity, written);
+}
+
 /* A disagreement is told exactly if there is one, and names two shards of the list. */
 static void check_disagreement(const struct input *input, const struct block *found, size_t differing, bool is_told) {
     xet_disagreement first;
@@ -96,6 +102,14 @@ static void check_disagreement(const struct input *input, const struct block *fo
     require(differing == 0 || is_pair, "the disagreement is not of two shards");
 }
 
+/* A record that no shard may have is of one shard of the list. */
+static void check_malformed(const struct input *input, const struct block *found, size_t differing) {
+    xet_disagreement first;
+    memcpy(&first, found->bytes, sizeof first);
+    require(differing == 0, "a malformed record is counted as a disagreement");
+    require(first.first < input->count && first.first == first.second, "the malformed record is of no shard");
+}
+
 static uint32_t call_merge_agreeing(const struct input *input, void *out, size_t capacity, size_t *written) {
     xet_bytes list[SHARDS];
     list_shards(input, list);
@@ -103,8 +117,22 @@ static uint32_t call_merge_agreeing(const struct input *input, void *out, size_t
     size_t differing = 12345;
     void *first = found.bytes;
     uint32_t error = xet_merge_agreeing(list, input->count, out, capacity, written, &differing, first);
-    check_disagreement(input, &found, differing, error == XET_DISAGREE);
+    if (error == XET_MALFORMED)
+        check_malformed(input, &found, differing);
+    else
+        check_disagreement(input, &found, differing, error == XET_DISAGREE);
     free_block(&found);
+    return within_room(error, bytes_of(list, input->count), *written);
+}
+
+/* The hashes from that of the file on, or those below it. */
+static uint32_t call_merge_range(const struct input *input, void *out, size_t capacity, size_t *written) {
+    xet_bytes list[SHARDS];
+    list_shards(input, list);
+    xet_range range = {{0}, {0}, input->verification, !input->verification};
+    memcpy(range.from, &input->file, sizeof range.from);
+    memcpy(range.to, &input->file, sizeof range.to);
+    uint32_t error = xet_merge_range(list, input->count, &range, out, capacity, written);
     return within_room(error, bytes_of(list, input->count), *written);
 }
 
@@ -238,7 +266,9 @@ static const struct filling fillings[] = {
     {"xet_union", 1, OF_MERGING, call_union, 3},
     {"xet_difference", 1, OF_MERGING, call_difference, 3},
     {"xet_merge", 1, OF_MERGING, call_merge, 3},
-    {"xet_merge_agreeing", 1, OF_MERGING | BIT(XET_DISAGREE), call_merge_agreeing, 3},
+    {"xet_merge_range", 1, OF_MERGING, call_merge_range, 3},
+    {"xet_concatenate", 1, OF_MERGING, call_concatenate, 3},
+    {"xet_merge_agreeing", 1, OF_MERGING | BIT(XET_DISAGREE) | BIT(XET_MALFORMED), call_merge_agreeing, 3},
     {"xet_export", 1, OF_MERGING, call_export, 3},
     {"xet_minimal", 1, OF_SECTIONS, call_minimal, 3},
     {"xet_subset", 1, OF_SECTIONS, call_subset, 3},
@@ -328,6 +358,22 @@ static void check_query(const struct input *input) {
     memcpy(&segment, run.bytes, sizeof segment);
     require(count == 0 || segment.end - segment.start == count, "the run has another length");
     free_block(&run);
+}
+
+static void check_find_malformed(const struct input *input) {
+    called = "xet_find_malformed";
+    xet_bytes list[SHARDS];
+    list_shards(input, list);
+    struct block found = new_struct(input, sizeof(xet_disagreement));
+    bool malformed = false;
+    void *out = found.bytes;
+    uint32_t error = result(xet_find_malformed(list, input->count, &malformed, out), OF_SECTIONS);
+    require(error == XET_OK || !malformed, "an error tells a malformed record");
+    if (malformed)
+        check_malformed(input, &found, 0);
+    else
+        require(is_filled(&found, 0), "the malformed record is touched");
+    free_block(&found);
 }
 
 static void check_find_disagreement(const struct input *input) {
@@ -472,6 +518,7 @@ void make_calls(const struct input *input, struct random *random, struct tally *
     check_load(input);
     check_query(input);
     check_find_disagreement(input);
+    check_find_malformed(input);
     check_walk(&readings[0], input);
     check_walk(&readings[1], input);
     check_texts(input);

@@ -6,7 +6,7 @@
 #include "blocks.h"
 #include "random.h"
 
-enum { SHARDS = 4, RESULTS = XET_DISAGREE + 1 };
+enum { SHARDS = 4, RESULTS = XET_MALFORMED + 1 };
 
 /* What the calls of a case are given. Each list is a block of its own. */
 struct input {

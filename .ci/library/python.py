@@ -26,7 +26,7 @@ STRUCTS = {
     "XetDisagreement": ("_Disagreement", "xet_disagreement"), "XetPlace": ("_Place", "xet_place"),
     "XetFinding": ("_Finding", "xet_finding"), "XetXorb": ("_Xorb", "xet_xorb"), "XetChunk": ("_Chunk", "xet_chunk"),
     "XetListedFile": ("_ListedFile", "xet_listed_file"), "XetListedXorb": ("_ListedXorb", "xet_listed_xorb"),
-    "XetCounts": ("_Counts", "xet_counts"),
+    "XetCounts": ("_Counts", "xet_counts"), "XetRange": ("_Range", "xet_range"),
 }
 
 

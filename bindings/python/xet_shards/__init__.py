@@ -298,7 +298,7 @@ class _Subset(ctypes.Structure):
 
 
 class _Range(ctypes.Structure):
-    _fields_ = [("start", _Words), ("stop", _Words), ("has_start", c_bool), ("has_stop", c_bool)]
+    _fields_ = [("from", _Words), ("to", _Words), ("has_from", c_bool), ("has_to", c_bool)]
 
 
 class _File(ctypes.Structure):
