@@ -11,7 +11,6 @@ ghost use Rattle.xet_core_structures.specs.Trees.MergeTrees.{TreeWrites, TreeRef
 
 mod agreement;
 mod ranges;
-mod table_order;
 mod trees;
 mod two_shards;
 
@@ -148,7 +147,7 @@ fn merge<'a>(alloc: Global, plan: &MergePlan, inputs: &'a [&'a [u8]]) -> Result<
 {
     let arena = Bump::new(alloc);
     let part = place_tree(alloc, &arena, plan, inputs)?;
-    part_bytes(alloc, inputs, part)
+    part_bytes(alloc, part)
 }
 
 // The same to a slice.
@@ -163,5 +162,5 @@ fn merge_into<'a>(
 {
     let arena = Bump::new(alloc);
     let part = place_tree(alloc, &arena, plan, inputs)?;
-    fill_with_part(alloc, inputs, part, out)
+    fill_with_part(alloc, part, out)
 }

@@ -127,7 +127,7 @@ fn merge<'a>(
 {
     let arena = Bump::new(alloc);
     let part = place_range(alloc, &arena, plan, inputs, *range)?;
-    part_bytes(alloc, inputs, part)
+    part_bytes(alloc, part)
 }
 
 // The same to a slice.
@@ -143,7 +143,7 @@ fn merge_into<'a>(
 {
     let arena = Bump::new(alloc);
     let part = place_range(alloc, &arena, plan, inputs, *range)?;
-    fill_with_part(alloc, inputs, part, out)
+    fill_with_part(alloc, part, out)
 }
 
 // What a tree gives of a range. Records that are in no input are placed in the arena.

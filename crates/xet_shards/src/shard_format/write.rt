@@ -12,13 +12,11 @@
 //! and the bytes of their table; sums; and the rows of the chunk table, if it will be in. The
 //! export without a chunk table and `MDBMinimalShard` collect no rows of it
 //! (`WrittenXorbs::write_for`). `write_end` writes the tables that the `LayoutOptions` include, and
-//! the footer. It takes what was collected of the xorbs by value, and sorts the rows of the chunk
-//! table in place, without allocation. That the sorted rows are the chunk table is
-//! `sorted_is_table` in `proofs/Write/ChunkSorting.antt`: the table is the keys of a map, and has
-//! as many as there are rows, so no two rows tie. A tree of unions knows from its inputs in which
-//! order the rows may stand (`order`), and `in_order` merges them by it. What an input says is
-//! checked: rows that strictly ascend, as many as the rows of the table and each one of these, are
-//! the table (`members_are_table` in `proofs/Write/RowOrder.antt`).
+//! the footer. It takes what was collected of the xorbs by value, and puts the rows of the chunk
+//! table in order (`row_order`), for which free places are added behind them and taken off again.
+//! That the rest of the sorted list is the chunk table is `sorted_with_free` in
+//! `proofs/Write/RowOrder.antt`: the table is the keys of a map, and has as many as there are rows,
+//! so no two rows tie.
 //!
 //! Header, sections and end are `layout_of` the records with these options (`whole_layout` in
 //! `proofs/Write/Written.antt`), and so `layout` where the options are plain. A writer that has no

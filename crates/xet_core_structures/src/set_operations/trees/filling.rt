@@ -16,7 +16,6 @@ ghost use Rattle.xet_core_structures.specs.Steps.Placed.{Places, PlacesAll};
 
 use super::parts::PlacedShard;
 use super::placed::{PlacedRecord, write_placed};
-use crate::set_operations::table_order::row_order;
 use crate::set_operations::two_shards::results::{write_header, write_tables};
 use std::alloc::Global;
 use std::io::{self, Sink};
@@ -38,21 +37,20 @@ pub struct Frame {
 }
 
 /// Makes the frame of a shard under its key. The records are there to be read, and writing to a
-/// vector fails only if it is out of memory. The tables of the inputs are read for the order of
-/// the rows of the chunk table, and make no other difference.
-pub fn frame_of(alloc: Global, inputs: &[&[u8]], shard: &PlacedShard<'_>) -> Result<Frame>
+/// vector fails only if it is out of memory.
+pub fn frame_of(alloc: Global, shard: &PlacedShard<'_>) -> Result<Frame>
     requires { (records : Records) × MayBeWritten shard.now records }
     ensures { (records : Records) → MayBeWritten shard.now records → MatchResult result
         (IsFrame shard.now.key records) (λ e. e ≡ OutOfMemory) }
 {
-    match collected_frame(alloc, inputs, shard) {
+    match collected_frame(alloc, shard) {
         Ok(frame) => Ok(frame),
         Err(_) => Err(CoreError::OutOfMemory),
     }
 }
 
 // The frame, for which the rows of the lookup tables are collected from the sections.
-fn collected_frame(alloc: Global, inputs: &[&[u8]], shard: &PlacedShard<'_>) -> CopyResult<Frame>
+fn collected_frame(alloc: Global, shard: &PlacedShard<'_>) -> CopyResult<Frame>
     requires { (records : Records) × MayBeWritten shard.now records }
     ensures { IfOk result (λ frame. (records : Records) → MayBeWritten shard.now records
         → IsFrame shard.now.key records frame) }
@@ -69,8 +67,7 @@ fn collected_frame(alloc: Global, inputs: &[&[u8]], shard: &PlacedShard<'_>) -> 
         ..LayoutOptions::plain(None)
     };
     let mut tables = Vec::new(alloc);
-    let order = row_order(alloc, inputs, &xorbs)?;
-    write_tables(&mut tables, &files, order.of(xorbs), &options)?;
+    write_tables(&mut tables, &files, xorbs, &options)?;
     let size = ROW_SIZE * rows + tables.len();
     Ok(Frame {
         header,

@@ -207,47 +207,42 @@ pub fn unite_lists<'a>(
     })
 }
 
-/// The bytes of a part of a tree over these inputs.
-pub fn part_bytes(alloc: Global, inputs: &[&[u8]], part: Part<'_>) -> Result<Vec<u8>>
+/// The bytes of a part of a tree.
+pub fn part_bytes(alloc: Global, part: Part<'_>) -> Result<Vec<u8>>
     requires { (bytes : List ℕ) × IsPart bytes part }
     ensures { (bytes : List ℕ) → IsPart bytes part.entry → MatchResult result
         (λ written. written.items ≡ bytes) (λ e. e ≡ OutOfMemory) }
 {
     match part {
         Part::Input(bytes) => Ok(Vec::from_slice(alloc, bytes)?),
-        Part::United(shard) => shard_bytes(alloc, inputs, &shard),
+        Part::United(shard) => shard_bytes(alloc, &shard),
     }
 }
 
 // The bytes of a shard.
-fn shard_bytes(alloc: Global, inputs: &[&[u8]], shard: &PlacedShard<'_>) -> Result<Vec<u8>>
+fn shard_bytes(alloc: Global, shard: &PlacedShard<'_>) -> Result<Vec<u8>>
     requires { (records : Records) × MayBeWritten shard.now records }
     ensures { (records : Records) → MayBeWritten shard.now records → MatchResult result
         (λ written. written.items
         ≡ layout_of records.files records.xorbs (keyed_options shard.now.key))
         (λ e. e ≡ OutOfMemory) }
 {
-    let frame = frame_of(alloc, inputs, shard)?;
+    let frame = frame_of(alloc, shard)?;
     let mut bytes = vec![in alloc; 0; frame.size]?;
     put_shard(bytes.as_mut_slice(), shard, &frame);
     Ok(bytes)
 }
 
-/// Writes the bytes of a part of a tree over these inputs to the front of a slice, if they fit, and
-/// returns their number.
-pub fn fill_with_part(
-    alloc: Global,
-    inputs: &[&[u8]],
-    part: Part<'_>,
-    out: &mut [u8],
-) -> Result<usize>
+/// Writes the bytes of a part of a tree to the front of a slice, if they fit, and returns their
+/// number.
+pub fn fill_with_part(alloc: Global, part: Part<'_>, out: &mut [u8]) -> Result<usize>
     requires { (bytes : List ℕ) × IsPart bytes part }
     ensures { (bytes : List ℕ) → IsPart bytes part.entry
         → FillsWith (λ made. made ≡ bytes) (λ e. e ≡ OutOfMemory) out.old out.new result }
 {
     match part {
         Part::Input(bytes) => Ok(fill_with(out, bytes)),
-        Part::United(shard) => fill_with_shard(alloc, inputs, &shard, out),
+        Part::United(shard) => fill_with_shard(alloc, &shard, out),
     }
 }
 
@@ -262,18 +257,13 @@ fn fill_with(out: &mut [u8], bytes: &[u8]) -> usize
 }
 
 // Writes a shard to the front of a slice, if it fits, and returns its size.
-fn fill_with_shard(
-    alloc: Global,
-    inputs: &[&[u8]],
-    shard: &PlacedShard<'_>,
-    out: &mut [u8],
-) -> Result<usize>
+fn fill_with_shard(alloc: Global, shard: &PlacedShard<'_>, out: &mut [u8]) -> Result<usize>
     requires { (records : Records) × MayBeWritten shard.now records }
     ensures { (records : Records) → MayBeWritten shard.now records → FillsWith
         (λ made. made ≡ layout_of records.files records.xorbs (keyed_options shard.now.key))
         (λ e. e ≡ OutOfMemory) out.old out.new result }
 {
-    let frame = frame_of(alloc, inputs, shard)?;
+    let frame = frame_of(alloc, shard)?;
     if frame.size <= out.len() {
         put_shard(out, shard, &frame);
     }

@@ -101,8 +101,8 @@ pub fn write_values<S: WrittenSection + Drop, V: HoldsRecord<S::Record>, W: Writ
 }
 
 /// Writes the end of a shard, after its sections: the tables that are in, and the footer, which it
-/// returns. The rows of the chunk table are put in order here, if it is in. Allocates only if the
-/// xorbs have an `order`. The error is the writer's, or `OutOfMemory` if an allocation fails.
+/// returns. The rows of the chunk table are put in order here, if it is in, for which some more are
+/// allocated if they are many. The error is the writer's, or `OutOfMemory` if an allocation fails.
 pub fn write_end<W: Write>(
     writer: &mut W,
     files: &WrittenFiles,
@@ -123,12 +123,7 @@ pub fn write_end<W: Write>(
     let footer = footer_of(files, &xorbs, options);
     write_table(writer, options.file_table, &files.table)?;
     write_table(writer, options.xorb_table, &xorbs.table)?;
-    write_chunk_table(
-        writer,
-        options.chunk_table,
-        xorbs.chunk_rows,
-        xorbs.order.as_slice(),
-    )?;
+    write_chunk_table(writer, options.chunk_table, xorbs.chunk_rows)?;
     footer.serialize(writer)?;
     Ok(footer)
 }
@@ -147,12 +142,7 @@ fn write_table<W: Write>(writer: &mut W, is_in: bool, table: &RecordTable) -> Re
 }
 
 // Writes the chunk table, if it is in.
-fn write_chunk_table<W: Write>(
-    writer: &mut W,
-    is_in: bool,
-    rows: Vec<ChunkTableRow>,
-    order: &[u32],
-) -> Result<()>
+fn write_chunk_table<W: Write>(writer: &mut W, is_in: bool, rows: Vec<ChunkTableRow>) -> Result<()>
     ensures bytes { OnOk result ((xorbs : List MDBXorbInfo)
         → (is_in ≡ true → rows.items ≡ chunk_table_rows xorbs)
         → Appends (W.contents writer.old) (W.contents writer.new)
@@ -160,18 +150,18 @@ fn write_chunk_table<W: Write>(
     ensures causes { IfErr result IsWriteError }
 {
     if is_in {
-        write_sorted(writer, rows, order)?;
+        write_sorted(writer, rows)?;
     }
     Ok(())
 }
 
 // Writes the chunk table: its rows in ascending order.
-fn write_sorted<W: Write>(writer: &mut W, rows: Vec<ChunkTableRow>, order: &[u32]) -> Result<()>
+fn write_sorted<W: Write>(writer: &mut W, rows: Vec<ChunkTableRow>) -> Result<()>
     ensures bytes { OnOk result ((xorbs : List MDBXorbInfo) → rows.items ≡ chunk_table_rows xorbs
         → Appends (W.contents writer.old) (W.contents writer.new) (chunk_table_bytes xorbs)) }
     ensures causes { IfErr result IsWriteError }
 {
-    let sorted = in_order(rows, order)?;
+    let sorted = in_order(rows)?;
     write_chunk_rows(writer, sorted.as_slice())?;
     Ok(())
 }

@@ -101,13 +101,11 @@ pub struct WrittenFiles {
 
 /// The xorbs written so far: their lookup table, the rows of the chunk table, in the order of the
 /// section, if they are wanted, and the sums of their sizes, unpacked and on disk, by their
-/// headers. `order` has places in the list of rows, as far as it is known in which order they
-/// ascend; it may be empty, and what it says is checked.
+/// headers.
 #[derive(Drop)]
 pub struct WrittenXorbs {
     pub table: RecordTable,
     pub chunk_rows: Vec<ChunkTableRow>,
-    pub order: Vec<u32>,
     pub stored_bytes: u64,
     pub stored_bytes_on_disk: u64,
     ghost bytes_fit: { stored_bytes ≤ 4294967295 * table.rows },

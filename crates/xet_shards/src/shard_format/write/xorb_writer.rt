@@ -115,7 +115,6 @@ impl WrittenSection for WrittenXorbs {
         WrittenXorbs {
             table: RecordTable::new(alloc),
             chunk_rows: Vec::new(alloc),
-            order: Vec::new(alloc),
             stored_bytes: 0,
             stored_bytes_on_disk: 0,
         }
