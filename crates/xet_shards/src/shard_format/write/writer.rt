@@ -1,6 +1,6 @@
 //! Writing a shard with any layout options: sections, lookup tables and footer.
 
-ghost use Rattle.std.specs.Prelude.{◌≡◌, ◌≤◌, true, None, List, All, OnOk, IfOk, IfErr, map, flat_map, if◌then◌else◌};
+ghost use Rattle.std.specs.Prelude.{◌≡◌, ◌≤◌, length, true, None, List, All, OnOk, IfOk, IfErr, map, flat_map, if◌then◌else◌};
 ghost use Rattle.std.specs.Io.KnownBytes.{Appends};
 ghost use Rattle.std.specs.BTreeMap.{values};
 ghost use Rattle.xet_base.specs.Errors.{IsWriteError};
@@ -28,11 +28,15 @@ use std::collections::BTreeMap;
 use std::io::Write;
 use std::rc::Rc;
 use xet_base::error::{CoreError, Result};
+use xet_base::fields::put;
 use xet_base::merklehash::MerkleHash;
 use xet_base::serialization_utils::write_bytes;
 use xet_records::file_structs::MDBFileInfo;
 use xet_records::rows::ROW_SIZE;
 use xet_records::xorb_structs::MDBXorbInfo;
+
+// The rows of the chunk table that are written at once.
+const BLOCK_ROWS: usize = 64;
 
 impl MDBInMemoryShard {
     /// The bytes of the shard, without expiry: `shard_file_size` of them. `OutOfMemory` if an
@@ -166,16 +170,36 @@ fn write_sorted<W: Write>(writer: &mut W, rows: Vec<ChunkTableRow>) -> Result<()
     Ok(())
 }
 
-// Writes these rows of the chunk table.
+// Writes these rows of the chunk table, a block at a time.
 fn write_chunk_rows<W: Write>(writer: &mut W, rows: &[ChunkTableRow]) -> Result<()>
     ensures bytes { OnOk result
         (Appends (W.contents writer.old) (W.contents writer.new)
         (flat_map chunk_table_row_bytes rows.now)) }
     ensures causes { IfErr result IsWriteError }
 {
-    for row in rows {
-        write_bytes(writer, &row.to_bytes())?;
+    let blocks = rows.len() / BLOCK_ROWS;
+    for block in 0..blocks {
+        let start = BLOCK_ROWS * block;
+        write_block(writer, &rows[start..start + BLOCK_ROWS])?;
     }
+    write_block(writer, &rows[BLOCK_ROWS * blocks..])?;
+    Ok(())
+}
+
+// Writes so many rows of the chunk table at once.
+fn write_block<W: Write>(writer: &mut W, rows: &[ChunkTableRow]) -> Result<()>
+    requires { length rows.now ≤ 64 }
+    ensures bytes { OnOk result
+        (Appends (W.contents writer.old) (W.contents writer.new)
+        (flat_map chunk_table_row_bytes rows.now)) }
+    ensures causes { IfErr result IsWriteError }
+{
+    let mut bytes = [0u8; 16 * BLOCK_ROWS];
+    let mut end = 0;
+    for row in rows {
+        end = put(&mut bytes, end, &row.to_bytes());
+    }
+    write_bytes(writer, &bytes[..end])?;
     Ok(())
 }
 
