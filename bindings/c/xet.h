@@ -480,7 +480,13 @@ enum xet_finding_kind {
     XET_REFUSED,          /* the section has a header that the version does not have, or more than 4294967295 rows */
     XET_OUT_OF_ORDER,     /* the hash of the record at `number` of the section, from 0 on, is not greater than the last */
     XET_DIFFERS,          /* the part is not the one that the records give; of a section this is its end */
-    XET_OTHER_SIZE        /* the size is not `number`, which the records give */
+    XET_OTHER_SIZE,       /* the size is not `number`, which the records give */
+    XET_MALFORMED_RECORD, /* the record at `number` of the section, from 0 on, is one that no shard may have: a file
+                           * with flags beside those of its parts, or with a reserved word that is not zero in its
+                           * header or in a row of an optional part, or a xorb whose chunks have more than 4294967295
+                           * bytes together */
+    XET_REORDERED         /* a note: rows of the chunk table that share a first word stand in another order than the
+                           * library writes, and nothing is lost */
 };
 
 /* The parts of a shard, in the order of its bytes. */
@@ -501,11 +507,12 @@ typedef struct xet_finding {
 } xet_finding;
 
 /* Writes all that is wrong with the bytes of a shard: nothing if they are, byte for byte, what the library writes of the
- * records in them, with ascending hashes, in their version and with their key, their times and the tables of which the
- * footer says that they have rows. If the bytes can't be read, nothing else is looked for.
+ * records in them, which a shard may have, with ascending hashes, in their version and with their key, their times and
+ * the tables of which the footer says that they have rows. If the bytes can't be read, nothing else is looked for.
  *
- * The original leaves rows of the chunk table that share a first word in any order. So of a shard that it wrote, in which
- * a chunk occurs more than once, this mostly says that the chunk table differs, though nothing is wrong with it.
+ * The original leaves rows of the chunk table that share a first word in any order. So of a shard that it wrote, in
+ * which a chunk occurs more than once, this mostly writes the note XET_REORDERED, which is no fault: the bytes are as
+ * above but for this order. Bytes with no other finding hold a well-formed shard, as xet_find_malformed asks for it.
  *
  * XET_OUT_OF_MEMORY, XET_SHORT. */
 uint32_t xet_check(const uint8_t *shard, size_t length, xet_finding *out, size_t capacity, size_t *written);

@@ -640,6 +640,34 @@ def test_check():
     assert xet_shards.check(as_version_2) == [Finding("refused", "file_section", None)]
 
 
+def test_check_of_records_and_order():
+    Finding = xet_shards.Finding
+    # Of the file's record at 48: the flags are its bytes 32 to 35, the reserved word of the header 40 to 47, and those
+    # of its metadata row, behind the header and a segment, the 16 bytes from 48 + 96 + 32 on.
+    with_row = shard_of("file 100 s=365 200:0:5:5")
+    malformed = [Finding("malformed_record", "file_section", 0)]
+    for at in (48 + 32, 48 + 40, 48 + 96 + 32, 48 + 96 + 47):
+        changed = with_row[:at] + b"\1" + with_row[at + 1 :]
+        assert xet_shards.check(changed) == malformed and not malformed[0].is_note
+    # A xorb of two chunks of 2^32 - 1 bytes each: their numbers are the bytes 36 to 39 of their rows.
+    two = shard_of("xorb 10 21:5 22:5")
+    many = bytearray(two)
+    for chunk in (1, 2):
+        at = 96 + chunk * 48 + 36
+        many[at : at + 4] = b"\xff" * 4
+    assert xet_shards.check(many) == [Finding("malformed_record", "xorb_section", 0)]
+    # One chunk in two xorbs: the two rows of the chunk table, of 16 bytes each before the footer, share a first word.
+    twice = shard_of("xorb 10 21:5", "xorb 11 21:5")
+    rows = len(twice) - 200 - 32
+    swapped = twice[:rows] + twice[rows + 16 : rows + 32] + twice[rows : rows + 16] + twice[-200:]
+    found = xet_shards.check(swapped)
+    assert found == [Finding("reordered", "chunk_table", None)] and found[0].is_note
+    assert xet_shards.merge([swapped]) == twice == xet_shards.merge([twice])
+    # A row twice, and the other not at all, is no other order.
+    doubled = twice[:rows] + twice[rows : rows + 16] * 2 + twice[-200:]
+    assert xet_shards.check(doubled) == [Finding("differs", "chunk_table", None)]
+
+
 def test_write_v2():
     shard = Shard()
     shard.add_file("100", "v=365", "s=9364", "200:0:5:5")

@@ -53,9 +53,11 @@ _NAMES = (
     "Malformed",
 )
 # What enum xet_finding_kind and enum xet_part of xet.h name, and the kinds that have a number.
-_KINDS = "no_tag other_version no_footer too_short cut refused out_of_order differs other_size".split()
+_KINDS = (
+    "no_tag other_version no_footer too_short cut refused out_of_order differs other_size malformed_record reordered"
+).split()
 _PARTS = "header file_section xorb_section file_table xorb_table chunk_table footer".split()
-_NUMBERED = (2, 7, 9)
+_NUMBERED = (2, 7, 9, 10)
 _INVALID_SHARD = 11
 _INVALID_ARGUMENTS = 13
 _SHORT = 19
@@ -244,11 +246,16 @@ class Finding:
     """What is wrong with the bytes of a shard: `kind` is that of enum xet_finding_kind in xet.h, as `out_of_order`.
 
     `part` is the part of the shard, as `file_section`, and `number` what belongs to the kind, where it has them.
+    `reordered` is a note, and no fault: nothing is lost.
     """
 
     kind: str
     part: Optional[str]
     number: Optional[int]
+
+    @property
+    def is_note(self) -> bool:
+        return self.kind == "reordered"
 
 
 @dataclass(frozen=True)
@@ -771,11 +778,12 @@ def hash_texts(array: Any, name: str = "hash") -> List[str]:
 def check(shard: Buffer) -> List[Finding]:
     """Returns all that is wrong with the bytes of a shard.
 
-    The list is empty if they are, byte for byte, what the library writes of the records in them, in their version and
-    with their key, their times and the tables of which the footer says that they have rows.
+    The list is empty if they are, byte for byte, what the library writes of the records in them, which a shard may
+    have, in their version and with their key, their times and the tables of which the footer says that they have rows.
 
     The original leaves rows of the chunk table that share a first word in any order. So of a shard that it wrote, in
-    which a chunk occurs more than once, this mostly says that the chunk table differs, though nothing is wrong with it.
+    which a chunk occurs more than once, there is mostly the note `reordered`, which is no fault (`is_note`): the bytes
+    are as above but for this order.
     """
     with _Addresses(shard) as [data]:
         found = _filled(_Finding, 16, lambda out, room, written: _library.xet_check(*data, out, room, byref(written)))

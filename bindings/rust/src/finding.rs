@@ -45,16 +45,31 @@ pub enum Finding {
     Differs(Part),
     /// The records give this size, and the bytes have another.
     OtherSize(u64),
+    /// The record at this index of the section, from 0 on, is one that no shard may have: a file with flags beside
+    /// those of its parts, or with a reserved word that is not zero in its header or in a row of an optional part, or
+    /// a xorb whose chunks have more than 4294967295 bytes together.
+    MalformedRecord(Part, u64),
+    /// Rows of the chunk table that share a first word stand in another order than the library writes. It is a note:
+    /// nothing is lost.
+    Reordered,
+}
+
+impl Finding {
+    /// Whether this is a note, and no fault: nothing is lost.
+    pub fn is_note(&self) -> bool {
+        matches!(self, Finding::Reordered)
+    }
 }
 
 /// Returns all that is wrong with the bytes of a shard.
 ///
-/// There is nothing if they are, byte for byte, what the library writes of the records in them, with ascending hashes,
-/// in their version and with their key, their times and the tables of which the footer says that they have rows. If the
-/// bytes can't be read, nothing else is looked for.
+/// There is nothing if they are, byte for byte, what the library writes of the records in them, which a shard may have,
+/// with ascending hashes, in their version and with their key, their times and the tables of which the footer says that
+/// they have rows. If the bytes can't be read, nothing else is looked for.
 ///
 /// The original leaves rows of the chunk table that share a first word in any order. So of a shard that it wrote, in
-/// which a chunk occurs more than once, this mostly says that the chunk table differs, though nothing is wrong with it.
+/// which a chunk occurs more than once, there is mostly [`Finding::Reordered`], which is a note and no fault
+/// ([`Finding::is_note`]): the bytes are as above but for this order.
 ///
 /// # Errors
 ///
@@ -85,7 +100,9 @@ fn finding_of(found: &calls::Finding) -> Finding {
         6 => Finding::Refused(part_of(found)),
         7 => Finding::OutOfOrder(part_of(found), found.number),
         8 => Finding::Differs(part_of(found)),
-        _ => Finding::OtherSize(found.number),
+        9 => Finding::OtherSize(found.number),
+        10 => Finding::MalformedRecord(part_of(found), found.number),
+        _ => Finding::Reordered,
     }
 }
 

@@ -175,6 +175,14 @@ fn findings() {
     let mut longer = shard.clone();
     longer.insert(shard.len() - 200, 0);
     assert_eq!(xet_shards::check(&longer), Ok(vec![Finding::OtherSize(shard.len() as u64)]));
+    // The reserved word of the second file's header is the last eight of its 48 bytes.
+    assert_eq!(changed(48 + 96 + 40, 1), [Finding::MalformedRecord(Part::FileSection, 1)]);
+    // One chunk in two xorbs: the two rows of the chunk table, of 16 bytes each before the footer, share a first word.
+    let mut twice = shard_of(&["xorb 10 21:5", "xorb 11 21:5"]);
+    let rows = twice.len() - 200 - 32;
+    twice[rows..rows + 32].rotate_left(16);
+    assert_eq!(xet_shards::check(&twice), Ok(vec![Finding::Reordered]));
+    assert!(Finding::Reordered.is_note() && !Finding::TooShort.is_note());
 }
 
 #[test]

@@ -1,19 +1,41 @@
 -- The problems of a file are its findings, and that of its name.
-use Rattle.std.proofs.Common.{◌≡◌, ℕ, true, false, List, [], ◌∷◌, ◌++◌, map, ◌<◌, arith, sym, ap, ◌∙◌, subst, zero, suc}
+use Rattle.std.proofs.Common.{◌≡◌, ℕ, true, false, List, [], ◌∷◌, ◌++◌, map, ◌<◌, arith, sym, ap, ◌∙◌, subst, zero, suc, refl}
 use Rattle.std.specs.Prelude.{◌↔◌, All, Contains, Option, IsSome, is_some}
 use Rattle.std.proofs.lemmas.List.{length-map, get_or-map}
-use Rattle.std.proofs.lemmas.List.Elements.{All-map, All-append, Contains-append_left, Contains-push}
+use Rattle.std.proofs.lemmas.List.Elements.{All-map, All-append, All-contains, Contains-append_left, Contains-push}
 use Rattle.xet_core_structures.specs.Names.{IsShardName}
 use Rattle.xet_core_structures.specs.declared.merklehash.DataHash.{DataHash}
 use Rattle.shard_bytes.specs.declared.check.Finding.{Finding}
-use Rattle.shard_bytes.specs.Checking.{IsFinding}
+use Rattle.shard_bytes.specs.Checking.{IsFinding, IsNote}
 use Rattle.mdb_report.specs.declared.problem.Problem.{Problem}
 use Rattle.mdb_report.specs.declared.problem.Problem.TheVariants.{Bytes, Name, Hash}
-use Rattle.mdb_report.specs.Problems.{IsProblem}
+use Rattle.mdb_report.specs.Problems.{IsProblem, IsNoted}
 
 -- each finding is a problem
 pub findings_are : (name bytes : List ℕ) (fs : List Finding) (problems : List Problem) → All (IsFinding bytes) fs → problems ≡ map Bytes fs → All (IsProblem name bytes) problems
 findings_are name bytes fs problems all are = subst (All (IsProblem name bytes)) (sym are) (All-map (IsProblem name bytes) Bytes fs all)
+
+-- there is no problem exactly if there is no finding
+pub none_of : (fs : List Finding) (problems : List Problem) → problems ≡ map Bytes fs → problems ≡ [] → fs ≡ []
+none_of [] problems are empty = refl
+none_of (f ∷ fs) problems are empty = absurd (some_left (sym are ∙ empty))
+  where
+    some_left : ¬ (Bytes f ∷ map Bytes fs ≡ [])
+    some_left same = cc
+
+-- so of a shard's name there is none exactly if the bytes are whole
+pub none_if_named : (Whole Named : Type 0) (fs : List Finding) (problems : List Problem) → ((fs ≡ []) ↔ Whole) → Named → problems ≡ map Bytes fs → (problems ≡ []) ↔ (Whole × Named)
+none_if_named Whole Named fs problems whole named are =
+    (λ empty. (whole.0 (none_of fs problems are empty), named), λ both. are ∙ ap (map Bytes) (whole.1 both.0))
+
+-- of notes alone the findings are notes
+pub notes_of : (fs : List Finding) (problems : List Problem) → problems ≡ map Bytes fs → All IsNoted problems → All IsNote fs
+notes_of fs problems are notes = λ k d below.
+    subst IsNoted (get_or-map Bytes fs k d (Bytes d) below) (subst (All IsNoted) are notes k (Bytes d) (subst (λ n. k < n) (sym (length-map fs Bytes)) below))
+
+-- and what a problem of a name or a hash is added to is not notes alone
+pub not_notes : (some problems : List Problem) (last : Problem) → (¬ IsNoted last) → problems ≡ some ++ last ∷ [] → ¬ All IsNoted problems
+not_notes some problems last fault are notes = fault (All-contains IsNoted problems last notes (subst (λ ps. Contains ps last) (sym are) (Contains-push some last)))
 
 only_name : (name bytes : List ℕ) → (¬ IsShardName name) → All (IsProblem name bytes) (Name ∷ [])
 only_name name bytes unnamed zero d below = unnamed

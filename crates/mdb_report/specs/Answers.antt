@@ -2,7 +2,7 @@
 use Rattle.std.specs.Prelude.{◌≡◌, ◌⊎◌, ⊤, Bool, true, false, ℕ, List, length}
 use Rattle.xet_core_structures.specs.declared.shard_format.MDBShardInfo.{MDBShardInfo}
 use Rattle.xet_core_structures.specs.Ends.{HasHeaderAndFooter}
-use Rattle.shard_bytes.specs.Checking.{IsWhole}
+use Rattle.shard_bytes.specs.Checking.{IsIntact}
 use Rattle.mdb_report.specs.declared.inquiry.Inquiry.{Inquiry}
 use Rattle.mdb_report.specs.declared.inquiry.Inquiry.TheVariants.{Summary, Brief, Check, Find, Query}
 use Rattle.mdb_report.specs.declared.parts.Parts.{Parts}
@@ -40,5 +40,5 @@ HasAscendingParts bytes =
 abbrev pub IsClean : Inquiry → List ℕ → Type 0
 IsClean Summary bytes = HasAscendingParts bytes
 IsClean Brief bytes = HasAscendingParts bytes
-IsClean (Check named key) bytes = IsWhole bytes
+IsClean (Check named key) bytes = IsIntact bytes
 IsClean _ bytes = ⊤

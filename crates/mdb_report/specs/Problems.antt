@@ -6,8 +6,8 @@ use Rattle.xet_core_structures.specs.declared.shard_format.MDBShardInfo.{MDBShar
 use Rattle.shard_bytes.specs.declared.check.Section.TheVariants.{Files, Xorbs}
 use Rattle.shard_bytes.specs.declared.check.Part.TheVariants.{Header, FileSection, XorbSection, FileTable, XorbTable, ChunkTable, Footer}
 use Rattle.shard_bytes.specs.declared.check.Finding.{Finding}
-use Rattle.shard_bytes.specs.declared.check.Finding.TheVariants.{Cut, Refused, OutOfOrder, Differs}
-use Rattle.shard_bytes.specs.Checking.{IsFinding}
+use Rattle.shard_bytes.specs.declared.check.Finding.TheVariants.{Cut, Refused, OutOfOrder, Malformed, Differs, Reordered}
+use Rattle.shard_bytes.specs.Checking.{IsFinding, IsNote}
 use Rattle.mdb_report.specs.declared.problem.Problem.{Problem}
 use Rattle.mdb_report.specs.declared.problem.Problem.TheVariants.{Bytes, Name, Hash}
 
@@ -16,6 +16,11 @@ abbrev pub IsProblem : List ℕ → List ℕ → Problem → Type 0
 IsProblem name bytes (Bytes finding) = IsFinding bytes finding
 IsProblem name bytes Name = ¬ IsShardName name
 IsProblem name bytes (Hash hash) = ⊥
+
+-- a problem is a note: nothing is lost
+abbrev pub IsNoted : Problem → Type 0
+IsNoted (Bytes finding) = IsNote finding
+IsNoted _ = ⊥
 
 -- the name is what a path has after its last slash, or all of it if it has none
 abbrev pub IsFileName : List ℕ → List ℕ → Type 0
@@ -38,6 +43,8 @@ start_in info (Refused Files) = Some info.metadata.file_info_offset
 start_in info (Refused Xorbs) = Some info.metadata.xorb_info_offset
 start_in info (OutOfOrder Files n) = Some info.metadata.file_info_offset
 start_in info (OutOfOrder Xorbs n) = Some info.metadata.xorb_info_offset
+start_in info (Malformed Files n) = Some info.metadata.file_info_offset
+start_in info (Malformed Xorbs n) = Some info.metadata.xorb_info_offset
 start_in info (Differs Header) = Some 0
 start_in info (Differs FileSection) = Some info.metadata.file_info_offset
 start_in info (Differs XorbSection) = Some info.metadata.xorb_info_offset
@@ -45,4 +52,5 @@ start_in info (Differs FileTable) = Some info.metadata.file_lookup_offset
 start_in info (Differs XorbTable) = Some info.metadata.xorb_lookup_offset
 start_in info (Differs ChunkTable) = Some info.metadata.chunk_lookup_offset
 start_in info (Differs Footer) = Some info.metadata.footer_offset
+start_in info Reordered = Some info.metadata.chunk_lookup_offset
 start_in info _ = None

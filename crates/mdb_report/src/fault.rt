@@ -1,8 +1,8 @@
 //! Why a command failed, in words.
 
 ghost use Rattle.std.specs.Prelude.{◌≡◌, ◌≢◌, ◌⊎◌, ◌↔◌, ℕ, All, Contains, IsTrue, MatchOption, MatchResult};
-ghost use Rattle.shard_bytes.specs.Checking.{IsFinding, IsWhole};
-ghost use Rattle.mdb_report.specs.Faults.{IsFaultOf, KeepsFrom, IsObstacle, IsUnderKey, IsUnderNoKey};
+ghost use Rattle.shard_bytes.specs.Checking.{IsFinding};
+ghost use Rattle.mdb_report.specs.Faults.{IsFaultOf, MayBeCause, KeepsFrom, IsObstacle, IsUnderKey, IsUnderNoKey};
 
 use crate::problem::InWords;
 use crate::tables::Table;
@@ -153,7 +153,7 @@ impl<T: Drop> From<AllocFailed<T>> for Fault {
 }
 
 /// The fault behind an error of a call on the bytes of one shard: what a check of these bytes finds
-/// first, if the error does not say it.
+/// first, beside what calls pass over, if the error does not say it.
 pub fn fault_of(alloc: Global, bytes: &[u8], error: CoreError) -> Fault
     ensures is { IsFaultOf bytes.now error result }
     ensures memory { error ≡ CoreError.OutOfMemory → result ≡ Fault.OutOfMemory }
@@ -188,12 +188,37 @@ pub fn section_fault(section: Section, error: CoreError) -> Fault
 
 fn first_finding(alloc: Global, bytes: &[u8]) -> Result<Option<Finding>, Fault>
     ensures { MatchResult result
-        (λ found. MatchOption found (IsWhole bytes.now) (IsFinding bytes.now))
+        (λ found. MatchOption found ((f : Finding) → IsFinding bytes.now f → ¬ MayBeCause f)
+        (λ f. IsFinding bytes.now f × MayBeCause f))
         (λ fault. fault ≡ Fault.OutOfMemory) }
 {
     match check_bytes(alloc, bytes) {
-        Ok(findings) => Ok(findings.as_slice().first().copied()),
+        Ok(findings) => Ok(cause_in(findings.as_slice())),
         Err(_) => Err(Fault::OutOfMemory),
+    }
+}
+
+// The first finding that may be the cause of an error.
+fn cause_in(findings: &[Finding]) -> Option<Finding>
+    ensures { MatchOption result (All (λ f. ¬ MayBeCause f) findings.now)
+        (λ f. Contains findings.now f × MayBeCause f) }
+{
+    let cause = findings.iter().find(
+        |finding: &&Finding| -> bool
+            ensures { IsTrue result ↔ MayBeCause finding.now.now }
+        { may_be_cause(finding) },
+    );
+    cause.copied()
+}
+
+// Whether a finding may be the cause of an error. Calls pass over records that no shard may have, and
+// over the order of rows.
+fn may_be_cause(finding: &Finding) -> bool
+    ensures { IsTrue result ↔ MayBeCause finding.now }
+{
+    match finding {
+        Finding::Malformed(_, _) | Finding::Reordered => false,
+        _ => true,
     }
 }
 
@@ -224,12 +249,14 @@ fn obstacle_in(findings: &[Finding]) -> Option<Finding>
     obstacle.copied()
 }
 
-// Whether a finding keeps a shard from being read. Other parts or another size do not.
+// Whether a finding keeps a shard from being read. Other parts or another size do not, nor does what
+// calls pass over.
 fn keeps_from(finding: &Finding) -> bool
     ensures { IsTrue result ↔ KeepsFrom finding.now }
 {
     match finding {
         Finding::Differs(_) | Finding::Size(_) => false,
+        Finding::Malformed(_, _) | Finding::Reordered => false,
         _ => true,
     }
 }

@@ -1,7 +1,8 @@
 //! What a shard can be asked, and printing its answers.
 
-ghost use Rattle.std.specs.Prelude.{◌≡◌, ◌≢◌, ◌↔◌, is_some, IfOk, IsOk, IsTrue};
-ghost use Rattle.shard_bytes.specs.Checking.{IsWhole};
+ghost use Rattle.std.specs.Prelude.{◌≡◌, ◌≢◌, ◌↔◌, All, is_some, IfOk, IsOk, IsTrue};
+ghost use Rattle.shard_bytes.specs.Checking.{IsIntact};
+ghost use Rattle.mdb_report.specs.Problems.{IsNoted};
 ghost use Rattle.mdb_report.specs.Parts.{PartsAscend};
 ghost use Rattle.mdb_report.specs.Answers.{FindsProblems, LooksUp, IsClean, HasAscendingParts, SaysNoMore};
 
@@ -10,7 +11,7 @@ use crate::hex::{HashReport, Hex, NameReport};
 use crate::line::{Layout, Style, print};
 use crate::lookup::{FoundReport, RunReport};
 use crate::problem::{
-    ProblemReport, file_name, problems_of, problems_of_bytes, problems_under_key,
+    Problem, ProblemReport, file_name, problems_of, problems_of_bytes, problems_under_key,
 };
 use crate::records::{ChunkReport, XorbReport, file_reports};
 use crate::summary::Summary;
@@ -309,7 +310,7 @@ fn check<W: Write>(
     output: &mut W,
 ) -> Result<Answer, Trouble>
     ensures { IfOk result (λ answer. (answer ≢ Answer.FoundNothing)
-        × (answer ≡ Answer.Printed → IsWhole bytes.now)) }
+        × (answer ≡ Answer.Printed → IsIntact bytes.now)) }
 {
     let problems = match (named, key) {
         (true, Some(key)) => problems_under_key(alloc, file_name(file), key, bytes)?,
@@ -321,11 +322,22 @@ fn check<W: Write>(
         let report = ProblemReport::of_problem(file, info.as_ref(), *problem);
         print(alloc, &report, Layout::plain(style), output)?;
     }
-    if problems.is_empty() {
+    if are_notes(problems.as_slice()) {
         Ok(Answer::Printed)
     } else {
         Ok(Answer::FoundProblems)
     }
+}
+
+// Whether these problems are notes.
+fn are_notes(problems: &[Problem]) -> bool
+    ensures { IsTrue result ↔ All IsNoted problems.now }
+{
+    problems.iter().all(
+        |problem: &Problem| -> bool
+            ensures { IsTrue result ↔ IsNoted problem.now }
+        { problem.is_note() },
+    )
 }
 
 // Looks files up.

@@ -1,12 +1,12 @@
 //! What a check finds, in words.
 
-ghost use Rattle.std.specs.Prelude.{◌≡◌, ◌↔◌, [], map, All, Contains, IfOk, IfErr, MatchOption};
+ghost use Rattle.std.specs.Prelude.{◌≡◌, ◌↔◌, [], map, All, Contains, IsTrue, IfOk, IfErr, MatchOption};
 ghost use Rattle.xet_core_structures.specs.Blake3.{keyed_hash};
 ghost use Rattle.xet_core_structures.specs.Names.{IsShardName, NamesShard};
-ghost use Rattle.shard_bytes.specs.Checking.{IsWhole};
+ghost use Rattle.shard_bytes.specs.Checking.{IsWhole, IsIntact, IsNote};
 ghost use Rattle.mdb_report.specs.declared.problem.Problem.{Problem};
 ghost use Rattle.xet_core_structures.specs.declared.shard_format.MDBShardInfo.{MDBShardInfo};
-ghost use Rattle.mdb_report.specs.Problems.{IsProblem, IsFileName, AreFindings, start_in};
+ghost use Rattle.mdb_report.specs.Problems.{IsProblem, IsNoted, IsFileName, AreFindings, start_in};
 
 use crate::shown::Shown;
 use serde::{Described, Serialize, Serializer};
@@ -28,6 +28,18 @@ pub enum Problem {
     Name,
     /// The name has another hash than the bytes, which have this one.
     Hash(MerkleHash),
+}
+
+impl Problem {
+    /// Whether it is a note, and no fault of the file: nothing is lost.
+    pub fn is_note(&self) -> bool
+        ensures { IsTrue result ↔ IsNoted self.now }
+    {
+        match self {
+            Problem::Bytes(finding) => finding.is_note(),
+            Problem::Name | Problem::Hash(_) => false,
+        }
+    }
 }
 
 /// A problem, and the file that has it.
@@ -72,6 +84,7 @@ fn code_of(problem: Problem) -> &'static str {
             Finding::Cut(_) => "section_cut",
             Finding::Refused(_) => "section_refused",
             Finding::OutOfOrder(_, _) => "out_of_order",
+            Finding::Malformed(_, _) => "malformed_record",
             Finding::Differs(Part::Header) => "header_differs",
             Finding::Differs(Part::FileSection) => "file_section_differs",
             Finding::Differs(Part::XorbSection) => "xorb_section_differs",
@@ -79,6 +92,7 @@ fn code_of(problem: Problem) -> &'static str {
             Finding::Differs(Part::XorbTable) => "xorb_table_differs",
             Finding::Differs(Part::ChunkTable) => "chunk_table_differs",
             Finding::Differs(Part::Footer) => "footer_differs",
+            Finding::Reordered => "chunk_table_reordered",
             Finding::Size(_) => "size_differs",
         },
     }
@@ -103,14 +117,16 @@ pub fn start_of(info: &MDBShardInfo, finding: Finding) -> Option<u64>
         Finding::Cut(Section::Files)
         | Finding::Refused(Section::Files)
         | Finding::OutOfOrder(Section::Files, _)
+        | Finding::Malformed(Section::Files, _)
         | Finding::Differs(Part::FileSection) => Some(footer.file_info_offset),
         Finding::Cut(Section::Xorbs)
         | Finding::Refused(Section::Xorbs)
         | Finding::OutOfOrder(Section::Xorbs, _)
+        | Finding::Malformed(Section::Xorbs, _)
         | Finding::Differs(Part::XorbSection) => Some(footer.xorb_info_offset),
         Finding::Differs(Part::FileTable) => Some(footer.file_lookup_offset),
         Finding::Differs(Part::XorbTable) => Some(footer.xorb_lookup_offset),
-        Finding::Differs(Part::ChunkTable) => Some(footer.chunk_lookup_offset),
+        Finding::Differs(Part::ChunkTable) | Finding::Reordered => Some(footer.chunk_lookup_offset),
         Finding::Differs(Part::Footer) => Some(footer.footer_offset),
         Finding::Unsupported(_) | Finding::TooShort | Finding::Size(_) => None,
     }
@@ -123,6 +139,8 @@ pub fn start_of(info: &MDBShardInfo, finding: Finding) -> Option<u64>
 pub fn problems_of(alloc: Global, name: &str, bytes: &[u8]) -> Result<Vec<Problem>>
     ensures whole { IfOk result
         (λ problems. (problems.items ≡ []) ↔ (IsWhole bytes.now × IsShardName name.now)) }
+    ensures intact { IfOk result
+        (λ problems. All IsNoted problems.items → IsIntact bytes.now) }
     ensures each { IfOk result (λ problems. All (IsProblem name.now bytes.now) problems.items) }
     ensures all { IfOk result
         (λ problems. (p : Problem) → IsProblem name.now bytes.now p → Contains problems.items p) }
@@ -142,6 +160,8 @@ pub fn problems_of(alloc: Global, name: &str, bytes: &[u8]) -> Result<Vec<Proble
 /// The only error is `OutOfMemory`.
 pub fn problems_of_bytes(alloc: Global, bytes: &[u8]) -> Result<Vec<Problem>>
     ensures whole { IfOk result (λ problems. (problems.items ≡ []) ↔ IsWhole bytes.now) }
+    ensures intact { IfOk result
+        (λ problems. All IsNoted problems.items → IsIntact bytes.now) }
     ensures findings { IfOk result (λ problems. AreFindings bytes.now problems.items) }
     ensures causes { IfErr result (λ e. e ≡ CoreError.OutOfMemory) }
 {
@@ -162,6 +182,8 @@ pub fn problems_under_key(
     ensures whole { IfOk result
         (λ problems. (problems.items ≡ [])
         ↔ (IsWhole bytes.now × NamesShard name.now (keyed_hash key bytes.now))) }
+    ensures intact { IfOk result
+        (λ problems. All IsNoted problems.items → IsIntact bytes.now) }
     ensures causes { IfErr result (λ e. e ≡ CoreError.OutOfMemory) }
 {
     let mut problems = problems_of(alloc, name, bytes)?;
@@ -269,6 +291,13 @@ impl fmt::Display for InWords {
                     "{section} has a hash at record {record} that is not above the one before"
                 )
             }
+            Finding::Malformed(section, record) => {
+                let section = section_name(section);
+                write!(
+                    f,
+                    "{section} has a record that no shard may have, record {record}"
+                )
+            }
             Finding::Differs(Part::Header) => write!(
                 f,
                 "the header has another footer size than 200"
@@ -277,6 +306,10 @@ impl fmt::Display for InWords {
                 let part = part_name(part);
                 write!(f, "{part} does not match the records")
             }
+            Finding::Reordered => write!(
+                f,
+                "the chunk table has rows with one first word in another order: nothing is lost"
+            ),
             Finding::Size(bytes) => write!(f, "it should have {bytes} bytes, by its records"),
         }
     }

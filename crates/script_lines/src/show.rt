@@ -1,6 +1,7 @@
 //! How values are printed: short, and in the form in which commands take them.
 
 use crate::ranges::hex_digits;
+use shard_bytes::check::Finding;
 use std::alloc::Global;
 use std::io::{self, Write};
 use std::rc::Rc;
@@ -326,6 +327,12 @@ impl Show for Disagreement {
     fn show(&self, out: &mut Vec<u8>) -> io::Result<()> {
         self.record_hash.show(out)?;
         write!(out, " {} {}", self.first, self.second)
+    }
+}
+
+impl Show for Finding {
+    fn show(&self, out: &mut Vec<u8>) -> io::Result<()> {
+        write!(out, "{self:?}")
     }
 }
 

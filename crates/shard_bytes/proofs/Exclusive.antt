@@ -20,7 +20,7 @@ use Rattle.shard_bytes.specs.Format.{IsUnsupportedFor}
 use Rattle.shard_bytes.proofs.Formats.{unsupported_so, one_reason}
 use Rattle.shard_bytes.specs.declared.check.Section.TheVariants.{Files, Xorbs}
 use Rattle.shard_bytes.specs.declared.check.Finding.{Finding}
-use Rattle.shard_bytes.specs.declared.check.Finding.TheVariants.{Unsupported, TooShort, Cut, Refused, OutOfOrder, Differs, Size}
+use Rattle.shard_bytes.specs.declared.check.Finding.TheVariants.{Unsupported, TooShort, Cut, Refused, OutOfOrder, Malformed, Differs, Reordered, Size}
 use Rattle.shard_bytes.specs.Checking.{IsFinding}
 
 module _ (bytes : List ℕ) where
@@ -43,7 +43,9 @@ module _ (bytes : List ℕ) where
   only_unsupported reason why (Refused Files) (info, ends, header, rest) = absurd (not_unsupported bytes info ends (unsupported_so bytes reason why))
   only_unsupported reason why (Refused Xorbs) (info, ends, header, rest) = absurd (not_unsupported bytes info ends (unsupported_so bytes reason why))
   only_unsupported reason why (OutOfOrder section n) (info, files, xorbs, read, rest) = absurd (not_unsupported bytes info read.ends (unsupported_so bytes reason why))
+  only_unsupported reason why (Malformed section n) (info, files, xorbs, read, rest) = absurd (not_unsupported bytes info read.ends (unsupported_so bytes reason why))
   only_unsupported reason why (Differs part) (info, files, xorbs, read, rest) = absurd (not_unsupported bytes info read.ends (unsupported_so bytes reason why))
+  only_unsupported reason why Reordered (info, files, xorbs, read, rest) = absurd (not_unsupported bytes info read.ends (unsupported_so bytes reason why))
   only_unsupported reason why (Size n) (info, files, xorbs, read, rest) = absurd (not_unsupported bytes info read.ends (unsupported_so bytes reason why))
 
   pub only_too_short : IsTooShort bytes → (g : Finding) → IsFinding bytes g → g ≡ TooShort
@@ -54,7 +56,9 @@ module _ (bytes : List ℕ) where
   only_too_short so (Refused Files) (info, ends, header, rest) = absurd (not_too_short bytes info ends so)
   only_too_short so (Refused Xorbs) (info, ends, header, rest) = absurd (not_too_short bytes info ends so)
   only_too_short so (OutOfOrder section n) (info, files, xorbs, read, rest) = absurd (not_too_short bytes info read.ends so)
+  only_too_short so (Malformed section n) (info, files, xorbs, read, rest) = absurd (not_too_short bytes info read.ends so)
   only_too_short so (Differs part) (info, files, xorbs, read, rest) = absurd (not_too_short bytes info read.ends so)
+  only_too_short so Reordered (info, files, xorbs, read, rest) = absurd (not_too_short bytes info read.ends so)
   only_too_short so (Size n) (info, files, xorbs, read, rest) = absurd (not_too_short bytes info read.ends so)
 
   -- after a header, in its version
@@ -88,7 +92,9 @@ module _ (bytes : List ℕ) where
     only_cut_files so (Refused Files) (i, e, h, over) = absurd (cut_or_over so (over_at h over))
     only_cut_files so (Refused Xorbs) (i, e, h, (files, there, rest)) = absurd (or_cut files (files_at h files there) so)
     only_cut_files so (OutOfOrder section n) (i, files, xorbs, read, rest) = absurd (or_cut files (files_at read.sections.header files read.sections.file_section) so)
+    only_cut_files so (Malformed section n) (i, files, xorbs, read, rest) = absurd (or_cut files (files_at read.sections.header files read.sections.file_section) so)
     only_cut_files so (Differs part) (i, files, xorbs, read, rest) = absurd (or_cut files (files_at read.sections.header files read.sections.file_section) so)
+    only_cut_files so Reordered (i, files, xorbs, read, rest) = absurd (or_cut files (files_at read.sections.header files read.sections.file_section) so)
     only_cut_files so (Size n) (i, files, xorbs, read, rest) = absurd (or_cut files (files_at read.sections.header files read.sections.file_section) so)
 
     pub only_refused_files : IsRefusedSection (file_records_in header.version) (drop 48 bytes) → (g : Finding) → IsFinding bytes g → g ≡ Refused Files
@@ -99,7 +105,9 @@ module _ (bytes : List ℕ) where
     only_refused_files so (Refused Files) also = refl
     only_refused_files so (Refused Xorbs) (i, e, h, (files, there, rest)) = absurd (or_over files (files_at h files there) so)
     only_refused_files so (OutOfOrder section n) (i, files, xorbs, read, rest) = absurd (or_over files (files_at read.sections.header files read.sections.file_section) so)
+    only_refused_files so (Malformed section n) (i, files, xorbs, read, rest) = absurd (or_over files (files_at read.sections.header files read.sections.file_section) so)
     only_refused_files so (Differs part) (i, files, xorbs, read, rest) = absurd (or_over files (files_at read.sections.header files read.sections.file_section) so)
+    only_refused_files so Reordered (i, files, xorbs, read, rest) = absurd (or_over files (files_at read.sections.header files read.sections.file_section) so)
     only_refused_files so (Size n) (i, files, xorbs, read, rest) = absurd (or_over files (files_at read.sections.header files read.sections.file_section) so)
 
     -- and after the files
@@ -128,7 +136,9 @@ module _ (bytes : List ℕ) where
       only_cut_xorbs so (Refused Xorbs) (i, e, h, (others, section, over)) =
           absurd (cut_or_over_xorbs so (subst (λ rs. IsRefusedSection xorb_records (drop (xorbs_after rs) bytes)) (same_files h others section) over))
       only_cut_xorbs so (OutOfOrder section n) (i, others, xorbs, read, rest) = absurd (or_cut_xorbs xorbs (xorbs_at others xorbs read.sections) so)
+      only_cut_xorbs so (Malformed section n) (i, others, xorbs, read, rest) = absurd (or_cut_xorbs xorbs (xorbs_at others xorbs read.sections) so)
       only_cut_xorbs so (Differs part) (i, others, xorbs, read, rest) = absurd (or_cut_xorbs xorbs (xorbs_at others xorbs read.sections) so)
+      only_cut_xorbs so Reordered (i, others, xorbs, read, rest) = absurd (or_cut_xorbs xorbs (xorbs_at others xorbs read.sections) so)
       only_cut_xorbs so (Size n) (i, others, xorbs, read, rest) = absurd (or_cut_xorbs xorbs (xorbs_at others xorbs read.sections) so)
 
       pub only_refused_xorbs : IsRefusedSection xorb_records (drop (xorbs_after files) bytes) → (g : Finding) → IsFinding bytes g → g ≡ Refused Xorbs
@@ -140,5 +150,7 @@ module _ (bytes : List ℕ) where
       only_refused_xorbs so (Refused Files) (i, e, h, over) = absurd (or_over files there (over_at h over))
       only_refused_xorbs so (Refused Xorbs) also = refl
       only_refused_xorbs so (OutOfOrder section n) (i, others, xorbs, read, rest) = absurd (or_over_xorbs xorbs (xorbs_at others xorbs read.sections) so)
+      only_refused_xorbs so (Malformed section n) (i, others, xorbs, read, rest) = absurd (or_over_xorbs xorbs (xorbs_at others xorbs read.sections) so)
       only_refused_xorbs so (Differs part) (i, others, xorbs, read, rest) = absurd (or_over_xorbs xorbs (xorbs_at others xorbs read.sections) so)
+      only_refused_xorbs so Reordered (i, others, xorbs, read, rest) = absurd (or_over_xorbs xorbs (xorbs_at others xorbs read.sections) so)
       only_refused_xorbs so (Size n) (i, others, xorbs, read, rest) = absurd (or_over_xorbs xorbs (xorbs_at others xorbs read.sections) so)

@@ -8,12 +8,14 @@ pub mod Formats
 pub mod InARow
 pub mod Inserting
 pub mod Keeping
+pub mod Malformed
 pub mod MemoryErrors
 pub mod Merging
 pub mod RangeMerging
 pub mod MinimalSizes
 pub mod Reading
 pub mod Recording
+pub mod Reordered
 pub mod RewriteSizes
 pub mod Searching
 pub mod Sizes

@@ -1,27 +1,37 @@
 //! Whether the bytes of a shard are what the library would write of the records in them.
 
-ghost use Rattle.std.specs.Prelude.{◌≡◌, ◌↔◌, [], ◌∷◌, ◌++◌, map, All, Contains, MatchOption, OnOk, IfOk, IfErr, IsTrue, if◌then◌else◌};
+ghost use Rattle.std.specs.Prelude.{◌≡◌, ◌↔◌, [], ◌∷◌, ◌++◌, List, map, All, Contains, MatchOption, MatchResult, OnOk, IfOk, IfErr, IsTrue, if◌then◌else◌};
 ghost use Rattle.std.specs.List.{slice_range};
 ghost use Rattle.std.specs.List.Sorted.{IsStrictlySortedBy};
 ghost use Rattle.std.specs.declared.cmp.Ordering.TheVariants.{Less};
 ghost use Rattle.xet_core_structures.specs.declared.merklehash.DataHash.{DataHash};
+ghost use Rattle.xet_core_structures.specs.declared.shard_format.MDBShardInfo.{MDBShardInfo};
 ghost use Rattle.xet_core_structures.specs.Ends.{HasHeaderAndFooter};
 ghost use Rattle.xet_core_structures.specs.TwoShards.ByteResults.{LoadRefusal};
 ghost use Rattle.xet_core_structures.specs.Hash.{hash_cmp};
 ghost use Rattle.shard_bytes.specs.declared.check.Finding.{Finding};
-ghost use Rattle.shard_bytes.specs.Checking.{IsWhole, IsFinding, IsOutOfOrder, IsSamePart};
-ghost use Rattle.shard_bytes.specs.Steps.Checking.{IsReport, IsUnloaded, IsUnreadable, AddsPart, AddsSize, AddsDisorder, AddsDifferences, Compares};
+ghost use Rattle.shard_bytes.specs.Checking.{IsWhole, IsIntact, IsFinding, IsNote, IsOutOfOrder, IsSamePart, HoldsOne};
+ghost use Rattle.shard_bytes.specs.Steps.Checking.{IsReport, IsUnloaded, IsUnreadable, AddsPart, AddsTable, FindsInTable, AddsSize, AddsDisorder, AddsDifferences, Compares, IsWritten, IsWrittenTable};
+
+mod malformed;
+mod reordered;
 
 use crate::format::{Format, unsupported_for};
 use crate::load::load_bytes;
+use malformed::{push_malformed_files, push_malformed_xorbs};
+use reordered::is_reordered;
 use std::alloc::Global;
 use std::cmp::Ordering;
 use xet_core_structures::error::{CoreError, Result};
+use xet_core_structures::file_structs::MDBFileInfo;
 use xet_core_structures::merklehash::MerkleHash;
 use xet_core_structures::shard_format::{MDBShardFileFooter, MDBShardInfo};
 use xet_core_structures::source::{MemorySource, ShardSource};
-use xet_core_structures::xorb_structs::XorbChunkSequenceHeader;
+use xet_core_structures::xorb_structs::MDBXorbInfo;
 use xet_shards::shard_writer::{LayoutOptions, write_again};
+
+// The bytes before the file section.
+const HEADER_SIZE: u64 = 48;
 
 /// One of the two sections of a shard.
 #[derive(Clone, Copy, Debug, PartialEq, Eq)]
@@ -57,21 +67,46 @@ pub enum Finding {
     /// The hash of the record at this index, from 0 on, is not greater than that of the record
     /// before it. It is the first such record of the section.
     OutOfOrder(Section, usize),
+    /// The record at this index, from 0 on, is one that no shard may have: a file with flags beside
+    /// those of its parts, or with a reserved word that is not zero, in its header or in a row of
+    /// an optional part, or a xorb whose chunks have more than 4294967295 bytes together.
+    Malformed(Section, usize),
     /// The part is not the one that the records give: of a section this is its bookend, since its
     /// records are those that are read.
     Differs(Part),
+    /// The chunk table has the rows that the records give, but those with one first word stand in
+    /// another order than the library writes. It is a note: nothing is lost, and the original
+    /// leaves such rows in any order.
+    Reordered,
     /// The size is not this one, in bytes, which the records give.
     Size(usize),
 }
 
+impl Finding {
+    /// Whether this is a note: nothing is lost.
+    pub fn is_note(&self) -> bool
+        ensures { IsTrue result ↔ IsNote self.now }
+    {
+        match self {
+            Finding::Reordered => true,
+            _ => false,
+        }
+    }
+}
+
 /// What is wrong with the bytes of a shard. The list is empty if they are, byte for byte, what the
-/// library would write of the records in them, with strictly ascending hashes, in their version and
-/// with their key, their timestamps and the tables that the footer says have rows. If the bytes
-/// cannot be read, nothing else is looked for.
+/// library would write of the records in them, which a shard may have, with strictly ascending
+/// hashes, in their version and with their key, their timestamps and the tables that the footer says
+/// have rows. It has nothing but notes if they are so but for the order of rows of the chunk table
+/// with one first word. Then they hold a well-formed shard, and of such bytes under one key, if they
+/// agree, each tree of unions gives the same. If the bytes cannot be read, nothing else is looked
+/// for.
 ///
 /// `OutOfMemory` if an allocation fails. No other error.
 pub fn check_bytes(alloc: Global, bytes: &[u8]) -> Result<Vec<Finding>>
     ensures whole { IfOk result (λ findings. (findings.items ≡ []) ↔ IsWhole bytes.now) }
+    ensures intact { IfOk result (λ findings. All IsNote findings.items ↔ IsIntact bytes.now) }
+    ensures shard { IfOk result (λ findings. All IsNote findings.items → HoldsOne bytes.now) }
     ensures each { IfOk result (λ findings. All (IsFinding bytes.now) findings.items) }
     ensures all { IfOk result
         (λ findings. (f : Finding) → IsFinding bytes.now f → Contains findings.items f) }
@@ -101,20 +136,24 @@ fn check_sections(alloc: Global, bytes: &[u8], info: &MDBShardInfo) -> Result<Ve
     ensures causes { IfErr result (λ e. e ≡ CoreError.OutOfMemory) }
 {
     let mut source = MemorySource::new(bytes);
-    let files = match MDBShardInfo::read_file_info_ranges(alloc, &mut source) {
+    // One section comes after the other, whatever the footer says.
+    let mut in_a_row = *info;
+    in_a_row.metadata.file_info_offset = HEADER_SIZE;
+    let files = match in_a_row.read_all_file_info_sections(alloc, &mut source) {
         Ok(files) => files,
         Err(error) => return unreadable(alloc, Section::Files, error),
     };
-    // The xorb section comes next, whatever the footer says.
-    let mut after_files = *info;
-    after_files.metadata.xorb_info_offset = source.position()?;
-    let xorbs = match after_files.read_all_xorb_blocks(alloc, &mut source) {
+    in_a_row.metadata.xorb_info_offset = source.position()?;
+    let xorbs = match in_a_row.read_all_xorb_blocks_full(alloc, &mut source) {
         Ok(xorbs) => xorbs,
         Err(error) => return unreadable(alloc, Section::Xorbs, error),
     };
+    let stored = slice(bytes, HEADER_SIZE, bytes.len() as u64);
     let mut findings = Vec::new(alloc);
     push_disorder(&mut findings, Section::Files, files.as_slice())?;
     push_disorder(&mut findings, Section::Xorbs, xorbs.as_slice())?;
+    push_malformed_files(alloc, &mut findings, files.as_slice(), stored)?;
+    push_malformed_xorbs(&mut findings, xorbs.as_slice())?;
     push_differences(alloc, &mut findings, bytes, info)?;
     Ok(findings)
 }
@@ -140,7 +179,7 @@ fn only(alloc: Global, finding: Finding) -> Result<Vec<Finding>>
     Ok(findings)
 }
 
-// What is read of a record, with its hash.
+// A record with its hash.
 trait Hashed {
     ghost hash_of: { Self → DataHash };
 
@@ -148,27 +187,19 @@ trait Hashed {
         ensures { result ≡ hash_of self.now };
 }
 
-// A file's hash and its byte ranges.
-impl Hashed
-    for (
-        MerkleHash,
-        (u64, u64),
-        Option<(u64, u64)>,
-        Option<MerkleHash>,
-    ) {
-    ghost hash_of = { λ ranges. ranges.0 };
+impl Hashed for MDBFileInfo {
+    ghost hash_of = { λ file. file.metadata.file_hash };
 
     fn record_hash(&self) -> MerkleHash {
-        self.0
+        self.metadata.file_hash
     }
 }
 
-// A xorb's header and its offset.
-impl Hashed for (XorbChunkSequenceHeader, u64) {
-    ghost hash_of = { λ located. located.0.xorb_hash };
+impl Hashed for MDBXorbInfo {
+    ghost hash_of = { λ xorb. xorb.metadata.xorb_hash };
 
     fn record_hash(&self) -> MerkleHash {
-        self.0.xorb_hash
+        self.metadata.xorb_hash
     }
 }
 
@@ -225,7 +256,7 @@ fn push_differences(
     let mut written = Vec::new(alloc);
     let options = LayoutOptions::of_info(info);
     match write_again(alloc, &mut source, &mut written, &options) {
-        Ok(footer) => compare(findings, bytes, info, written.as_slice(), &footer),
+        Ok(footer) => compare(alloc, findings, bytes, info, written.as_slice(), &footer),
         // Both sections were read before, so only memory can be lacking.
         Err(_) => Err(CoreError::OutOfMemory),
     }
@@ -233,12 +264,14 @@ fn push_differences(
 
 // Adds each part that differs from the one that was written, which has this footer, and the size.
 fn compare(
+    alloc: Global,
     findings: &mut Vec<Finding>,
     bytes: &[u8],
     info: &MDBShardInfo,
     written: &[u8],
     footer: &MDBShardFileFooter,
 ) -> Result<()>
+    requires { IsWritten written.now footer.now }
     ensures added { OnOk result
         (Compares bytes.now info.now written.now footer.now findings.old.items findings.new.items) }
     ensures causes { IfErr result (λ e. e ≡ CoreError.OutOfMemory) }
@@ -248,7 +281,7 @@ fn compare(
     push_part(findings, Part::XorbSection, bytes, info, written, footer)?;
     push_part(findings, Part::FileTable, bytes, info, written, footer)?;
     push_part(findings, Part::XorbTable, bytes, info, written, footer)?;
-    push_part(findings, Part::ChunkTable, bytes, info, written, footer)?;
+    push_chunk_table(alloc, findings, bytes, written, footer)?;
     push_part(findings, Part::Footer, bytes, info, written, footer)?;
     push_size(findings, bytes, written)
 }
@@ -269,6 +302,44 @@ fn push_part(
 {
     let same = is_same_part(part, bytes, info, written, footer);
     push_unless(findings, same, Finding::Differs(part))
+}
+
+// Adds that the chunk table differs, or that its rows stand in another order.
+fn push_chunk_table(
+    alloc: Global,
+    findings: &mut Vec<Finding>,
+    bytes: &[u8],
+    written: &[u8],
+    footer: &MDBShardFileFooter,
+) -> Result<()>
+    requires { IsWritten written.now footer.now }
+    ensures added { OnOk result
+        ((info : MDBShardInfo) → AddsTable bytes.now info written.now footer.now
+        findings.old.items findings.new.items) }
+    ensures causes { IfErr result (λ e. e ≡ CoreError.OutOfMemory) }
+{
+    let start = footer.chunk_lookup_offset;
+    let end = footer.footer_offset;
+    match table_finding(alloc, slice(written, start, end), slice(bytes, start, end))? {
+        Some(finding) => Ok(findings.push(finding)?),
+        None => Ok(()),
+    }
+}
+
+// What is to be said of a chunk table, beside the one that was written.
+fn table_finding(alloc: Global, written: &[u8], found: &[u8]) -> Result<Option<Finding>>
+    requires { IsWrittenTable written.now }
+    ensures { MatchResult result (FindsInTable written.now found.now)
+        (λ e. e ≡ CoreError.OutOfMemory) }
+{
+    if found == written {
+        return Ok(None);
+    }
+    if is_reordered(alloc, written, found)? {
+        Ok(Some(Finding::Reordered))
+    } else {
+        Ok(Some(Finding::Differs(Part::ChunkTable)))
+    }
 }
 
 // Adds the size, if it differs.

@@ -1,9 +1,10 @@
-//! Unions of many buffers, by a tree, and whether buffers agree.
+//! Unions of many buffers, by a tree, whether buffers agree, and what a check of one finds.
 
 use crate::probe::Probe;
 use crate::stop::Stop;
 use script_lines::show::show_line;
 use script_lines::words::parse_u64;
+use shard_bytes::check::check_bytes;
 use std::alloc::Global;
 use xet_core_structures::set_operations::{
     MergePlan, Merged, find_disagreement, find_disagreements, find_malformed, merge_agreeing,
@@ -19,6 +20,7 @@ impl Probe {
             ["disagreements", names @ ..] => self.show_disagreements(names, out),
             ["disagreement", names @ ..] => self.show_disagreement(names, out),
             ["malformed", names @ ..] => self.show_malformed(names, out),
+            ["check", name] => self.show_findings(name, out),
             _ => return Ok(false),
         }?;
         Ok(true)
@@ -54,6 +56,11 @@ impl Probe {
 
     fn show_malformed(&self, names: &[&str], out: &mut Vec<u8>) -> Result<(), Stop> {
         let found = find_malformed(self.alloc, self.buffers(names)?.as_slice())?;
+        Ok(show_line(&found, out)?)
+    }
+
+    fn show_findings(&self, name: &str, out: &mut Vec<u8>) -> Result<(), Stop> {
+        let found = check_bytes(self.alloc, self.buffer(name)?)?;
         Ok(show_line(&found, out)?)
     }
 

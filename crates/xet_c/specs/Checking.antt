@@ -1,13 +1,13 @@
 -- What is wrong with bytes, and how it is shown.
 use Rattle.std.specs.Prelude.{◌≡◌, ◌↔◌, ℕ, List, [], map, All, Contains}
 use Rattle.shard_bytes.specs.declared.check.Finding.{Finding}
-use Rattle.shard_bytes.specs.declared.check.Finding.TheVariants.{Unsupported, TooShort, Cut, Refused, OutOfOrder, Differs, Size}
+use Rattle.shard_bytes.specs.declared.check.Finding.TheVariants.{Unsupported, TooShort, Cut, Refused, OutOfOrder, Malformed, Differs, Reordered, Size}
 use Rattle.shard_bytes.specs.declared.check.Part.{Part}
 use Rattle.shard_bytes.specs.declared.check.Part.TheVariants.{Header, FileSection, XorbSection, FileTable, XorbTable, ChunkTable, Footer}
 use Rattle.shard_bytes.specs.declared.check.Section.{Section}
 use Rattle.shard_bytes.specs.declared.check.Section.TheVariants.{Files, Xorbs}
 use Rattle.shard_bytes.specs.declared.format.Format.TheVariants.{NoTag, OtherVersion, NoFooter}
-use Rattle.shard_bytes.specs.Checking.{IsWhole, IsFinding}
+use Rattle.shard_bytes.specs.Checking.{IsWhole, IsIntact, IsFinding, IsNote, HoldsOne}
 use Rattle.xet_c.specs.declared.check.XetFinding.{XetFinding}
 
 -- the number of a section, equal to that of the part which it is
@@ -37,12 +37,17 @@ c_finding (Refused section) = record { kind = 6; part = c_section section; numbe
 c_finding (OutOfOrder section index) = record { kind = 7; part = c_section section; number = index }
 c_finding (Differs part) = record { kind = 8; part = c_part part; number = 0 }
 c_finding (Size size) = record { kind = 9; part = 0; number = size }
+c_finding (Malformed section index) = record { kind = 10; part = c_section section; number = index }
+c_finding Reordered = record { kind = 11; part = 6; number = 0 }
 
--- these are the findings that are true of the bytes, each of them, and there is none exactly if the
--- bytes are whole
+-- these are the findings that are true of the bytes, each of them; there is none exactly if the
+-- bytes are whole, and nothing but notes exactly if they are intact, and then they hold a well-formed
+-- shard
 pub record ShowsFindings (bytes : List ℕ) (shown : List XetFinding) : Type 0 where
   pub findings : List Finding
   pub each : All (IsFinding bytes) findings
   pub all : (f : Finding) → IsFinding bytes f → Contains findings f
   pub whole : (findings ≡ []) ↔ IsWhole bytes
+  pub intact : All IsNote findings ↔ IsIntact bytes
+  pub shard : All IsNote findings → HoldsOne bytes
   pub shown_are : shown ≡ map c_finding findings

@@ -16,8 +16,9 @@ use xet_core_structures::error::{CoreError, Result};
 /// last 200 bytes are no footer; 4, there are too few bytes for both; 5, a section is truncated; 6,
 /// a section has a header that the version does not have, or too many rows; 7, the hash of the
 /// record at this index does not ascend; 8, a part is not the one that the records give; 9, the
-/// size is not this one, which the records give. Parts are 1 to 7 in the order of the bytes, the
-/// header first.
+/// size is not this one, which the records give; 10, the record at this index is one that no shard
+/// may have; 11, rows of the chunk table with one first word stand in another order, which is a
+/// note. Parts are 1 to 7 in the order of the bytes, the header first.
 #[repr(C)]
 #[derive(Clone, Copy, Drop)]
 pub struct XetFinding {
@@ -27,7 +28,8 @@ pub struct XetFinding {
 }
 
 /// All that is wrong with the bytes of a shard, to the front of `findings`; nothing if they are,
-/// byte for byte, what the library would write of the records in them.
+/// byte for byte, what the library would write of the records in them, which a shard may have. With
+/// nothing but a note they are so but for the order of rows of the chunk table.
 #[unsafe(no_mangle)]
 pub extern "C" fn xet_check(
     alloc: Global,
@@ -76,6 +78,10 @@ fn finding_of(finding: Finding) -> XetFinding
         }
         Finding::Differs(part) => numbered(8, number_of_part(part), 0),
         Finding::Size(size) => numbered(9, 0, size as u64),
+        Finding::Malformed(section, index) => {
+            numbered(10, number_of_section(section), index as u64)
+        }
+        Finding::Reordered => numbered(11, 6, 0),
     }
 }
 

@@ -2,7 +2,7 @@ use Rattle.std.proofs.Common.{◌≡◌, subst, true, Bool, List, sym, ap, refl,
 use Rattle.std.specs.Prelude.{Contains}
 use Rattle.std.specs.Bool.{Decides}
 use Rattle.shard_bytes.specs.declared.check.Finding.{Finding}
-use Rattle.shard_bytes.specs.declared.check.Finding.TheVariants.{Unsupported, TooShort, Cut, Refused, OutOfOrder, Differs, Size}
+use Rattle.shard_bytes.specs.declared.check.Finding.TheVariants.{Unsupported, TooShort, Cut, Refused, OutOfOrder, Malformed, Differs, Reordered, Size}
 use Rattle.shard_bytes.specs.declared.check.Part.TheVariants.{Footer}
 use Rattle.shard_bytes.specs.contracts.check.FindingPartialEq as equality
 use Rattle.shard_bytes.specs.Checking.{IsFinding}
@@ -18,8 +18,10 @@ decides TooShort = (λ e. search rules, λ e. search rules)
 decides (Cut s) = (λ e. search rules, λ e. search rules)
 decides (Refused s) = (λ e. search rules, λ e. search rules)
 decides (OutOfOrder s n) = (λ e. search rules, λ e. search rules)
+decides (Malformed s n) = (λ e. search rules, λ e. search rules)
 decides (Differs Footer) = (λ e. refl, λ e. refl)
 decides (Differs p) = (λ e. search rules, λ e. search rules)
+decides Reordered = (λ e. search rules, λ e. search rules)
 decides (Size n) = (λ e. search rules, λ e. search rules)
 
 found_there : (fs : List Finding) → list_any (λ y. (equality.TheImpl.ghosts).eq y (Differs Footer)) fs ≡ true → Contains fs (Differs Footer)

@@ -9,5 +9,5 @@ returns-clause-added c =
     let decides : IsTrue (nat_eq (length c.args.bytes.now) (length c.args.written.now)) ↔ (length c.args.bytes.now ≡ length c.args.written.now) = search rules in
     on_ok c.push_unless.result _ (AddsSize c.args.bytes.now c.args.written.now c.args.findings.now.items c.push_unless.new.findings.items)
     (adds_if (nat_eq (length c.args.bytes.now) (length c.args.written.now)) (length c.args.bytes.now ≡ length c.args.written.now) (Size (length c.args.written.now)) c.args.findings.now.items
-    c.push_unless.new.findings.items decides)
+    c.push_unless.new.findings.items (λ note. note) decides)
     c.push_unless.ensures.added

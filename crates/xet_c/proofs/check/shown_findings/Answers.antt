@@ -12,6 +12,8 @@ returns-clause-ok c =
       each = checked.each;
       all = checked.all;
       whole = checked.whole;
+      intact = checked.intact;
+      shard = checked.shard;
       shown_are = is ∙ ap (map c_finding) c.as_slice.ensures.value;
     })
     c.shown.ensures.ok
