@@ -211,9 +211,14 @@ def lists_name_shards(place):
     os.mkdir(place.path("none"))
     for name in ("b.mdb", "a.mdb", ".hidden.mdb", "a.mdb.new", "other"):
         place.write(f"folder/{name}", place.made["one_file.mdb"])
+    # What is no regular file is passed over, and a link to one is not.
+    os.mkdir(place.path("folder/sub.mdb"))
+    os.mkfifo(place.path("folder/pipe.mdb"))
+    os.symlink("other", place.path("folder/link.mdb"))
     listed = b"both.mdb\n\nfolder/\nfolder/other\nno\xff\nnone\n"
     place.write("list", listed)
-    said = [f"{it}: version" for it in ("both.mdb", "folder/a.mdb", "folder/b.mdb", "folder/other")] + ["total: 4"]
+    said = [f"{it}: version" for it in ("both.mdb", "folder/a.mdb", "folder/b.mdb", "folder/link.mdb")]
+    said += ["folder/other: version", "total: 5"]
     wrong = b"no\\xff: the name is not UTF-8, so it can't be opened\n"
     for words, given in (("list", b""), ("-", listed)):
         run = place.run("info", "--brief", "--files-from", words, input=given)
@@ -227,6 +232,42 @@ def lists_name_shards(place):
     wants("a merge of nothing", (run.returncode, run.stderr) == (1, said) and "out.mdb" not in place.names())
     run = place.run("find", "none", "--hash", "0" * 64)
     wants("none", (run.returncode, run.stdout.decode()) == (1, f"none {'0' * 64}\n"))
+
+
+def names_in_folders_are_reported(place):
+    os.mkdir(place.path("folder"))
+    for name in (b"z\xfe.mdb", b"\xff.mdb", b"\xff.txt"):
+        with open(os.path.join(os.fsencode(place.path("folder")), name), "wb") as file:
+            file.write(place.made["one_file.mdb"])
+    os.symlink("nothing", place.path("folder/link.mdb"))
+    place.write("folder/b.mdb", place.made["one_file.mdb"])
+    why = "the name is not UTF-8, so it can't be opened\n"
+    wrong = f"folder/\\xff.mdb: {why}folder/z\\xfe.mdb: {why}"
+    run = place.run("info", "--brief", "folder")
+    nothing = "folder/link.mdb: No such file or directory (os error 2)\n"
+    wants("what is said", (run.returncode, run.stderr.decode()) == (1, wrong + nothing))
+    wants("the others", [it.split(":")[0] for it in run.stdout.decode().splitlines()] == ["folder/b.mdb", "total"])
+    run = place.run("merge", "folder", "-o", "out.mdb")
+    wants("a merge", (run.returncode, run.stderr.decode()) == (1, wrong) and "out.mdb" not in place.names())
+
+
+def what_is_no_shard_is_not_read_whole(place):
+    wrong = "no shard: its first 32 bytes are no tag\n"
+    with open(place.path("sparse.mdb"), "wb") as file:
+        file.truncate(1 << 40)
+    for words in (("check",), ("eligible",)):
+        run = place.run(*words, "sparse.mdb")
+        said = run.stdout.decode() + run.stderr.decode()
+        wants(words[0], (run.returncode, said) == (3 if words == ("check",) else 1, f"sparse.mdb: {wrong}"))
+    run = place.run("merge", "--verbose", "sparse.mdb", "-o", "out.mdb")
+    wants("a merge", (run.returncode, run.stderr.decode()) == (1, f"sparse.mdb: {wrong}"))
+    run = place.run("info", "/dev/zero")
+    wants("a device", (run.returncode, run.stderr.decode()) == (1, f"/dev/zero: {wrong}"))
+    endless = subprocess.Popen(["yes"], stdout=subprocess.PIPE)
+    run = place.run("info", "-", stdin=endless.stdout)
+    endless.stdout.close()
+    endless.wait()
+    wants("a pipe", (run.returncode, run.stderr.decode()) == (1, f"-: {wrong}"))
 
 
 def large_file_is_not_read_whole(place):
@@ -316,7 +357,8 @@ ROWS = (
     new_file_has_the_mode_of_others, mode_stays, owner_stays, device_is_written_to, full_device_fails,
     pipe_is_written_to, link_is_followed, link_to_nothing_is_refused, folder_is_refused, taken_names_block_nothing,
     full_disk_leaves_the_target, killed_run_leaves_the_target, word_that_is_no_text, standard_input_is_a_shard,
-    lists_name_shards, large_file_is_not_read_whole, controls_are_not_printed,
+    lists_name_shards, names_in_folders_are_reported, what_is_no_shard_is_not_read_whole,
+    large_file_is_not_read_whole, controls_are_not_printed,
     closed_pipe_ends_quietly, terminal_gets_no_shard, terminal_shows_progress, now_is_the_clock,
 )
 

@@ -7,6 +7,7 @@ use std::io::{ErrorKind, Read, Seek, SeekFrom, Write};
 use std::random::RandomSource;
 use std::rt::Files;
 use std::{fs, io};
+use xet_core_structures::shard_format::MDBShardFileHeader;
 
 /// The path that stands for standard input where a file is read, and for standard output where one
 /// is written.
@@ -18,7 +19,7 @@ const HEADER_SIZE: usize = 48;
 /// The size of a header and a footer, in bytes.
 const ENDS_SIZE: usize = 248;
 
-/// The bytes of a file, or what is left of standard input if the path is `-`.
+/// The bytes of a file that is no shard, or what is left of standard input if the path is `-`.
 pub fn read<R: Files + Input + AllocGlobal>(rt: &R, path: &str) -> io::Result<Vec<u8>> {
     if path != STANDARD_STREAM {
         return fs::read(rt, path);
@@ -26,6 +27,53 @@ pub fn read<R: Files + Input + AllocGlobal>(rt: &R, path: &str) -> io::Result<Ve
     let mut bytes = Vec::new(rt.alloc());
     rt.reader().read_to_end(&mut bytes)?;
     Ok(bytes)
+}
+
+/// What was read of a shard.
+#[derive(Drop)]
+pub struct Contents {
+    pub bytes: Vec<u8>,
+    /// Whether these are all bytes.
+    pub whole: bool,
+}
+
+/// The bytes of the shard in a file, or in what is left of standard input if the path is `-`. If
+/// they do not begin with a header, only as many are read as header and footer have: no more are
+/// needed to say why they are no shard.
+pub fn read_shard<R: Files + Input + AllocGlobal>(rt: &R, path: &str) -> io::Result<Contents> {
+    if path == STANDARD_STREAM {
+        return contents_of(rt.alloc(), &mut rt.reader(), 0);
+    }
+    let mut file = fs::open(rt, path)?;
+    let there = file.metadata()?;
+    let size = if there.is_file() { there.len() } else { 0 };
+    contents_of(rt.alloc(), &mut file, size)
+}
+
+// What is read of a shard from its start on; of a file its size, else 0.
+fn contents_of<F: Read>(alloc: Global, file: &mut F, size: u64) -> io::Result<Contents> {
+    let mut ends = Vec::new(alloc);
+    file.by_ref()
+        .take(ENDS_SIZE as u64)
+        .read_to_end(&mut ends)?;
+    if ends.len() < ENDS_SIZE {
+        return Ok(Contents { bytes: ends, whole: true });
+    }
+    if !is_worth_reading(alloc, ends.as_slice()) {
+        return Ok(Contents { bytes: ends, whole: false });
+    }
+    let room = usize::try_from(size).unwrap_or(usize::MAX).max(ENDS_SIZE);
+    let mut bytes = Vec::with_capacity(alloc, room)?;
+    bytes.extend_from_slice(ends.as_slice())?;
+    file.read_to_end(&mut bytes)?;
+    Ok(Contents { bytes, whole: true })
+}
+
+// Whether a file is read to its end that has these bytes, its first, or its first and its last: it
+// has no more, or begins with a header.
+fn is_worth_reading(alloc: Global, ends: &[u8]) -> bool {
+    let mut header = ends;
+    ends.len() < ENDS_SIZE || MDBShardFileHeader::deserialize(alloc, &mut header).is_ok()
 }
 
 /// A file that can be sought, and its size; `None` if what is at the path is no regular file, or

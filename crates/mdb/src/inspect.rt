@@ -1,7 +1,7 @@
 //! The commands that print.
 
 use crate::failure::{Failure, Subject};
-use crate::files::{open_sized, read, read_ends};
+use crate::files::{Contents, open_sized, read_ends, read_shard};
 use crate::inputs::Inputs;
 use crate::run::{Status, failed};
 use mdb_report::fault::{Fault, fault_of, section_fault};
@@ -105,7 +105,10 @@ fn inspect_file<'a, R: Files + Input + AllocGlobal, W: Write>(
         Ok(Some(answer)) => Ok(answer),
         Ok(None) => inspect_whole(rt, file, inquiry, layout, tally, output),
         Err(Trouble::Ends(error)) => Err(explained(alloc, file, read_ends(rt, file), error)),
-        Err(Trouble::Shard(error)) => Err(explained(alloc, file, read(rt, file), error)),
+        Err(Trouble::Shard(error)) => {
+            let bytes = read_shard(rt, file).map(|contents| contents.bytes);
+            Err(explained(alloc, file, bytes, error))
+        }
         Err(trouble) => Err(failure_of(alloc, file, &[], trouble)),
     }
 }
@@ -119,8 +122,8 @@ fn inspect_whole<'a, R: Files + Input + AllocGlobal, W: Write>(
     output: &mut W,
 ) -> Result<Answer, Failure<'a>> {
     let alloc = rt.alloc();
-    let bytes = match read(rt, file) {
-        Ok(bytes) => bytes,
+    let bytes = match read_shard(rt, file) {
+        Ok(Contents { bytes, .. }) => bytes,
         Err(error) => return Err(Failure::on_file(file, Fault::from(error))),
     };
     match print_answer(

@@ -4,7 +4,7 @@ use crate::arguments::{Making, Target};
 use crate::beside::leftovers;
 use crate::blame::blamed;
 use crate::failure::Failure;
-use crate::files::{STANDARD_STREAM, read, write};
+use crate::files::{Contents, STANDARD_STREAM, read_shard, write};
 use mdb_report::fault::{Fault, export_fault, fault_of, minimal_fault, version_2_fault};
 use shard_bytes::combine::{Operation, combine_bytes};
 use shard_bytes::export::{Export, export_bytes};
@@ -97,15 +97,23 @@ fn made<'a, R: Files + Input + Eprint + AllocGlobal>(
     }
 }
 
-/// The bytes of a file, or of standard input if it is `-`.
-pub fn bytes_of<'a, R: Files + Input + AllocGlobal>(
+/// What is read of the shard in a file, or in standard input if it is `-`.
+pub fn contents_of<'a, R: Files + Input + AllocGlobal>(
+    rt: &R,
+    file: &'a str,
+) -> Result<Contents, Failure<'a>> {
+    match read_shard(rt, file) {
+        Ok(contents) => Ok(contents),
+        Err(error) => Err(Failure::on_file(file, Fault::from(error))),
+    }
+}
+
+// The bytes of it.
+fn bytes_of<'a, R: Files + Input + AllocGlobal>(
     rt: &R,
     file: &'a str,
 ) -> Result<Vec<u8>, Failure<'a>> {
-    match read(rt, file) {
-        Ok(bytes) => Ok(bytes),
-        Err(error) => Err(Failure::on_file(file, Fault::from(error))),
-    }
+    Ok(contents_of(rt, file)?.bytes)
 }
 
 fn exported<'a, R: Files + Input + AllocGlobal>(

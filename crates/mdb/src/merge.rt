@@ -3,8 +3,8 @@
 use crate::arguments::{Merge, Strictness};
 use crate::blame::{blamed, disagreement, malformed, on_all};
 use crate::failure::Failure;
-use crate::files::STANDARD_STREAM;
-use crate::make::{bytes_of, in_version, put};
+use crate::files::{Contents, STANDARD_STREAM};
+use crate::make::{contents_of, in_version, put};
 use crate::progress::{Progress, Stage};
 use crate::terminals::Terminals;
 use mdb_report::fault::{Fault, fault_of};
@@ -32,7 +32,7 @@ pub fn merge_files<
         return Err(Failure::on_words(Fault::NoFiles));
     }
     let mut progress = Progress::new(rt, terminals.error && !merge.verbose);
-    let contents = contents_of(rt, files, merge.verbose, &mut progress);
+    let contents = contents_of_all(rt, files, merge.verbose, &mut progress);
     let made = match contents {
         Ok(contents) => {
             progress.show(rt, Stage::Merging(files.len()));
@@ -67,7 +67,7 @@ fn merge_contents<'a, R: Files + Print + Eprint + RandomSource + AllocGlobal + C
 }
 
 // The bytes of each file. All are read once, since standard input and pipes cannot be read again.
-fn contents_of<'a, R: Files + Input + Clock + Eprint + AllocGlobal>(
+fn contents_of_all<'a, R: Files + Input + Clock + Eprint + AllocGlobal>(
     rt: &R,
     files: &[&'a str],
     verbose: bool,
@@ -80,8 +80,8 @@ fn contents_of<'a, R: Files + Input + Clock + Eprint + AllocGlobal>(
             all: files.len(),
         };
         progress.show_after_pause(rt, stage);
-        let bytes = bytes_of(rt, file)?;
-        if verbose {
+        let Contents { bytes, whole } = contents_of(rt, file)?;
+        if verbose && whole {
             report_size(rt, file, bytes.len());
         }
         if contents.push(bytes).is_err() {
