@@ -10,9 +10,7 @@ use crate::brief::Brief;
 use crate::hex::{HashReport, Hex, NameReport};
 use crate::line::{Layout, Style, print};
 use crate::lookup::{FoundReport, RunReport};
-use crate::problem::{
-    Problem, ProblemReport, file_name, problems_of, problems_of_bytes, problems_under_key,
-};
+use crate::problem::{Problem, ProblemReport, problems_asked};
 use crate::records::{ChunkReport, XorbReport, file_reports};
 use crate::summary::Summary;
 use crate::tables::{Table, lacks_chunk_table, lacks_file_table};
@@ -312,11 +310,7 @@ fn check<W: Write>(
     ensures { IfOk result (λ answer. (answer ≢ Answer.FoundNothing)
         × (answer ≡ Answer.Printed → IsIntact bytes.now)) }
 {
-    let problems = match (named, key) {
-        (true, Some(key)) => problems_under_key(alloc, file_name(file), key, bytes)?,
-        (true, None) => problems_of(alloc, file_name(file), bytes)?,
-        (false, _) => problems_of_bytes(alloc, bytes)?,
-    };
+    let problems = problems_asked(alloc, file, named, key, bytes)?;
     let info = load_bytes(alloc, bytes).ok();
     for problem in &problems {
         let report = ProblemReport::of_problem(file, info.as_ref(), *problem);

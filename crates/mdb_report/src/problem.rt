@@ -194,6 +194,31 @@ pub fn problems_under_key(
     Ok(problems)
 }
 
+/// The problems that a check of a file at a path is to find: those of its bytes, and of its name if
+/// that is to be the name of a shard, under a key if one is given.
+///
+/// The only error is `OutOfMemory`.
+pub fn problems_asked(
+    alloc: Global,
+    path: &str,
+    named: bool,
+    key: Option<HMACKey>,
+    bytes: &[u8],
+) -> Result<Vec<Problem>>
+    ensures whole { IfOk result (λ problems. problems.items ≡ [] → IsWhole bytes.now) }
+    ensures intact { IfOk result
+        (λ problems. All IsNoted problems.items → IsIntact bytes.now) }
+    ensures causes { IfErr result (λ e. e ≡ CoreError.OutOfMemory) }
+{
+    if !named {
+        return problems_of_bytes(alloc, bytes);
+    }
+    match key {
+        Some(key) => problems_under_key(alloc, file_name(path), key, bytes),
+        None => problems_of(alloc, file_name(path), bytes),
+    }
+}
+
 // The hash that bytes have under a key, if a name is that of a shard with another one.
 fn other_hash(name: &str, key: HMACKey, bytes: &[u8]) -> Option<MerkleHash>
     ensures { MatchOption result (IsShardName name.now → NamesShard name.now (keyed_hash key bytes.now))
