@@ -7,6 +7,7 @@ use clap::{ArgMatches, Error};
 use mdb_report::inquiry::Inquiry;
 use mdb_report::line::Style;
 use mdb_report::moment::seconds_of;
+use mdb_report::size::bytes_of;
 use shard_bytes::combine::Operation;
 use shard_bytes::export::{Export, ExportParts};
 use shard_bytes::minimal::{KeptXorbs, Subset};
@@ -63,6 +64,8 @@ pub struct Merge<'a> {
     pub by_key: bool,
     /// The expiry of what is written, in seconds; none if it is left out.
     pub expiry: Option<u64>,
+    /// About how many bytes of memory it may take, if the shards are not all to be in memory.
+    pub memory: Option<u64>,
 }
 
 /// What is done where shards that are to be merged do not agree.
@@ -84,6 +87,8 @@ enum Refusal<'a> {
     NoHash(&'a str),
     /// The word is no time.
     NoTime(&'a str),
+    /// The word is no size.
+    NoSize(&'a str),
 }
 
 impl From<AllocError> for Refusal<'_> {
@@ -140,6 +145,9 @@ fn message_of(alloc: Global, refusal: &Refusal<'_>) -> Result<String, AllocError
             format!(in alloc;
                 "'{word}' is no time: it is seconds since 1970, or as 2024-01-31T12:00:00Z"
             )
+        }
+        Refusal::NoSize(word) => {
+            format!(in alloc; "'{word}' is no size: it is a number of bytes, or as 64K, 256M, 2G")
         }
     }
 }
@@ -290,7 +298,18 @@ fn merge_in<'a>(matches: &ArgMatches<'a>) -> Result<Merge<'a>, Refusal<'a>> {
         verbose: matches.get_flag(id::VERBOSE),
         by_key: matches.contains_id(id::FOLDER),
         expiry: time_in(matches, id::EXPIRY)?,
+        memory: size_in(matches, id::MEMORY)?,
     })
+}
+
+fn size_in<'a>(matches: &ArgMatches<'a>, id: &'static str) -> Result<Option<u64>, Refusal<'a>> {
+    match matches.get_str(id) {
+        Some(text) => match bytes_of(text) {
+            Some(bytes) => Ok(Some(bytes)),
+            None => Err(Refusal::NoSize(text)),
+        },
+        None => Ok(None),
+    }
 }
 
 fn target_in<'a>(matches: &ArgMatches<'a>) -> Result<Target<'a>, Refusal<'a>> {

@@ -17,10 +17,15 @@ const DIGITS: usize = 16;
 /// How many names are tried for a new file.
 const TRIES: u32 = 100;
 
+/// A new file beside a target.
+#[derive(Drop)]
+pub struct NewFile<F: Drop> {
+    pub file: F,
+    pub path: String,
+}
+
 /// Writes bytes to a new file beside a target and returns its path. It has the mode of the file
 /// that it is to replace, and its owner and group where the system lets them be given.
-///
-/// Its name is the target's with random digits, so that no other run or user has taken it.
 pub fn write_beside<R: Files + RandomSource>(
     rt: &R,
     alloc: Global,
@@ -28,20 +33,73 @@ pub fn write_beside<R: Files + RandomSource>(
     replaced: Option<&Metadata>,
     bytes: &[u8],
 ) -> io::Result<String> {
+    let NewFile { mut file, path } = create_beside(rt, alloc, target, replaced)?;
+    match fill(&mut file, bytes) {
+        Ok(()) => Ok(path),
+        Err(error) => {
+            let _ = fs::remove_file(rt, path.as_str());
+            Err(error)
+        }
+    }
+}
+
+// Writes bytes, and waits until the device has them.
+fn fill<F: Write + OpenFile>(file: &mut F, bytes: &[u8]) -> io::Result<()> {
+    file.write_all(bytes)?;
+    file.sync_all()
+}
+
+/// A new file beside a target, with the mode, owner and group of the file that it is to replace.
+///
+/// Its name is the target's with random digits, so that no other run or user has taken it.
+pub fn create_beside<R: Files + RandomSource>(
+    rt: &R,
+    alloc: Global,
+    target: &str,
+    replaced: Option<&Metadata>,
+) -> io::Result<NewFile<R::File>> {
+    let NewFile { mut file, path } = create(rt, alloc, target, replaced.is_some())?;
+    let given = match replaced {
+        Some(replaced) => take_place(rt, &mut file, path.as_str(), replaced),
+        None => Ok(()),
+    };
+    match given {
+        Ok(()) => Ok(NewFile { file, path }),
+        Err(error) => {
+            let _ = fs::remove_file(rt, path.as_str());
+            Err(error)
+        }
+    }
+}
+
+/// A new file beside a target that nobody else may read, for what is needed while it is written.
+pub fn create_private<R: Files + RandomSource>(
+    rt: &R,
+    alloc: Global,
+    target: &str,
+) -> io::Result<NewFile<R::File>> {
+    create(rt, alloc, target, true)
+}
+
+// Nobody else may read what replaces a file before it has that file's mode.
+fn create<R: Files + RandomSource>(
+    rt: &R,
+    alloc: Global,
+    target: &str,
+    private: bool,
+) -> io::Result<NewFile<R::File>> {
     for _ in 0..TRIES {
         let path = new_name(rt, alloc, target)?;
-        let mut file = match create(rt, path.as_str(), replaced) {
-            Ok(file) => file,
+        let mut options = OpenOptions::new();
+        options.read(true).write(true).create_new(true);
+        if private {
+            options.mode(0o600);
+        }
+        match options.open(rt, path.as_str()) {
+            Ok(file) => return Ok(NewFile { file, path }),
             Err(error) if error.kind() == ErrorKind::AlreadyExists => continue,
             Err(error) => return Err(error),
-        };
-        return match fill(rt, &mut file, path.as_str(), replaced, bytes) {
-            Ok(()) => Ok(path),
-            Err(error) => {
-                let _ = fs::remove_file(rt, path.as_str());
-                Err(error)
-            }
-        };
+        }
     }
     Err(io::Error::from(ErrorKind::AlreadyExists))
 }
@@ -53,34 +111,19 @@ fn new_name<R: RandomSource>(rt: &R, alloc: Global, target: &str) -> io::Result<
     Ok(format!(in alloc; "{target}.{number:016x}{ENDING}")?)
 }
 
-// Nobody else may read what replaces a file before it has that file's mode.
-fn create<R: Files>(rt: &R, path: &str, replaced: Option<&Metadata>) -> io::Result<R::File> {
-    let mut options = OpenOptions::new();
-    options.write(true).create_new(true);
-    if replaced.is_some() {
-        options.mode(0o600);
-    }
-    options.open(rt, path)
-}
-
-// Writes bytes, and waits until the device has them.
-fn fill<R: Files, F: Write + OpenFile>(
+// Gives a new file the owner, where the system lets it be given, and the mode of another.
+fn take_place<R: Files, F: OpenFile>(
     rt: &R,
     file: &mut F,
     path: &str,
-    replaced: Option<&Metadata>,
-    bytes: &[u8],
+    replaced: &Metadata,
 ) -> io::Result<()> {
-    if let Some(replaced) = replaced {
-        let new = file.metadata()?;
-        if new.uid() != replaced.uid() || new.gid() != replaced.gid() {
-            // The owner may be another user's to keep.
-            let _ = chown(rt, path, Some(replaced.uid()), Some(replaced.gid()));
-        }
-        file.set_permissions(replaced.permissions())?;
+    let new = file.metadata()?;
+    if new.uid() != replaced.uid() || new.gid() != replaced.gid() {
+        // The owner may be another user's to keep.
+        let _ = chown(rt, path, Some(replaced.uid()), Some(replaced.gid()));
     }
-    file.write_all(bytes)?;
-    file.sync_all()
+    file.set_permissions(replaced.permissions())
 }
 
 /// The names in a target's folder that new files for it have: each is of a run that was ended

@@ -1,14 +1,18 @@
 //! Which file is why shards cannot be combined.
 
 use crate::failure::{Failure, Subject};
+use crate::files::read_shard;
 use mdb_report::fault::{Fault, first_obstacle, has_wrong_footer};
 use shard_bytes::check::{Finding, Part};
 use shard_bytes::combine::{Operation, combine_bytes};
 use shard_bytes::load::load_bytes;
 use std::alloc::Global;
+use std::rt::Files;
 use xet_core_structures::error::CoreError;
 use xet_core_structures::merklehash::MerkleHash;
-use xet_core_structures::set_operations::{Disagreement, find_disagreements, find_malformed};
+use xet_core_structures::set_operations::{
+    Disagreement, MalformedRecord, find_disagreements, find_malformed,
+};
 
 /// Why a union or a difference failed: the first input that cannot be read, else what is wrong with
 /// the inputs together.
@@ -46,15 +50,18 @@ fn with_other_key<'a>(alloc: Global, files: &[&'a str], inputs: &[&[u8]]) -> Fai
         match first {
             None => first = Some((*file, key)),
             Some((_, its)) if its == key => {}
-            Some((other, _)) => {
-                return Failure {
-                    subject: Subject::Pair(other, file),
-                    fault: Fault::KeysDiffer,
-                };
-            }
+            Some((other, _)) => return under_other_key(other, file),
         }
     }
     on_all(files, Fault::KeysDiffer)
+}
+
+/// The failure of two files whose shards are under different keys.
+pub fn under_other_key<'a>(first: &'a str, second: &'a str) -> Failure<'a> {
+    Failure {
+        subject: Subject::Pair(first, second),
+        fault: Fault::KeysDiffer,
+    }
 }
 
 // The failure of inputs that can all be read from their start: the first whose footer is wrong, so
@@ -72,9 +79,9 @@ fn misplaced<'a>(alloc: Global, files: &[&'a str], inputs: &[&[u8]]) -> Failure<
     without_union(alloc, files, inputs)
 }
 
-// The failure of inputs that have no union together: that of the first two with different records
-// under one hash that have none, else of all.
-fn without_union<'a>(alloc: Global, files: &[&'a str], inputs: &[&[u8]]) -> Failure<'a> {
+/// The failure of inputs that have no union together: that of the first two with different records
+/// under one hash that have none, else of all.
+pub fn without_union<'a>(alloc: Global, files: &[&'a str], inputs: &[&[u8]]) -> Failure<'a> {
     let Ok(found) = find_disagreements(alloc, inputs) else {
         return on_all(files, Fault::NoUnion);
     };
@@ -121,10 +128,15 @@ pub fn disagreement<'a>(
     let Some(first) = found.as_slice().first() else {
         return Ok(None);
     };
-    Ok(Some(Failure {
+    Ok(Some(disagreeing(files, first, found.len())))
+}
+
+/// What differs in the records of files: that under the first of so many hashes.
+pub fn disagreeing<'a>(files: &[&'a str], first: &Disagreement, count: usize) -> Failure<'a> {
+    Failure {
         subject: subject_of(files, first),
-        fault: Fault::Disagree(found.len(), first.record_hash),
-    }))
+        fault: Fault::Disagree(count, first.record_hash),
+    }
 }
 
 /// The first of the files that has a record which no shard may have, and the record, or `None`.
@@ -137,17 +149,68 @@ pub fn malformed<'a>(
         Ok(found) => found,
         Err(error) => return Err(blamed(alloc, files, inputs, error)),
     };
-    let Some(record) = found else {
-        return Ok(None);
-    };
+    match &found {
+        Some(record) => Ok(Some(holding_malformed(files, record))),
+        None => Ok(None),
+    }
+}
+
+/// The file that has a record which no shard may have, and the record.
+pub fn holding_malformed<'a>(files: &[&'a str], record: &MalformedRecord) -> Failure<'a> {
     let subject = match files.get(record.input) {
         Some(file) => Subject::File(file),
         None => Subject::StandardOutput,
     };
-    Ok(Some(Failure {
+    Failure {
         subject,
         fault: Fault::Malformed(record.record_hash),
-    }))
+    }
+}
+
+/// The first of the files, of which one is in memory at a time, that keeps shards from being merged:
+/// it can't be read, or else its footer is wrong. `None` if there is none.
+pub fn obstacle_in_files<'a, R: Files + Input + AllocGlobal>(
+    rt: &R,
+    files: &[&'a str],
+) -> Option<Failure<'a>> {
+    if let Some(failure) = unreadable_file(rt, files) {
+        return Some(failure);
+    }
+    for file in files {
+        let wrong = match read_shard(rt, file) {
+            Ok(contents) => has_wrong_footer(rt.alloc(), contents.bytes.as_slice()),
+            Err(error) => Err(Fault::from(error)),
+        };
+        match wrong {
+            Ok(true) => {
+                let finding = Finding::Differs(Part::Footer);
+                return Some(Failure::on_file(file, Fault::Bytes(finding)));
+            }
+            Ok(false) => {}
+            Err(fault) => return Some(Failure::on_file(file, fault)),
+        }
+    }
+    None
+}
+
+/// The first of the files, of which one is in memory at a time, that can't be read. `None` if there
+/// is none.
+pub fn unreadable_file<'a, R: Files + Input + AllocGlobal>(
+    rt: &R,
+    files: &[&'a str],
+) -> Option<Failure<'a>> {
+    for file in files {
+        let obstacle = match read_shard(rt, file) {
+            Ok(contents) => first_obstacle(rt.alloc(), contents.bytes.as_slice()),
+            Err(error) => Err(Fault::from(error)),
+        };
+        match obstacle {
+            Ok(Some(finding)) => return Some(Failure::on_file(file, Fault::Bytes(finding))),
+            Ok(None) => {}
+            Err(fault) => return Some(Failure::on_file(file, fault)),
+        }
+    }
+    None
 }
 
 fn subject_of<'a>(files: &[&'a str], disagreement: &Disagreement) -> Subject<'a> {

@@ -46,6 +46,8 @@ pub mod id {
 
     pub const STRICT: &str = "strict";
 
+    pub const MEMORY: &str = "SIZE";
+
     pub const VERIFICATION: &str = "verification";
 
     pub const NO_FILES: &str = "no-files";
@@ -318,6 +320,12 @@ const COMMANDS: &[Row] = &[
                 "Fails with status 3 if two shards have different records with one hash"
             ),
             flag!(VERBOSE, "Reports each file as it is read"),
+            option!(
+                MEMORY,
+                "memory",
+                Value,
+                "About how much memory to take, as 256M; the shards are then read and merged in parts"
+            ),
             option!(
                 EXPIRY,
                 "expiry",

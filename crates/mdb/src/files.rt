@@ -69,9 +69,9 @@ fn contents_of<F: Read>(alloc: Global, file: &mut F, size: u64) -> io::Result<Co
     Ok(Contents { bytes, whole: true })
 }
 
-// Whether a file is read to its end that has these bytes, its first, or its first and its last: it
-// has no more, or begins with a header.
-fn is_worth_reading(alloc: Global, ends: &[u8]) -> bool {
+/// Whether a file is read to its end that has these bytes, its first, or its first and its last: it
+/// has no more, or begins with a header.
+pub fn is_worth_reading(alloc: Global, ends: &[u8]) -> bool {
     let mut header = ends;
     ends.len() < ENDS_SIZE || MDBShardFileHeader::deserialize(alloc, &mut header).is_ok()
 }
@@ -119,14 +119,45 @@ pub fn write<R: Files + Print + RandomSource + AllocGlobal>(
         output.write_all(bytes)?;
         return output.flush();
     }
+    match place_at(rt, alloc, path)? {
+        Place::File { target, replaced } => {
+            let target = target.as_str();
+            let beside = write_beside(rt, alloc, target, replaced.as_ref(), bytes)?;
+            rename_over(rt, beside.as_str(), target)
+        }
+        Place::Other => write_into(rt, path, bytes),
+    }
+}
+
+/// What is written to at a path.
+#[derive(Drop)]
+pub enum Place {
+    /// A new file, which is renamed over this target: the path, or the regular file to which it
+    /// leads and which is replaced.
+    File {
+        target: String,
+        replaced: Option<Metadata>,
+    },
+    /// What is there, and is no regular file.
+    Other,
+}
+
+/// What is written to at a path. A link that leads nowhere is refused.
+pub fn place_at<R: Files + AllocGlobal>(rt: &R, alloc: Global, path: &str) -> io::Result<Place> {
     match fs::metadata(rt, path) {
         Ok(there) if there.is_file() => {
             let file = fs::canonicalize(rt, path)?;
-            replace(rt, alloc, file.as_str(), Some(&there), bytes)
+            Ok(Place::File {
+                target: String::from_str(alloc, file.as_str())?,
+                replaced: Some(there),
+            })
         }
-        Ok(_) => write_into(rt, path, bytes),
+        Ok(_) => Ok(Place::Other),
         Err(error) if error.kind() == ErrorKind::NotFound && !is_link(rt, path) => {
-            replace(rt, alloc, path, None, bytes)
+            Ok(Place::File {
+                target: String::from_str(alloc, path)?,
+                replaced: None,
+            })
         }
         Err(error) => Err(error),
     }
@@ -147,19 +178,12 @@ fn write_into<R: Files>(rt: &R, path: &str, bytes: &[u8]) -> io::Result<()> {
     there.write_all(bytes)
 }
 
-// Renames a new file with these bytes over a path, at which there is nothing or a regular file.
-fn replace<R: Files + RandomSource>(
-    rt: &R,
-    alloc: Global,
-    path: &str,
-    replaced: Option<&Metadata>,
-    bytes: &[u8],
-) -> io::Result<()> {
-    let beside = write_beside(rt, alloc, path, replaced, bytes)?;
-    match fs::rename(rt, beside.as_str(), path) {
+/// Renames a new file over a target, or removes it if that fails.
+pub fn rename_over<R: Files>(rt: &R, beside: &str, target: &str) -> io::Result<()> {
+    match fs::rename(rt, beside, target) {
         Ok(()) => Ok(()),
         Err(error) => {
-            let _ = fs::remove_file(rt, beside.as_str());
+            let _ = fs::remove_file(rt, beside);
             Err(error)
         }
     }

@@ -15,6 +15,7 @@ mod inspect;
 mod make;
 mod merge;
 mod progress;
+mod rounds;
 mod run;
 mod terminals;
 mod words;

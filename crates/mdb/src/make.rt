@@ -67,9 +67,9 @@ pub fn put<'a, R: Files + Print + Eprint + RandomSource + AllocGlobal + Clone + 
     }
 }
 
-// Names the new files that runs that were ended have left beside a target, or beside the file that
-// it leads to.
-fn report_leftovers<R: Files + Eprint + AllocGlobal + Clone + Drop>(rt: &R, target: &str) {
+/// Names the new files that runs that were ended have left beside a target, or beside the file that
+/// it leads to.
+pub fn report_leftovers<R: Files + Eprint + AllocGlobal + Clone + Drop>(rt: &R, target: &str) {
     let found = match fs::canonicalize(rt, target) {
         Ok(file) => leftovers(rt, file.as_str()),
         Err(_) => leftovers(rt, target),

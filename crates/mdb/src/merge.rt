@@ -6,6 +6,7 @@ use crate::failure::Failure;
 use crate::files::{Contents, STANDARD_STREAM};
 use crate::make::{contents_of, in_version, put};
 use crate::progress::{Progress, Stage};
+use crate::rounds::merge_in_rounds;
 use crate::terminals::Terminals;
 use mdb_report::fault::{Fault, fault_of};
 use mdb_report::shown::Shown;
@@ -19,8 +20,8 @@ use xet_core_structures::error::CoreError;
 use xet_core_structures::merklehash::MerkleHash;
 
 /// Writes the merge of the shards in some files to a target. With `by_key` it writes a merge of
-/// those under each key to the folder at the target's path, by the digits of the key. If standard
-/// error is a terminal, it says there how far it has come.
+/// those under each key to the folder at the target's path, by the digits of the key; with `memory`
+/// it takes about so much. If standard error is a terminal, it says there how far it has come.
 pub fn merge_files<
     'a,
     R: Files + Input + Clock + Print + Eprint + RandomSource + AllocGlobal + Clone + Drop,
@@ -32,6 +33,11 @@ pub fn merge_files<
         return Err(Failure::on_words(Fault::NoFiles));
     }
     let mut progress = Progress::new(rt, terminals.error && !merge.verbose);
+    if let Some(memory) = merge.memory {
+        let made = merge_in_rounds(rt, files, merge, memory, &mut progress);
+        progress.clear(rt);
+        return made;
+    }
     let contents = contents_of_all(rt, files, merge.verbose, &mut progress);
     let made = match contents {
         Ok(contents) => {
@@ -82,7 +88,7 @@ fn contents_of_all<'a, R: Files + Input + Clock + Eprint + AllocGlobal>(
         progress.show_after_pause(rt, stage);
         let Contents { bytes, whole } = contents_of(rt, file)?;
         if verbose && whole {
-            report_size(rt, file, bytes.len());
+            report_size(rt, file, bytes.len() as u64);
         }
         if contents.push(bytes).is_err() {
             return Err(Failure::on_file(file, Fault::OutOfMemory));
@@ -240,20 +246,21 @@ fn expiring(alloc: Global, bytes: Vec<u8>, expiry: Option<u64>) -> Result<Vec<u8
     }
 }
 
-fn report_size<R: Eprint>(rt: &R, file: &str, bytes: usize) {
+/// Reports the size of a file.
+pub fn report_size<R: Eprint>(rt: &R, file: &str, bytes: u64) {
     let file = Shown(file);
     let _ = rt.eprintln(format_args!("{file}: {bytes} bytes"));
 }
 
-// Says of a record that no shard may have what it means for a merge.
-fn report_oddity<R: Eprint>(rt: &R, malformed: &Failure<'_>) {
+/// Says of a record that no shard may have what it means for a merge.
+pub fn report_oddity<R: Eprint>(rt: &R, malformed: &Failure<'_>) {
     let _ = rt.eprintln(format_args!(
         "{malformed}; what the merge writes may depend on the order of the files"
     ));
 }
 
-// Says which of two records that differ a merge keeps.
-fn report_choice<R: Eprint>(rt: &R, disagreement: &Failure<'_>) {
+/// Says which of two records that differ a merge keeps.
+pub fn report_choice<R: Eprint>(rt: &R, disagreement: &Failure<'_>) {
     let _ = rt.eprintln(format_args!(
         "{disagreement}; of xorbs the first is kept, of files the one with more parts"
     ));

@@ -14,6 +14,8 @@ pub enum Stage {
     Reading { read: usize, all: usize },
     /// So many shards are merged.
     Merging(usize),
+    /// So many shards are merged, part by part, and so much of them is done.
+    MergingParts { shards: usize, percent: u64 },
 }
 
 impl fmt::Display for Stage {
@@ -21,6 +23,9 @@ impl fmt::Display for Stage {
         match self {
             Stage::Reading { read, all } => write!(f, "{read} of {all} shards read"),
             Stage::Merging(all) => write!(f, "merging {all} shards"),
+            Stage::MergingParts { shards, percent } => {
+                write!(f, "merging {shards} shards, {percent} %")
+            }
         }
     }
 }

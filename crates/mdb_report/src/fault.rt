@@ -56,6 +56,12 @@ pub enum Fault {
     LongWord,
     /// Bytes are to be written to a terminal.
     Terminal,
+    /// It is no regular file, so that it can't be read in parts.
+    NoParts,
+    /// A merge that reads in parts is to be written to what is no regular file.
+    NoPlace,
+    /// The file is not what it was when it was first read.
+    Changed,
     /// Anything else that a call of the library reports.
     Other(CoreError),
 }
@@ -112,6 +118,15 @@ impl fmt::Display for Fault {
                 f,
                 "it is a terminal: write the shard to a file, by -o, or to a pipe"
             ),
+            Fault::NoParts => write!(
+                f,
+                "no regular file, which is needed to read it in parts, by --memory"
+            ),
+            Fault::NoPlace => write!(
+                f,
+                "a merge in parts, by --memory, is written to a regular file alone"
+            ),
+            Fault::Changed => write!(f, "it was changed while it was read"),
             Fault::Other(error) => write!(f, "{error}"),
         }
     }

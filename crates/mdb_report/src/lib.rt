@@ -20,6 +20,7 @@ pub mod problem;
 pub mod records;
 pub mod section;
 pub mod shown;
+pub mod size;
 pub mod summary;
 pub mod tables;
 pub mod tally;

@@ -1,0 +1,262 @@
+//! Merging shards of which only parts are in memory at once.
+//!
+//! A union can be made one range of hashes after another. So the shards are merged in rounds, first
+//! their files and then their xorbs. In a round the next records of each shard are read, of as many
+//! bytes as there is room for; those up to the least of the hashes with which these end are all that
+//! any shard has up to there, so their union is the next part of the whole. Its rows are written at
+//! once, and the rows of its tables wait in a second file, which has no name.
+
+mod assembly;
+pub mod block;
+mod findings;
+mod parts;
+mod runs;
+pub mod shard_file;
+
+use crate::beside::{NewFile, create_beside, create_private};
+use crate::blame::{obstacle_in_files, on_all};
+use crate::failure::Failure;
+use crate::files::{Place, STANDARD_STREAM, is_worth_reading, place_at, rename_over};
+use crate::make::report_leftovers;
+use crate::merge::report_size;
+use crate::progress::{Progress, Stage};
+use crate::arguments::Merge;
+use assembly::Assembly;
+use mdb_report::fault::{Fault, fault_of};
+use parts::merge_parts;
+use shard_bytes::load::load_bytes;
+use shard_file::{ShardFile, ends_of};
+use std::alloc::{AllocError, AllocFailed, Global};
+use std::fs::OpenFile;
+use std::random::RandomSource;
+use std::rt::{Clock, Files};
+use std::{fs, io};
+use xet_core_structures::error::CoreError;
+use xet_core_structures::merklehash::HMACKey;
+
+/// The least memory for a merge, in bytes.
+const LEAST_MEMORY: u64 = 1 << 20;
+
+/// Why a round ends without a part of the merge.
+#[derive(Drop)]
+pub enum Stop<'a> {
+    Failed(Failure<'a>),
+    /// A shard can't be read to the end of a section.
+    Refused(CoreError),
+}
+
+impl<'a> From<Failure<'a>> for Stop<'a> {
+    fn from(failure: Failure<'a>) -> Self {
+        Stop::Failed(failure)
+    }
+}
+
+impl From<CoreError> for Stop<'_> {
+    fn from(error: CoreError) -> Self {
+        Stop::Refused(error)
+    }
+}
+
+impl From<AllocError> for Stop<'_> {
+    fn from(_error: AllocError) -> Self {
+        Stop::Refused(CoreError::OutOfMemory)
+    }
+}
+
+impl<T: Drop> From<AllocFailed<T>> for Stop<'_> {
+    fn from(_error: AllocFailed<T>) -> Self {
+        Stop::Refused(CoreError::OutOfMemory)
+    }
+}
+
+/// Writes the merge of the shards in some files to a target, in about so much memory. With `by_key`
+/// it writes a merge of those under each key to the folder at the target's path.
+pub fn merge_in_rounds<
+    'a,
+    R: Files + Input + Clock + Print + Eprint + RandomSource + AllocGlobal + Clone + Drop,
+>(
+    rt: &R,
+    files: &[&'a str],
+    merge: Merge<'a>,
+    memory: u64,
+    progress: &mut Progress,
+) -> Result<(), Failure<'a>> {
+    let memory = memory.max(LEAST_MEMORY);
+    let shards = open_all(rt, files, merge, progress)?;
+    if !merge.by_key {
+        return write_merge(
+            rt,
+            shards.as_slice(),
+            merge,
+            merge.target.path,
+            memory,
+            progress,
+        );
+    }
+    let mut done: Vec<HMACKey> = Vec::new(rt.alloc());
+    for shard in &shards {
+        let key = shard.key();
+        if done.as_slice().contains(&key) {
+            continue;
+        }
+        write_under(rt, shards.as_slice(), key, merge, memory, progress)?;
+        if done.push(key).is_err() {
+            return Err(on_all(files, Fault::OutOfMemory));
+        }
+    }
+    Ok(())
+}
+
+// Merges the shards under one key, and writes the merge to a folder.
+fn write_under<
+    'a,
+    R: Files + Input + Clock + Print + Eprint + RandomSource + AllocGlobal + Clone + Drop,
+>(
+    rt: &R,
+    shards: &[ShardFile<'a>],
+    key: HMACKey,
+    merge: Merge<'a>,
+    memory: u64,
+    progress: &mut Progress,
+) -> Result<(), Failure<'a>> {
+    let folder = merge.target.path;
+    let (Ok(under), Ok(path)) = (
+        those_under(rt.alloc(), shards, key),
+        format!(in rt.alloc(); "{folder}/{key}.mdb"),
+    ) else {
+        return Err(Failure::on_file(folder, Fault::OutOfMemory));
+    };
+    write_merge(rt, under.as_slice(), merge, path.as_str(), memory, progress)
+}
+
+fn those_under<'a>(
+    alloc: Global,
+    shards: &[ShardFile<'a>],
+    key: HMACKey,
+) -> Result<Vec<ShardFile<'a>>, AllocError> {
+    let mut found = Vec::new(alloc);
+    for shard in shards {
+        if shard.key() == key {
+            found.push(*shard)?;
+        }
+    }
+    Ok(found)
+}
+
+// Reads header and footer of each file.
+fn open_all<'a, R: Files + Input + Clock + Eprint + AllocGlobal>(
+    rt: &R,
+    files: &[&'a str],
+    merge: Merge<'a>,
+    progress: &mut Progress,
+) -> Result<Vec<ShardFile<'a>>, Failure<'a>> {
+    let alloc = rt.alloc();
+    let mut opened = Vec::new(alloc);
+    let mut refusal = None;
+    for (read, file) in files.iter().enumerate() {
+        let all = files.len();
+        progress.show_after_pause(rt, Stage::Reading { read, all });
+        let (stamp, ends) = ends_of(rt, file)?;
+        if merge.verbose && is_worth_reading(alloc, ends.as_slice()) {
+            report_size(rt, file, stamp.size);
+        }
+        match load_bytes(alloc, ends.as_slice()) {
+            Ok(info) => {
+                if opened.push(ShardFile::new(file, info, stamp)).is_err() {
+                    return Err(on_all(files, Fault::OutOfMemory));
+                }
+            }
+            Err(error) if refusal.is_none() => {
+                let fault = fault_of(alloc, ends.as_slice(), error);
+                refusal = Some(Failure::on_file(file, fault));
+            }
+            Err(_) => {}
+        }
+    }
+    match refusal {
+        // What is wrong with the sections of a file before counts too.
+        Some(refusal) if !merge.by_key => Err(obstacle_in_files(rt, files).unwrap_or(refusal)),
+        Some(refusal) => Err(refusal),
+        None => Ok(opened),
+    }
+}
+
+// Writes the merge of shards to a path: to a new file beside it, which is renamed over it.
+fn write_merge<
+    'a,
+    R: Files + Input + Clock + Print + Eprint + RandomSource + AllocGlobal + Clone + Drop,
+>(
+    rt: &R,
+    shards: &[ShardFile<'a>],
+    merge: Merge<'a>,
+    path: &str,
+    memory: u64,
+    progress: &mut Progress,
+) -> Result<(), Failure<'a>> {
+    let alloc = rt.alloc();
+    let named = merge.target.path;
+    if path == STANDARD_STREAM {
+        return Err(Failure::on_target(named, Fault::NoPlace));
+    }
+    let (target, replaced) = match place_at(rt, alloc, path) {
+        Ok(Place::File { target, replaced }) => (target, replaced),
+        Ok(Place::Other) => return Err(Failure::on_target(named, Fault::NoPlace)),
+        Err(error) => return Err(Failure::on_target(named, Fault::from(error))),
+    };
+    let target = target.as_str();
+    let NewFile { file, path: beside } = match create_beside(rt, alloc, target, replaced.as_ref()) {
+        Ok(new) => new,
+        Err(error) => return Err(Failure::on_target(named, Fault::from(error))),
+    };
+    let made = fill(rt, shards, merge, target, file, memory, progress);
+    let done = match made {
+        Ok(()) => match rename_over(rt, beside.as_str(), target) {
+            Ok(()) => Ok(()),
+            Err(error) => Err(Failure::on_target(named, Fault::from(error))),
+        },
+        Err(failure) => {
+            let _ = fs::remove_file(rt, beside.as_str());
+            Err(failure)
+        }
+    };
+    report_leftovers(rt, path);
+    done
+}
+
+// Writes the merge of shards to a new file, and waits until the device has it.
+fn fill<'a, R: Files + Input + Clock + Eprint + RandomSource + AllocGlobal>(
+    rt: &R,
+    shards: &[ShardFile<'a>],
+    merge: Merge<'a>,
+    target: &str,
+    output: R::File,
+    memory: u64,
+    progress: &mut Progress,
+) -> Result<(), Failure<'a>> {
+    let named = merge.target.path;
+    let tables = match nameless(rt, target) {
+        Ok(tables) => tables,
+        Err(error) => return Err(Failure::on_target(named, Fault::from(error))),
+    };
+    let assembly = Assembly::new(rt.alloc(), output, tables);
+    let written = merge_parts(rt, shards, merge, memory, assembly, progress)?;
+    match written.sync_all() {
+        Ok(()) => Ok(()),
+        Err(error) => Err(Failure::on_target(named, Fault::from(error))),
+    }
+}
+
+// A new file in the folder of a target that has no name, so that nothing is left of it.
+fn nameless<R: Files + RandomSource + AllocGlobal>(rt: &R, target: &str) -> io::Result<R::File> {
+    let NewFile { file, path } = create_private(rt, rt.alloc(), target)?;
+    fs::remove_file(rt, path.as_str())?;
+    Ok(file)
+}
+
+// The share of each of so many parts in a number; all of it if there is none.
+fn share_of(number: u64, parts: u64) -> u64 {
+    match number.checked_div(parts) {
+        Some(share) => share,
+        None => number,
+    }
+}

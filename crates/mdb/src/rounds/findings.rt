@@ -1,0 +1,72 @@
+//! What is found in shards on which their merge may depend, or by which it is refused.
+
+use crate::blame::{disagreeing, holding_malformed};
+use crate::failure::Failure;
+use std::alloc::Global;
+use xet_core_structures::error::Result;
+use xet_core_structures::set_operations::{
+    Disagreement, MalformedRecord, find_disagreements, find_malformed,
+};
+
+/// What was found in the rounds so far.
+#[derive(Clone, Copy)]
+pub struct Findings {
+    /// A record that no shard may have, of the first shard that has one.
+    malformed: Option<MalformedRecord>,
+    /// The first hash under which two shards have records that do not agree.
+    differing: Option<Disagreement>,
+    /// How many such hashes there are.
+    count: usize,
+}
+
+impl Findings {
+    pub fn none() -> Findings {
+        Findings {
+            malformed: None,
+            differing: None,
+            count: 0,
+        }
+    }
+
+    /// Whether there is none.
+    pub fn is_empty(&self) -> bool {
+        self.malformed.is_none() && self.differing.is_none()
+    }
+
+    /// Adds what is found in the parts of the shards that a round merges.
+    pub fn add(&mut self, alloc: Global, inputs: &[&[u8]]) -> Result<()> {
+        if let Some(found) = find_malformed(alloc, inputs)? {
+            self.malformed = Some(first_of(self.malformed, found));
+        }
+        let found = find_disagreements(alloc, inputs)?;
+        self.count = self.count.saturating_add(found.len());
+        if self.differing.is_none() {
+            self.differing = found.as_slice().first().copied();
+        }
+        Ok(())
+    }
+
+    /// The first of the files that has a record which no shard may have, and the record.
+    pub fn malformed<'a>(&self, files: &[&'a str]) -> Option<Failure<'a>> {
+        match &self.malformed {
+            Some(record) => Some(holding_malformed(files, record)),
+            None => None,
+        }
+    }
+
+    /// What differs in the records of the files.
+    pub fn disagreement<'a>(&self, files: &[&'a str]) -> Option<Failure<'a>> {
+        match &self.differing {
+            Some(first) => Some(disagreeing(files, first, self.count)),
+            None => None,
+        }
+    }
+}
+
+// The record that was found earlier, unless the other is of a shard before its.
+fn first_of(earlier: Option<MalformedRecord>, found: MalformedRecord) -> MalformedRecord {
+    match earlier {
+        Some(earlier) if earlier.input <= found.input => earlier,
+        _ => found,
+    }
+}

@@ -1,0 +1,360 @@
+//! The rounds of a merge: the next records of all shards, and their union.
+
+use super::assembly::Assembly;
+use super::block::{Block, Mark};
+use super::findings::Findings;
+use super::shard_file::{Cursor, ShardFile};
+use super::{Stop, share_of};
+use crate::blame::{obstacle_in_files, on_all, under_other_key, unreadable_file, without_union};
+use crate::failure::Failure;
+use crate::make::in_version;
+use crate::merge::{report_choice, report_oddity};
+use crate::progress::{Progress, Stage};
+use crate::arguments::{Merge, Strictness};
+use mdb_report::fault::Fault;
+use shard_bytes::check::Section;
+use shard_bytes::merge::merge_bytes;
+use std::alloc::{AllocError, Global};
+use std::io::{Read, Seek, Write};
+use std::rt::{Clock, Files};
+use xet_core_structures::error::CoreError;
+use xet_core_structures::merklehash::MerkleHash;
+
+/// Of the memory for a merge the part for the bytes that are read in a round: their union, and where
+/// the records are, take the rest.
+const READ_PART: u64 = 4;
+
+/// The least bytes of a shard that are read in a round.
+const LEAST_READ: u64 = 4096;
+
+/// A merge of which parts are written.
+#[derive(Drop)]
+struct Rounds<'a, F: Read + Write + Seek + Drop> {
+    files: Vec<&'a str>,
+    merge: Merge<'a>,
+    /// How many bytes of all shards are read in a round.
+    room: u64,
+    /// The bytes of all sections, and those of the sections after the one that is merged.
+    all: u64,
+    later: u64,
+    findings: Findings,
+    /// Whether the shards have one key; else what differs is still looked for.
+    merges: bool,
+    /// Why the merge fails, if nothing else makes it fail before its end.
+    refusal: Option<Failure<'a>>,
+    assembly: Assembly<F>,
+}
+
+/// Writes the merge of shards in about so much memory, and returns its file.
+pub fn merge_parts<
+    'a,
+    R: Files + Input + Clock + Eprint + AllocGlobal,
+    F: Read + Write + Seek + Drop,
+>(
+    rt: &R,
+    shards: &[ShardFile<'a>],
+    merge: Merge<'a>,
+    memory: u64,
+    assembly: Assembly<F>,
+    progress: &mut Progress,
+) -> Result<F, Failure<'a>> {
+    let alloc = rt.alloc();
+    let (Ok(files), Ok(mut cursors), Ok(mut xorbs)) = (
+        paths_of(alloc, shards),
+        cursors_of(alloc, shards, Section::Files),
+        cursors_of(alloc, shards, Section::Xorbs),
+    ) else {
+        return Err(Failure::on_target(merge.target.path, Fault::OutOfMemory));
+    };
+    let refusal = other_key(rt, files.as_slice(), shards, merge.strictness)?;
+    let later = bytes_left(xorbs.as_slice());
+    let mut rounds = Rounds {
+        files,
+        merge,
+        room: memory / READ_PART,
+        all: bytes_left(cursors.as_slice()).saturating_add(later),
+        later,
+        findings: Findings::none(),
+        merges: refusal.is_none(),
+        refusal,
+        assembly,
+    };
+    rounds.merge_section(rt, Section::Files, cursors.as_mut_slice(), progress)?;
+    rounds.later = 0;
+    rounds.merge_section(rt, Section::Xorbs, xorbs.as_mut_slice(), progress)?;
+    rounds.finish(rt, shards, memory, progress)
+}
+
+impl<'a, F: Read + Write + Seek + Drop> Rounds<'a, F> {
+    // Merges a section of all shards.
+    fn merge_section<R: Files + Input + Clock + Eprint + AllocGlobal>(
+        &mut self,
+        rt: &R,
+        section: Section,
+        cursors: &mut [Cursor<'a>],
+        progress: &mut Progress,
+    ) -> Result<(), Failure<'a>> {
+        for _ in 0..u64::MAX {
+            self.merge_round(rt, section, cursors)?;
+            if all_ended(cursors) {
+                break;
+            }
+            let left = bytes_left(cursors).saturating_add(self.later);
+            progress.show_after_pause(rt, self.stage(left));
+        }
+        match self.assembly.end_section() {
+            Ok(()) => Ok(()),
+            Err(error) => Err(self.not_written(error)),
+        }
+    }
+
+    fn stage(&self, left: u64) -> Stage {
+        let done = self.all.saturating_sub(left);
+        Stage::MergingParts {
+            shards: self.files.len(),
+            percent: share_of(done, self.all / 100).min(100),
+        }
+    }
+
+    // Merges the next records of all shards.
+    fn merge_round<R: Files + Input + Eprint + AllocGlobal>(
+        &mut self,
+        rt: &R,
+        section: Section,
+        cursors: &mut [Cursor<'a>],
+    ) -> Result<(), Failure<'a>> {
+        let alloc = rt.alloc();
+        let parts = match next_parts(rt, cursors, self.room) {
+            Ok(parts) => parts,
+            Err(Stop::Failed(failure)) => return Err(failure),
+            Err(Stop::Refused(error)) => return Err(self.refused(rt, &[], error)),
+        };
+        let inputs: Result<Vec<&[u8]>, AllocError> = parts
+            .iter()
+            .map(|bytes| bytes.as_slice())
+            .collect(alloc);
+        let Ok(inputs) = inputs else {
+            return Err(on_all(self.files.as_slice(), Fault::OutOfMemory));
+        };
+        self.merge_inputs(rt, section, inputs.as_slice())
+    }
+
+    // Merges the parts of all shards, and writes their union, if it is wanted.
+    fn merge_inputs<R: Files + Input + AllocGlobal>(
+        &mut self,
+        rt: &R,
+        section: Section,
+        inputs: &[&[u8]],
+    ) -> Result<(), Failure<'a>> {
+        let alloc = rt.alloc();
+        if let Err(error) = self.findings.add(alloc, inputs) {
+            return Err(self.refused(rt, inputs, error));
+        }
+        let strict = self.merge.strictness == Strictness::Strict;
+        if !self.merges || (strict && !self.findings.is_empty()) {
+            return Ok(());
+        }
+        let bytes = match merge_bytes(alloc, inputs) {
+            Ok(bytes) => bytes,
+            Err(error) => return Err(self.refused(rt, inputs, error)),
+        };
+        match in_version(alloc, bytes, self.merge.target) {
+            Ok(part) => self.write_part(section, part),
+            Err(failure) => {
+                self.refusal = Some(failure);
+                Ok(())
+            }
+        }
+    }
+
+    // Writes a part of the merge, if all can be written.
+    fn write_part(&mut self, section: Section, mut part: Vec<u8>) -> Result<(), Failure<'a>> {
+        if self.refusal.is_some() {
+            return Ok(());
+        }
+        match self.assembly.add(section, part.as_mut_slice()) {
+            Ok(()) => Ok(()),
+            Err(error) => Err(self.not_written(error)),
+        }
+    }
+
+    // The failure of parts of the shards that can't be read or have no union: that of the first
+    // file that can't be read, or whose footer is wrong, else of the parts together.
+    fn refused<R: Files + Input + AllocGlobal>(
+        &self,
+        rt: &R,
+        inputs: &[&[u8]],
+        error: CoreError,
+    ) -> Failure<'a> {
+        let files = self.files.as_slice();
+        if error == CoreError::OutOfMemory {
+            return on_all(files, Fault::OutOfMemory);
+        }
+        match obstacle_in_files(rt, files) {
+            Some(failure) => failure,
+            None => without_union(rt.alloc(), files, inputs),
+        }
+    }
+
+    // The failure of a part that can't be written.
+    fn not_written(&self, error: CoreError) -> Failure<'a> {
+        match error {
+            CoreError::Io(error) => Failure::on_target(self.merge.target.path, Fault::from(error)),
+            CoreError::OutOfMemory => on_all(self.files.as_slice(), Fault::OutOfMemory),
+            _ => on_all(self.files.as_slice(), Fault::NoUnion),
+        }
+    }
+
+    // Writes the tables, after what was found is reported, or is a failure.
+    fn finish<R: Eprint>(
+        self,
+        rt: &R,
+        shards: &[ShardFile<'a>],
+        memory: u64,
+        progress: &mut Progress,
+    ) -> Result<F, Failure<'a>> {
+        let files = self.files.as_slice();
+        let malformed = self.findings.malformed(files);
+        let disagreement = self.findings.disagreement(files);
+        match (malformed, disagreement, self.merge.strictness) {
+            (Some(malformed), _, Strictness::Strict) => return Err(malformed),
+            (None, Some(disagreement), Strictness::Strict) => return Err(disagreement),
+            (malformed, disagreement, _) => {
+                progress.clear(rt);
+                report(rt, malformed, disagreement);
+            }
+        }
+        self.written(shards, memory)
+    }
+
+    // Writes the tables and the footer.
+    fn written(self, shards: &[ShardFile<'a>], memory: u64) -> Result<F, Failure<'a>> {
+        let Rounds {
+            files,
+            merge,
+            refusal,
+            assembly,
+            ..
+        } = self;
+        if let Some(refusal) = refusal {
+            return Err(refusal);
+        }
+        let Some(first) = shards.first() else {
+            return Err(Failure::on_words(Fault::NoFiles));
+        };
+        match assembly.finish(first.key(), merge.expiry, memory) {
+            Ok(file) => Ok(file),
+            Err(CoreError::OutOfMemory) => Err(on_all(files.as_slice(), Fault::OutOfMemory)),
+            Err(CoreError::Io(error)) => {
+                Err(Failure::on_target(merge.target.path, Fault::from(error)))
+            }
+            Err(error) => Err(Failure::on_target(merge.target.path, Fault::Other(error))),
+        }
+    }
+}
+
+fn report<R: Eprint>(rt: &R, malformed: Option<Failure<'_>>, disagreement: Option<Failure<'_>>) {
+    if let Some(malformed) = &malformed {
+        report_oddity(rt, malformed);
+    }
+    if let Some(disagreement) = &disagreement {
+        report_choice(rt, disagreement);
+    }
+}
+
+// The failure of shards under different keys, or `None` if they have one. Only a strict merge looks
+// for what differs before it fails.
+fn other_key<'a, R: Files + Input + AllocGlobal>(
+    rt: &R,
+    files: &[&'a str],
+    shards: &[ShardFile<'a>],
+    strictness: Strictness,
+) -> Result<Option<Failure<'a>>, Failure<'a>> {
+    let Some(first) = shards.first() else {
+        return Ok(None);
+    };
+    for shard in shards {
+        if shard.key() == first.key() {
+            continue;
+        }
+        let failure = under_other_key(first.path, shard.path);
+        return match strictness {
+            Strictness::Strict => Ok(Some(failure)),
+            Strictness::Lenient => Err(unreadable_file(rt, files).unwrap_or(failure)),
+        };
+    }
+    Ok(None)
+}
+
+fn paths_of<'a>(alloc: Global, shards: &[ShardFile<'a>]) -> Result<Vec<&'a str>, AllocError> {
+    let mut paths = Vec::new(alloc);
+    for shard in shards {
+        paths.push(shard.path)?;
+    }
+    Ok(paths)
+}
+
+fn cursors_of<'a>(
+    alloc: Global,
+    shards: &[ShardFile<'a>],
+    section: Section,
+) -> Result<Vec<Cursor<'a>>, AllocError> {
+    let mut cursors = Vec::new(alloc);
+    for shard in shards {
+        cursors.push(Cursor::new(*shard, section))?;
+    }
+    Ok(cursors)
+}
+
+fn bytes_left(cursors: &[Cursor<'_>]) -> u64 {
+    let mut left: u64 = 0;
+    for cursor in cursors {
+        left = left.saturating_add(cursor.bytes_left());
+    }
+    left
+}
+
+fn all_ended(cursors: &[Cursor<'_>]) -> bool {
+    for cursor in cursors {
+        if !cursor.has_ended() {
+            return false;
+        }
+    }
+    true
+}
+
+// The next records of each shard, up to the least of the hashes with which what is read of them
+// ends, as shards. About so many bytes are read.
+fn next_parts<'a, R: Files + AllocGlobal>(
+    rt: &R,
+    cursors: &mut [Cursor<'a>],
+    room: u64,
+) -> Result<Vec<Vec<u8>>, Stop<'a>> {
+    let mut blocks = Vec::new(rt.alloc());
+    // As many bytes of each that the shards would come to their ends in the same round.
+    let rounds = share_of(bytes_left(cursors), room).saturating_add(1);
+    let mut limit = None;
+    for cursor in cursors.iter() {
+        let size = share_of(cursor.bytes_left(), rounds);
+        let (block, mark) = cursor.read(rt, size.saturating_add(1).max(LEAST_READ))?;
+        limit = lesser(limit, &mark);
+        blocks.push(block)?;
+    }
+    let mut parts = Vec::new(rt.alloc());
+    for (cursor, block) in cursors.iter_mut().zip(blocks) {
+        parts.push(cursor.take(rt, block, limit)?)?;
+    }
+    Ok(parts)
+}
+
+// The lesser of a hash and that with which a block ends, if records come after it.
+fn lesser(limit: Option<MerkleHash>, mark: &Mark) -> Option<MerkleHash> {
+    if mark.ended {
+        return limit;
+    }
+    match (limit, mark.last) {
+        (Some(limit), Some(last)) if limit <= last => Some(limit),
+        (_, Some(last)) => Some(last),
+        (limit, None) => limit,
+    }
+}

@@ -1,0 +1,212 @@
+//! Shards in regular files, of which parts are read.
+
+use super::Stop;
+use super::block::{Block, Mark};
+use crate::failure::Failure;
+use crate::files::{STANDARD_STREAM, read_ends};
+use mdb_report::fault::Fault;
+use shard_bytes::check::Section;
+use std::fs::{Metadata, OpenFile};
+use std::io::{ErrorKind, Read, Seek, SeekFrom};
+use std::os::unix::fs::MetadataExt;
+use std::rt::Files;
+use std::{fs, io};
+use xet_core_structures::error::CoreError;
+use xet_core_structures::merklehash::{HMACKey, MerkleHash};
+use xet_core_structures::shard_format::MDBShardInfo;
+use xet_records::record_reader::FormatVersion;
+
+/// How often more of a section is read because a record is longer than what was read of it.
+const DOUBLINGS: u32 = 40;
+
+/// What the system says of a file: another file has other numbers, and so has one that was changed.
+#[derive(Clone, Copy, Debug, PartialEq, Eq)]
+pub struct Stamp {
+    pub size: u64,
+    device: u64,
+    node: u64,
+    seconds: i64,
+    nanoseconds: i64,
+}
+
+/// A shard in a regular file.
+#[derive(Clone, Copy)]
+pub struct ShardFile<'a> {
+    pub path: &'a str,
+    pub info: MDBShardInfo,
+    stamp: Stamp,
+}
+
+fn stamp_of(there: &Metadata) -> Stamp {
+    Stamp {
+        size: there.len(),
+        device: there.dev(),
+        node: there.ino(),
+        seconds: there.mtime(),
+        nanoseconds: there.mtime_nsec(),
+    }
+}
+
+/// What the system says of a regular file, and the bytes at its start and its end.
+pub fn ends_of<'a, R: Files + AllocGlobal>(
+    rt: &R,
+    path: &'a str,
+) -> Result<(Stamp, Vec<u8>), Failure<'a>> {
+    if path == STANDARD_STREAM {
+        return Err(Failure::on_file(path, Fault::NoParts));
+    }
+    match regular_ends_of(rt, path) {
+        Ok(Some(ends)) => Ok(ends),
+        Ok(None) => Err(Failure::on_file(path, Fault::NoParts)),
+        Err(error) => Err(Failure::on_file(path, Fault::from(error))),
+    }
+}
+
+// `None` if the path leads to no regular file.
+fn regular_ends_of<R: Files + AllocGlobal>(
+    rt: &R,
+    path: &str,
+) -> io::Result<Option<(Stamp, Vec<u8>)>> {
+    let there = fs::metadata(rt, path)?;
+    if !there.is_file() {
+        return Ok(None);
+    }
+    let ends = read_ends(rt, path)?;
+    Ok(Some((stamp_of(&there), ends)))
+}
+
+impl<'a> ShardFile<'a> {
+    pub fn new(path: &'a str, info: MDBShardInfo, stamp: Stamp) -> ShardFile<'a> {
+        ShardFile { path, info, stamp }
+    }
+
+    /// The key of its chunk hashes.
+    pub fn key(&self) -> HMACKey {
+        self.info.metadata.chunk_hash_hmac_key
+    }
+
+    // The file, from an offset on, or from its end; it is the one that was there first, and was not
+    // changed.
+    fn open_at<R: Files>(&self, rt: &R, offset: u64) -> Result<R::File, Failure<'a>> {
+        match opened_at(rt, self.path, offset.min(self.stamp.size)) {
+            Ok((file, stamp)) if stamp == self.stamp => Ok(file),
+            Ok(_) => Err(Failure::on_file(self.path, Fault::Changed)),
+            Err(error) => Err(Failure::on_file(self.path, Fault::from(error))),
+        }
+    }
+}
+
+fn opened_at<R: Files>(rt: &R, path: &str, offset: u64) -> io::Result<(R::File, Stamp)> {
+    let mut file = fs::open(rt, path)?;
+    let stamp = stamp_of(&file.metadata()?);
+    file.seek(SeekFrom::Start(offset))?;
+    Ok((file, stamp))
+}
+
+/// A place between two records of a section.
+#[derive(Clone, Copy)]
+pub struct Cursor<'a> {
+    shard: ShardFile<'a>,
+    section: Section,
+    offset: u64,
+    mark: Mark,
+}
+
+impl<'a> Cursor<'a> {
+    /// The start of a section.
+    pub fn new(shard: ShardFile<'a>, section: Section) -> Cursor<'a> {
+        let footer = &shard.info.metadata;
+        let offset = match section {
+            Section::Files => footer.file_info_offset,
+            Section::Xorbs => footer.xorb_info_offset,
+        };
+        Cursor {
+            shard,
+            section,
+            offset,
+            mark: Mark::start(),
+        }
+    }
+
+    /// Whether no record is left.
+    pub fn has_ended(&self) -> bool {
+        self.mark.ended
+    }
+
+    /// How many bytes of the section are left, if the footer has the offsets of its parts.
+    pub fn bytes_left(&self) -> u64 {
+        let footer = &self.shard.info.metadata;
+        let end = match self.section {
+            Section::Files => footer.xorb_info_offset,
+            Section::Xorbs => footer.file_lookup_offset,
+        };
+        if self.mark.ended {
+            return 0;
+        }
+        end.min(self.shard.stamp.size).saturating_sub(self.offset)
+    }
+
+    /// The next records, of so many bytes, or one if it is longer; and how far they can be read.
+    pub fn read<R: Files + AllocGlobal>(
+        &self,
+        rt: &R,
+        size: u64,
+    ) -> Result<(Block, Mark), Stop<'a>> {
+        let alloc = rt.alloc();
+        let version = FormatVersion::of_header(self.shard.info.header.version);
+        if self.mark.ended {
+            let empty = Block::new(alloc, self.section, version, 0)?;
+            return Ok((
+                empty,
+                Mark {
+                    bytes: 0,
+                    ..self.mark
+                },
+            ));
+        }
+        let room = usize::try_from(size).unwrap_or(usize::MAX);
+        let mut block = Block::new(alloc, self.section, version, room)?;
+        let mut file = self.shard.open_at(rt, self.offset)?;
+        let mut more = size;
+        for _ in 0..DOUBLINGS {
+            let read = match read_more(&mut file, more, &mut block.bytes) {
+                Ok(read) => read,
+                Err(error) => {
+                    return Err(Stop::Failed(Failure::on_file(self.shard.path, Fault::from(error))));
+                }
+            };
+            let mark = block.read(alloc, self.mark, None)?;
+            if mark.ended || mark.bytes > 0 {
+                return Ok((block, mark));
+            }
+            if read < more {
+                return Err(Stop::Refused(CoreError::Io(io::Error::from(ErrorKind::UnexpectedEof))));
+            }
+            more = more.saturating_mul(2);
+        }
+        Err(Stop::Refused(CoreError::OutOfMemory))
+    }
+
+    /// The records of a block up to a hash, or all that are whole, as a shard. The cursor passes
+    /// them.
+    pub fn take<R: AllocGlobal>(
+        &mut self,
+        rt: &R,
+        block: Block,
+        limit: Option<MerkleHash>,
+    ) -> Result<Vec<u8>, Stop<'a>> {
+        let alloc = rt.alloc();
+        if self.mark.ended {
+            return Ok(block.shard_of(0, self.shard.key())?);
+        }
+        self.mark = block.read(alloc, self.mark, limit)?;
+        self.offset = self.offset.saturating_add(self.mark.bytes as u64);
+        Ok(block.shard_of(self.mark.bytes, self.shard.key())?)
+    }
+}
+
+// Reads so many bytes, or all that are left, and returns their number.
+fn read_more<F: Read>(file: &mut F, size: u64, bytes: &mut Vec<u8>) -> io::Result<u64> {
+    let read = file.by_ref().take(size).read_to_end(bytes)?;
+    Ok(read as u64)
+}

@@ -1,0 +1,40 @@
+//! Sizes in words.
+
+ghost use Rattle.std.specs.Prelude.{◌≡◌, ◌<◌, ◌^◌, IfSome};
+
+/// The number of bytes that a text names: digits, and maybe K, M, G or T behind them, for 1024 bytes
+/// each, or 1024 of the unit before. `None` if it names none, or too many for `u64`.
+pub fn bytes_of(text: &str) -> Option<u64> {
+    let Some(last) = text.as_bytes().last() else {
+        return None;
+    };
+    let unit: u64 = match last {
+        b'K' | b'k' => 1 << 10,
+        b'M' | b'm' => 1 << 20,
+        b'G' | b'g' => 1 << 30,
+        b'T' | b't' => 1 << 40,
+        _ => 1,
+    };
+    let digits = match unit {
+        1 => text.as_bytes(),
+        _ => &text.as_bytes()[..text.len() - 1],
+    };
+    number_of(digits)?.checked_mul(unit)
+}
+
+// The number with these decimal digits.
+fn number_of(digits: &[u8]) -> Option<u64> {
+    if digits.is_empty() {
+        return None;
+    }
+    let mut number: u64 = 0;
+    for digit in digits {
+        if !digit.is_ascii_digit() {
+            return None;
+        }
+        number = number
+            .checked_mul(10)?
+            .checked_add(u64::from(*digit - b'0'))?;
+    }
+    Some(number)
+}
