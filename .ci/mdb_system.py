@@ -7,10 +7,12 @@ import resource
 import signal
 import stat
 import subprocess
+import sys
 import tempfile
 import threading
 import time
 
+TOP = os.path.dirname(os.path.dirname(os.path.realpath(__file__)))
 SKIPPED = "skipped"
 
 
@@ -353,6 +355,132 @@ def now_is_the_clock(place):
     wants("when it was created", before <= created <= time.time())
 
 
+def many_shards(place, count):
+    """Makes shards of 70 kB in a folder, each of which has half of its records in the one after it."""
+    maker = f"{TOP}/bindings/python/examples/made_shards.py"
+    words = [sys.executable, maker, place.path("many"), "--shards", str(count)]
+    subprocess.run(words, check=True, timeout=120)
+
+
+def merge_in_parts_is_the_merge(place):
+    many_shards(place, 40)
+    for words in ((), ("--expiry", "1700000000"), ("--format", "2"), ("--strict",)):
+        wants("in one", place.run("merge", "many", *words, "-o", "one.mdb").returncode == 0)
+        run = place.run("merge", "many", *words, "--memory", "1M", "-o", "parts.mdb")
+        wants("in parts", (run.returncode, run.stderr) == (0, b""))
+        wants("the same", place.read("parts.mdb") == place.read("one.mdb"))
+    run = place.run("merge", "many", "--memory", "1M", "--by-key", ".")
+    wants("by keys", (run.returncode, run.stderr) == (0, b""))
+    wants("nothing else is there", len(place.names()) == 7)
+
+
+def merge_in_parts_takes_little_memory(place):
+    many_shards(place, 120)
+
+    def little_room():
+        resource.setrlimit(resource.RLIMIT_AS, (12 << 20, 12 << 20))
+
+    run = place.run("merge", "many", "-o", "out.mdb", preexec_fn=little_room)
+    wants("in one", run.returncode == 1 and run.stderr.endswith(b": out of memory\n"))
+    run = place.run("merge", "many", "--memory", "1M", "-o", "out.mdb", preexec_fn=little_room)
+    wants("in parts", (run.returncode, run.stderr) == (0, b""))
+
+
+def failed_merge_in_parts_leaves_the_target(place):
+    many_shards(place, 20)
+    before = place.names()
+
+    def ignore_and_limit():
+        signal.signal(signal.SIGXFSZ, signal.SIG_IGN)
+        limited(1 << 17)()
+
+    words = ("merge", "many", "--memory", "1M", "-o", "one_file.mdb")
+    run = place.run(*words, preexec_fn=ignore_and_limit)
+    wants("status", (run.returncode, run.stderr) == (1, b"one_file.mdb: File too large (os error 27)\n"))
+    place.write("many/wrong.mdb", place.read("many/7.mdb")[:-300] + bytes(100) + place.read("many/7.mdb")[-200:])
+    place.write("many/cut.mdb", place.read("many/7.mdb")[:40000])
+    run = place.run(*words)
+    said = b"many/cut.mdb: its last 200 bytes are no footer: it was cut or lengthened\n"
+    wants("of a shard that was cut", (run.returncode, run.stderr) == (1, said))
+    wants("the target", place.read("one_file.mdb") == place.made["one_file.mdb"])
+    wants("nothing else is there", place.names() == before)
+
+
+def killed_merge_in_parts_leaves_one_file(place):
+    many_shards(place, 20)
+    before = place.names()
+    words = ("merge", "many", "--memory", "1M", "-o", "one_file.mdb")
+    run = place.run(*words, preexec_fn=limited(1 << 17))
+    wants("it was killed", run.returncode == -signal.SIGXFSZ)
+    wants("the target", place.read("one_file.mdb") == place.made["one_file.mdb"])
+    (left,) = set(place.names()) - set(before)
+    run = place.run(*words)
+    said = f"{left}: left beside one_file.mdb by a run that was ended, or that still writes\n"
+    wants("it is named", (run.returncode, run.stderr.decode()) == (0, said))
+
+
+def merge_in_parts_wants_regular_files(place):
+    os.mkfifo(place.path("pipe"))
+    for words, named in ((("-", "-o", "out.mdb"), "-"), (("pipe", "-o", "out.mdb"), "pipe")):
+        run = place.run("merge", "both.mdb", *words, "--memory", "1M")
+        said = f"{named}: it is no regular file, so it can't be read in parts\n"
+        wants(named, (run.returncode, run.stderr.decode()) == (1, said))
+    for target, named in (("-", "standard output"), ("pipe", "pipe")):
+        run = place.run("merge", "both.mdb", "-o", target, "--memory", "1M")
+        said = f"{named}: it is no regular file, and a merge by --memory is written to one alone\n"
+        wants(target, (run.returncode, run.stderr.decode()) == (1, said))
+    wants("nothing else is there", place.names() == ["both.mdb", "both_3.mdb", "one_file.mdb", "pipe"])
+
+
+def groups_are_named_by_their_bytes(place):
+    many_shards(place, 6)
+    key = "0" * 63 + "7"
+    words = ("merge", "many", "--to", "store", "--max-size", "150K", "--hash-key", key)
+    run = place.run(*words)
+    wants("no folder", (run.returncode, run.stderr) == (1, b"store: No such file or directory (os error 2)\n"))
+    os.mkdir(place.path("store"))
+    run = place.run(*words)
+    paths = run.stdout.decode().splitlines()
+    wants("status", (run.returncode, run.stderr, len(paths)) == (0, b"", 3))
+    wants("what is there", sorted(paths) == [f"store/{it}" for it in sorted(os.listdir(place.path("store")))])
+    for at, path in enumerate(paths):
+        run = place.run("merge", f"many/{2 * at}.mdb", f"many/{2 * at + 1}.mdb", "-o", "out.mdb")
+        wants("the merge", run.returncode == 0)
+        wants("its bytes", place.read(path) == place.read("out.mdb"))
+    run = place.run("check", "--name", "--hash-key", key, "store")
+    wants("the names", (run.returncode, run.stdout) == (0, b""))
+    run = place.run(*words)
+    wants("again", (run.returncode, run.stdout.decode().splitlines()) == (0, paths))
+    wants("nothing else is there", sorted(paths) == [f"store/{it}" for it in sorted(os.listdir(place.path("store")))])
+
+
+def lists_may_end_with_zero_bytes(place):
+    place.write("list", b"both.mdb\0one_file.mdb\0")
+    run = place.run("info", "--brief", "--null", "--files-from", "list")
+    said = [line.split(":")[0] for line in run.stdout.decode().splitlines()]
+    wants("files", (run.returncode, said) == (0, ["both.mdb", "one_file.mdb", "total"]))
+    hashes = f"{100:016x}{1:016x}{0:032x}\0{101:016x}{1:016x}{0:032x}".encode()
+    run = place.run("find", "one_file.mdb", "--null", "--hashes-from", "-", input=hashes)
+    said = [line.split()[0] for line in run.stdout.decode().splitlines()]
+    wants("hashes", (run.returncode, said) == (0, ["file", "segment", "none"]))
+    run = place.run("find", "one_file.mdb", "--hashes-from", "missing")
+    said = b"missing: No such file or directory (os error 2)\n"
+    wants("no list", (run.returncode, run.stderr, run.stdout) == (1, said, b""))
+
+
+def pages_have_all_commands(place):
+    subprocess.run([f"{TOP}/.ci/mdb_pages", place.program, place.path("pages")], check=True, timeout=60)
+    for page in ("mdb.1", "mdb.bash", "_mdb", "mdb.fish"):
+        text = place.read(f"pages/{page}").decode().replace("\\-", "-")
+        for word in ("info", "merge", "drop", "memory", "hashes-from", "output"):
+            wants(f"{word} in {page}", word in text)
+    words = "COMP_WORDS=(mdb merge --st); COMP_CWORD=2; _mdb mdb --st merge; echo ${COMPREPLY[@]}"
+    run = subprocess.run(
+        ["bash", "-c", f". {place.path('pages/mdb.bash')}; {words}"], capture_output=True, check=True, timeout=20
+    )
+    wants("a word is completed", run.stdout == b"--strict\n")
+
+
 ROWS = (
     new_file_has_the_mode_of_others, mode_stays, owner_stays, device_is_written_to, full_device_fails,
     pipe_is_written_to, link_is_followed, link_to_nothing_is_refused, folder_is_refused, taken_names_block_nothing,
@@ -360,6 +488,9 @@ ROWS = (
     lists_name_shards, names_in_folders_are_reported, what_is_no_shard_is_not_read_whole,
     large_file_is_not_read_whole, controls_are_not_printed,
     closed_pipe_ends_quietly, terminal_gets_no_shard, terminal_shows_progress, now_is_the_clock,
+    merge_in_parts_is_the_merge, merge_in_parts_takes_little_memory, failed_merge_in_parts_leaves_the_target,
+    killed_merge_in_parts_leaves_one_file, merge_in_parts_wants_regular_files, groups_are_named_by_their_bytes,
+    lists_may_end_with_zero_bytes, pages_have_all_commands,
 )
 
 

@@ -1,7 +1,9 @@
 //! What a command line asks for.
 
-use crate::command_line;
-use crate::command_table::id;
+use crate::request::{
+    Compaction, Dropping, HashList, Making, Merge, Request, Sources, Strictness, Target,
+};
+use crate::{command_line, id};
 use clap::error::ErrorKind;
 use clap::{ArgMatches, Error};
 use mdb_report::inquiry::Inquiry;
@@ -15,67 +17,6 @@ use std::alloc::{AllocError, AllocFailed, Global};
 use xet_core_structures::file_structs::KeptParts;
 use xet_core_structures::merklehash::MerkleHash;
 use xet_records::record_reader::FormatVersion;
-
-/// What is asked for.
-#[derive(Drop)]
-pub enum Request<'a> {
-    /// To print answers about shards.
-    Inspect(Sources<'a>, Inquiry, Style),
-    /// To write a shard.
-    Make(Making<'a>, Target<'a>),
-    /// To write a merge of shards.
-    Merge(Sources<'a>, Merge<'a>),
-}
-
-/// Where a shard is written, and in which version of the format.
-#[derive(Clone, Copy, Debug, PartialEq, Eq)]
-pub struct Target<'a> {
-    /// A path, or `-` for standard output; of a merge by keys a folder.
-    pub path: &'a str,
-    pub version: FormatVersion,
-}
-
-/// The words that name the shards to read.
-#[derive(Drop)]
-pub struct Sources<'a> {
-    /// Paths of shards and of folders.
-    pub words: Vec<&'a str>,
-    /// The path of a file that lists more of them.
-    pub list: Option<&'a str>,
-}
-
-/// A command that writes a shard.
-#[derive(Drop)]
-pub enum Making<'a> {
-    Combine(Operation, &'a str, &'a str),
-    Export(&'a str, Export),
-    Minimal(&'a str, u64, KeptParts),
-    Subset(&'a str, Subset),
-}
-
-/// How shards are merged.
-#[derive(Clone, Copy, Debug, PartialEq, Eq)]
-pub struct Merge<'a> {
-    pub target: Target<'a>,
-    pub strictness: Strictness,
-    /// Whether each file is reported as it is read.
-    pub verbose: bool,
-    /// Whether the shards under each key are merged by themselves, into a folder.
-    pub by_key: bool,
-    /// The expiry of what is written, in seconds; none if it is left out.
-    pub expiry: Option<u64>,
-    /// About how many bytes of memory it may take, if the shards are not all to be in memory.
-    pub memory: Option<u64>,
-}
-
-/// What is done where shards that are to be merged do not agree.
-#[derive(Clone, Copy, Debug, PartialEq, Eq)]
-pub enum Strictness {
-    /// One record is kept, and the difference is reported.
-    Lenient,
-    /// They are not merged.
-    Strict,
-}
 
 /// Why words are no request.
 #[derive(Drop)]
@@ -162,7 +103,7 @@ fn request_in<'a>(
     };
     if name == "merge" {
         let sources = sources_in(alloc, matches)?;
-        return Ok(Request::Merge(sources, merge_in(matches)?));
+        return Ok(Request::Merge(sources, merge_in(matches, now)?));
     }
     match making_in(alloc, name, matches, now)? {
         Some(making) => Ok(Request::Make(making, target_in(matches)?)),
@@ -183,13 +124,13 @@ fn inspection_in<'a>(
     match name {
         "find" | "query" => {
             let (sources, hashes) = lookup_in(alloc, matches)?;
-            let inquiry = if name == "find" {
-                Inquiry::Find {
+            let inquiry = match name {
+                "find" if matches.get_flag(id::OF_XORBS) => Inquiry::FindXorbs { hashes },
+                "find" => Inquiry::Find {
                     hashes,
                     costs: matches.get_flag(id::COSTS),
-                }
-            } else {
-                Inquiry::Query { hashes }
+                },
+                _ => Inquiry::Query { hashes },
             };
             Ok(Request::Inspect(sources, inquiry, style))
         }
@@ -207,9 +148,9 @@ fn lookup_in<'a>(
     matches: &ArgMatches<'a>,
 ) -> Result<(Sources<'a>, Vec<MerkleHash>), Refusal<'a>> {
     let mut sources = sources_in(alloc, matches)?;
-    if matches.contains_id(id::HASHES) {
-        let texts = texts_of(alloc, matches, id::HASHES)?;
-        return Ok((sources, hashes_of(alloc, texts.as_slice())?));
+    if matches.contains_id(id::HASHES) || sources.hashes.is_some() {
+        let hashes = given_hashes(alloc, matches, id::HASHES)?;
+        return Ok((sources, hashes));
     }
     if sources.list.is_some() || sources.words.len() < 2 {
         return Err(Refusal::Missing(id::HASHES));
@@ -217,6 +158,32 @@ fn lookup_in<'a>(
     let hashes = hashes_of(alloc, &sources.words.as_slice()[1..])?;
     sources.words.truncate(1);
     Ok((sources, hashes))
+}
+
+// The hashes that an option was given, or none.
+fn given_hashes<'a>(
+    alloc: Global,
+    matches: &ArgMatches<'a>,
+    id: &'static str,
+) -> Result<Vec<MerkleHash>, Refusal<'a>> {
+    if !matches.contains_id(id) {
+        return Ok(Vec::new(alloc));
+    }
+    let texts = texts_of(alloc, matches, id)?;
+    hashes_of(alloc, texts.as_slice())
+}
+
+fn hash_list_in<'a>(matches: &ArgMatches<'a>) -> Option<HashList<'a>> {
+    let path = matches.get_str(id::HASH_LIST)?;
+    Some(HashList {
+        path,
+        end: end_in(matches),
+    })
+}
+
+// The byte that ends each path or hash of a list.
+fn end_in(matches: &ArgMatches<'_>) -> u8 {
+    if matches.get_flag(id::NULL) { 0 } else { b'\n' }
 }
 
 fn sources_in<'a>(alloc: Global, matches: &ArgMatches<'a>) -> Result<Sources<'a>, Refusal<'a>> {
@@ -228,6 +195,8 @@ fn sources_in<'a>(alloc: Global, matches: &ArgMatches<'a>) -> Result<Sources<'a>
     Ok(Sources {
         words,
         list: matches.get_str(id::LIST),
+        hashes: hash_list_in(matches),
+        end: end_in(matches),
     })
 }
 
@@ -279,10 +248,28 @@ fn making_in<'a>(
                 aux_ext: !matches.get_flag(id::NO_AUX),
             },
         ),
-        "subset" => Making::Subset(text_of(matches, id::FILE)?, subset_in(alloc, matches, now)?),
+        "subset" => Making::Subset(
+            text_of(matches, id::FILE)?,
+            subset_in(alloc, matches, now)?,
+            hash_list_in(matches),
+        ),
+        "drop" => Making::Drop(dropping_in(alloc, matches)?),
         _ => return Ok(None),
     };
     Ok(Some(making))
+}
+
+fn dropping_in<'a>(alloc: Global, matches: &ArgMatches<'a>) -> Result<Dropping<'a>, Refusal<'a>> {
+    let list = hash_list_in(matches);
+    if list.is_none() && !matches.contains_id(id::HASHES) {
+        return Err(Refusal::Missing(id::HASHES));
+    }
+    Ok(Dropping {
+        file: text_of(matches, id::FILE)?,
+        hashes: given_hashes(alloc, matches, id::HASHES)?,
+        list,
+        expiry: time_in(matches, id::EXPIRY)?,
+    })
 }
 
 fn pair_in<'a>(operation: Operation, matches: &ArgMatches<'a>) -> Result<Making<'a>, Refusal<'a>> {
@@ -291,7 +278,11 @@ fn pair_in<'a>(operation: Operation, matches: &ArgMatches<'a>) -> Result<Making<
     Ok(Making::Combine(operation, first, second))
 }
 
-fn merge_in<'a>(matches: &ArgMatches<'a>) -> Result<Merge<'a>, Refusal<'a>> {
+fn merge_in<'a>(matches: &ArgMatches<'a>, now: Option<u64>) -> Result<Merge<'a>, Refusal<'a>> {
+    let expired_by = match matches.get_flag(id::DROP_EXPIRED) {
+        true => Some(now_in(matches, now)?),
+        false => None,
+    };
     Ok(Merge {
         target: target_in(matches)?,
         strictness: strictness_in(matches),
@@ -299,7 +290,21 @@ fn merge_in<'a>(matches: &ArgMatches<'a>) -> Result<Merge<'a>, Refusal<'a>> {
         by_key: matches.contains_id(id::FOLDER),
         expiry: time_in(matches, id::EXPIRY)?,
         memory: size_in(matches, id::MEMORY)?,
+        expired_by,
+        compaction: compaction_in(matches)?,
     })
+}
+
+// How shards are merged in groups, if a folder for the merges is given.
+fn compaction_in<'a>(matches: &ArgMatches<'a>) -> Result<Option<Compaction>, Refusal<'a>> {
+    if !matches.contains_id(id::GROUPS) {
+        return Ok(None);
+    }
+    match (size_in(matches, id::MAX_SIZE)?, hash_key_in(matches)?) {
+        (Some(max_size), Some(hash_key)) => Ok(Some(Compaction { max_size, hash_key })),
+        (None, _) => Err(Refusal::Missing(id::MAX_SIZE)),
+        (_, None) => Err(Refusal::Missing(id::HASH_KEY)),
+    }
 }
 
 fn size_in<'a>(matches: &ArgMatches<'a>, id: &'static str) -> Result<Option<u64>, Refusal<'a>> {
@@ -325,9 +330,9 @@ fn target_in<'a>(matches: &ArgMatches<'a>) -> Result<Target<'a>, Refusal<'a>> {
 
 // The path to write to: of a merge by keys a folder.
 fn output_in<'a>(matches: &ArgMatches<'a>) -> Result<&'a str, Refusal<'a>> {
-    match matches.get_str(id::FOLDER) {
-        Some(folder) => Ok(folder),
-        None => text_of(matches, id::OUTPUT),
+    match (matches.get_str(id::FOLDER), matches.get_str(id::GROUPS)) {
+        (Some(folder), _) | (None, Some(folder)) => Ok(folder),
+        (None, None) => text_of(matches, id::OUTPUT),
     }
 }
 

@@ -1,6 +1,7 @@
 //! The command line of the program, with its help.
 
-use crate::command_table::{Argument, Row, Takes, VERSIONS, commands, id};
+use crate::command_table::{Argument, Row, Takes, VERSIONS, inquiries, makings};
+use crate::id;
 use clap::{Arg, ArgAction, Command, value_parser};
 use std::alloc::{AllocError, Global};
 
@@ -15,7 +16,10 @@ pub fn command_line<'a>(alloc: Global) -> Result<Command<'a>, AllocError> {
         .version(VERSION)
         .subcommand_required(true)
         .arg_required_else_help(true);
-    for row in commands() {
+    for row in inquiries() {
+        command = command.subcommand(command_of(alloc, row)?)?;
+    }
+    for row in makings() {
         command = command.subcommand(command_of(alloc, row)?)?;
     }
     Ok(command)
@@ -23,13 +27,21 @@ pub fn command_line<'a>(alloc: Global) -> Result<Command<'a>, AllocError> {
 
 /// A command by its name, or the whole command line if none has it.
 pub fn command_named<'a>(alloc: Global, name: &str) -> Result<Command<'a>, AllocError> {
-    for row in commands() {
+    let named = row_named(inquiries(), name).or(row_named(makings(), name));
+    let Some(row) = named else {
+        return command_line(alloc);
+    };
+    let bin_name = format!(in alloc; "mdb {name}")?;
+    command_of(alloc, row)?.bin_name(bin_name.as_str())
+}
+
+fn row_named(rows: &'static [Row], name: &str) -> Option<&'static Row> {
+    for row in rows {
         if row.name == name {
-            let bin_name = format!(in alloc; "mdb {name}")?;
-            return command_of(alloc, row)?.bin_name(bin_name.as_str());
+            return Some(row);
         }
     }
-    command_line(alloc)
+    None
 }
 
 fn command_of<'a>(alloc: Global, row: &Row) -> Result<Command<'a>, AllocError> {
@@ -52,8 +64,13 @@ fn arg_of<'a>(alloc: Global, argument: &Argument) -> Result<Arg<'a>, AllocError>
     }
     match argument.takes {
         Takes::ValuesOrList => arg.num_args(1..).required_unless_present(id::LIST),
-        Takes::OutputOrFolder => arg.short('o').required_unless_present(id::FOLDER),
+        Takes::OutputOrFolder => arg
+            .short('o')
+            .required_unless_present_any(&[id::FOLDER, id::GROUPS]),
         Takes::Folder => arg.conflicts_with(id::OUTPUT),
+        Takes::Groups => arg.conflicts_with_all(&[id::OUTPUT, id::FOLDER]),
+        Takes::ValueWithoutGroups => arg.conflicts_with(id::GROUPS),
+        Takes::NothingWithoutCosts => arg.action(ArgAction::SetTrue).conflicts_with(id::COSTS),
         takes => Ok(taking(arg, takes)),
     }
 }

@@ -1,63 +1,6 @@
 //! The commands of the program and their arguments, as a table.
 
-use crate::help;
-
-/// The ids of arguments, which usage shows as the names of values.
-pub mod id {
-    pub const FILE: &str = "FILE";
-
-    pub const FIRST: &str = "A";
-
-    pub const SECOND: &str = "B";
-
-    pub const LIST: &str = "LIST";
-
-    pub const HASHES: &str = "HASH";
-
-    pub const OUTPUT: &str = "OUT";
-
-    pub const KEY: &str = "HEX";
-
-    pub const HASH_KEY: &str = "KEY";
-
-    pub const NOW: &str = "NOW";
-
-    pub const VALID: &str = "VALID";
-
-    pub const EXPIRY: &str = "EXPIRY";
-
-    pub const XORBS: &str = "XORB";
-
-    pub const JSON: &str = "json";
-
-    pub const LONG: &str = "long";
-
-    pub const COSTS: &str = "costs";
-
-    pub const BRIEF: &str = "brief";
-
-    pub const NAME: &str = "name";
-
-    pub const FOLDER: &str = "FOLDER";
-
-    pub const VERSION: &str = "VERSION";
-
-    pub const VERBOSE: &str = "verbose";
-
-    pub const STRICT: &str = "strict";
-
-    pub const MEMORY: &str = "SIZE";
-
-    pub const VERIFICATION: &str = "verification";
-
-    pub const NO_FILES: &str = "no-files";
-
-    pub const NO_AUX: &str = "no-aux";
-
-    pub const NO_XORB_TABLE: &str = "no-xorb-table";
-
-    pub const NO_CHUNK_TABLE: &str = "no-chunk-table";
-}
+use crate::{help, id};
 
 /// The versions of the format that can be written.
 pub const VERSIONS: &[&str] = &["2", "3"];
@@ -95,6 +38,12 @@ pub enum Takes {
     OutputOrFolder,
     /// The folder to write to, in place of an output.
     Folder,
+    /// The folder to write groups to, in place of an output or a folder.
+    Groups,
+    /// Nothing: it is a flag that does not go with costs.
+    NothingWithoutCosts,
+    /// A value that does not go with groups.
+    ValueWithoutGroups,
 }
 
 /// A command.
@@ -154,6 +103,18 @@ const LIST: Argument = option!(
     "A list of shards and folders, a path a line, or - for standard input"
 );
 
+const NULL: Argument = flag!(
+    NULL,
+    "Each path or hash of a list ends with a zero byte, not a line"
+);
+
+const HASH_LIST: Argument = option!(
+    HASH_LIST,
+    "hashes-from",
+    Value,
+    "A list of more hashes, one a line, or - for standard input"
+);
+
 const NOW: Argument = option!(
     NOW,
     "now",
@@ -181,12 +142,17 @@ const OUTPUT: Argument = option!(
     "The file to write, or - for standard output"
 );
 
-/// The commands, in the order of the help.
-pub fn commands() -> &'static [Row] {
-    COMMANDS
+/// The commands that look into shards, in the order of the help.
+pub fn inquiries() -> &'static [Row] {
+    INQUIRIES
 }
 
-const COMMANDS: &[Row] = &[
+/// The commands that write shards, in the order of the help, behind those that look into them.
+pub fn makings() -> &'static [Row] {
+    MAKINGS
+}
+
+const INQUIRIES: &[Row] = &[
     Row {
         name: "info",
         about: "Prints what headers and footers say",
@@ -195,6 +161,7 @@ const COMMANDS: &[Row] = &[
         arguments: &[
             FILES,
             LIST,
+            NULL,
             flag!(BRIEF, "Prints a line for each, and a total"),
             JSON,
         ],
@@ -204,21 +171,21 @@ const COMMANDS: &[Row] = &[
         about: "Lists the files",
         examples: help::FILES,
         usage: None,
-        arguments: &[FILES, LIST, LONG, JSON],
+        arguments: &[FILES, LIST, NULL, LONG, JSON],
     },
     Row {
         name: "xorbs",
         about: "Lists the xorbs",
         examples: help::XORBS,
         usage: None,
-        arguments: &[FILES, LIST, LONG, JSON],
+        arguments: &[FILES, LIST, NULL, LONG, JSON],
     },
     Row {
         name: "chunks",
         about: "Lists the chunks of the xorbs",
         examples: help::CHUNKS,
         usage: None,
-        arguments: &[FILES, LIST, LONG, JSON],
+        arguments: &[FILES, LIST, NULL, LONG, JSON],
     },
     Row {
         name: "find",
@@ -234,6 +201,14 @@ const COMMANDS: &[Row] = &[
                 EachValue,
                 "The hash of a file, of 64 hexadecimal digits; it may be given again"
             ),
+            HASH_LIST,
+            NULL,
+            Argument {
+                id: id::OF_XORBS,
+                long: Some(id::OF_XORBS),
+                help: "Looks xorbs up in place of files",
+                takes: Takes::NothingWithoutCosts,
+            },
             flag!(COSTS, "Prints the seeks and the bytes read of each lookup"),
             JSON,
         ],
@@ -252,6 +227,8 @@ const COMMANDS: &[Row] = &[
                 EachValue,
                 "The hash of a chunk, of 64 hexadecimal digits; given again, of those that follow it"
             ),
+            HASH_LIST,
+            NULL,
             JSON,
         ],
     },
@@ -263,6 +240,7 @@ const COMMANDS: &[Row] = &[
         arguments: &[
             FILES,
             LIST,
+            NULL,
             flag!(
                 NAME,
                 "Checks too that each name is 64 hexadecimal digits and .mdb"
@@ -284,6 +262,7 @@ const COMMANDS: &[Row] = &[
         arguments: &[
             FILES,
             LIST,
+            NULL,
             option!(
                 HASH_KEY,
                 "hash-key",
@@ -293,6 +272,9 @@ const COMMANDS: &[Row] = &[
             JSON,
         ],
     },
+];
+
+const MAKINGS: &[Row] = &[
     Row {
         name: "union",
         about: "Writes the union of two shards",
@@ -315,15 +297,26 @@ const COMMANDS: &[Row] = &[
         arguments: &[
             FILES,
             LIST,
+            NULL,
             flag!(
                 STRICT,
                 "Fails with status 3 if two shards have different records with one hash"
             ),
             flag!(VERBOSE, "Reports each file as it is read"),
+            flag!(
+                DROP_EXPIRED,
+                "Leaves shards out whose expiry has come by --now"
+            ),
+            option!(
+                NOW,
+                "now",
+                Value,
+                "The time by which shards have expired; by default that of the clock"
+            ),
             option!(
                 MEMORY,
                 "memory",
-                Value,
+                ValueWithoutGroups,
                 "About how much memory to take, as 256M; the shards are then read and merged in parts"
             ),
             option!(
@@ -338,6 +331,24 @@ const COMMANDS: &[Row] = &[
                 "by-key",
                 Folder,
                 "The folder to write to, a shard for each key, by the key's name"
+            ),
+            option!(
+                GROUPS,
+                "to",
+                Groups,
+                "The folder to write to, a shard for each group of files, by the hash of its bytes"
+            ),
+            option!(
+                MAX_SIZE,
+                "max-size",
+                Value,
+                "With --to: the most bytes that the files of a group have together, as 64M"
+            ),
+            option!(
+                HASH_KEY,
+                "hash-key",
+                Value,
+                "With --to: the key of the hashes, of 64 hexadecimal digits"
             ),
             option!(
                 OUTPUT,
@@ -394,6 +405,33 @@ const COMMANDS: &[Row] = &[
                 EachValue,
                 "The hash of a xorb to keep; without, all are kept"
             ),
+            HASH_LIST,
+            NULL,
+            FORMAT,
+            OUTPUT,
+        ],
+    },
+    Row {
+        name: "drop",
+        about: "Writes a shard without some of its files and xorbs",
+        examples: help::DROP,
+        usage: None,
+        arguments: &[
+            FILE,
+            option!(
+                HASHES,
+                "hash",
+                EachValue,
+                "The hash of a file or a xorb to leave out; it may be given again"
+            ),
+            HASH_LIST,
+            NULL,
+            option!(
+                EXPIRY,
+                "expiry",
+                Value,
+                "The time of expiry of what is written; without, there is none"
+            ),
             FORMAT,
             OUTPUT,
         ],
@@ -403,6 +441,6 @@ const COMMANDS: &[Row] = &[
         about: "Lists the hashes of the chunks that the global index keeps, in ascending order",
         examples: help::ELIGIBLE,
         usage: None,
-        arguments: &[FILES, LIST, JSON],
+        arguments: &[FILES, LIST, NULL, JSON],
     },
 ];

@@ -53,14 +53,18 @@ pub fn read_shard<R: Files + Input + AllocGlobal>(rt: &R, path: &str) -> io::Res
 // What is read of a shard from its start on; of a file its size, else 0.
 fn contents_of<F: Read>(alloc: Global, file: &mut F, size: u64) -> io::Result<Contents> {
     let mut ends = Vec::new(alloc);
-    file.by_ref()
-        .take(ENDS_SIZE as u64)
-        .read_to_end(&mut ends)?;
+    file.by_ref().take(ENDS_SIZE as u64).read_to_end(&mut ends)?;
     if ends.len() < ENDS_SIZE {
-        return Ok(Contents { bytes: ends, whole: true });
+        return Ok(Contents {
+            bytes: ends,
+            whole: true,
+        });
     }
     if !is_worth_reading(alloc, ends.as_slice()) {
-        return Ok(Contents { bytes: ends, whole: false });
+        return Ok(Contents {
+            bytes: ends,
+            whole: false,
+        });
     }
     let room = usize::try_from(size).unwrap_or(usize::MAX).max(ENDS_SIZE);
     let mut bytes = Vec::with_capacity(alloc, room)?;

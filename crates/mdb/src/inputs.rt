@@ -1,8 +1,8 @@
 //! Which shards a command reads.
 
-use crate::arguments::Sources;
 use crate::failure::Failure;
 use crate::files::{STANDARD_STREAM, read};
+use crate::request::Sources;
 use crate::run::failed;
 use crate::words::escaped;
 use mdb_report::fault::Fault;
@@ -64,7 +64,7 @@ pub fn inputs_of<R: Files + Input + Eprint + AllocGlobal + Clone + Drop>(
         }
     }
     if let Some(list) = sources.list {
-        inputs.add_list(rt, list)?;
+        inputs.add_list(rt, list, sources.end)?;
     }
     Ok(inputs)
 }
@@ -126,11 +126,12 @@ impl Inputs {
         Ok(())
     }
 
-    // Adds the paths of a list, one a line.
+    // Adds the paths of a list, each of which ends with this byte.
     fn add_list<R: Files + Input + Eprint + AllocGlobal + Clone + Drop>(
         &mut self,
         rt: &R,
         list: &str,
+        end: u8,
     ) -> Result<(), OutOfMemory> {
         let bytes = match read(rt, list) {
             Ok(bytes) => bytes,
@@ -139,7 +140,7 @@ impl Inputs {
                 return Ok(());
             }
         };
-        for line in bytes.as_slice().split(|byte| *byte == b'\n') {
+        for line in bytes.as_slice().split(|byte| *byte == end) {
             match str::from_utf8(line) {
                 Ok("") => {}
                 Ok(path) => self.add(rt, path)?,

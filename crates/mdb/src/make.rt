@@ -1,10 +1,11 @@
 //! The commands that write a shard.
 
-use crate::arguments::{Making, Target};
 use crate::beside::leftovers;
 use crate::blame::blamed;
+use crate::dropping::without_records;
 use crate::failure::Failure;
 use crate::files::{Contents, STANDARD_STREAM, read_shard, write};
+use crate::request::{Making, Target};
 use mdb_report::fault::{Fault, export_fault, fault_of, minimal_fault, version_2_fault};
 use shard_bytes::combine::{Operation, combine_bytes};
 use shard_bytes::export::{Export, export_bytes};
@@ -93,7 +94,8 @@ fn made<'a, R: Files + Input + Eprint + AllocGlobal>(
         Making::Combine(operation, first, second) => combined(rt, *operation, first, second),
         Making::Export(file, export) => exported(rt, file, export),
         Making::Minimal(file, now, kept) => minimal(rt, file, *now, *kept),
-        Making::Subset(file, kept) => subset(rt, file, kept),
+        Making::Subset(file, kept, _) => subset(rt, file, kept),
+        Making::Drop(dropping) => without_records(rt, dropping),
     }
 }
 
@@ -108,8 +110,8 @@ pub fn contents_of<'a, R: Files + Input + AllocGlobal>(
     }
 }
 
-// The bytes of it.
-fn bytes_of<'a, R: Files + Input + AllocGlobal>(
+/// The bytes of it.
+pub fn bytes_of<'a, R: Files + Input + AllocGlobal>(
     rt: &R,
     file: &'a str,
 ) -> Result<Vec<u8>, Failure<'a>> {

@@ -1,11 +1,13 @@
 //! The command that merges shards.
 
-use crate::arguments::{Merge, Strictness};
 use crate::blame::{blamed, disagreement, malformed, on_all};
+use crate::compaction::merge_groups;
+use crate::expired::without_expired;
 use crate::failure::Failure;
 use crate::files::{Contents, STANDARD_STREAM};
 use crate::make::{contents_of, in_version, put};
 use crate::progress::{Progress, Stage};
+use crate::request::{Merge, Strictness};
 use crate::rounds::merge_in_rounds;
 use crate::terminals::Terminals;
 use mdb_report::fault::{Fault, fault_of};
@@ -29,25 +31,40 @@ pub fn merge_files<
     if terminals.output && merge.target.path == STANDARD_STREAM {
         return Err(Failure::on_output(Fault::Terminal));
     }
+    if let Some(now) = merge.expired_by {
+        let kept = without_expired(rt, files, now, merge.verbose)?;
+        return merge_kept(rt, kept.as_slice(), merge, terminals);
+    }
+    merge_kept(rt, files, merge, terminals)
+}
+
+// Writes the merge of the shards in files of which none is left out.
+fn merge_kept<
+    'a,
+    R: Files + Input + Clock + Print + Eprint + RandomSource + AllocGlobal + Clone + Drop,
+>(rt: &R, files: &[&'a str], merge: Merge<'a>, terminals: Terminals) -> Result<(), Failure<'a>> {
     if files.is_empty() {
         return Err(Failure::on_words(Fault::NoFiles));
     }
     let mut progress = Progress::new(rt, terminals.error && !merge.verbose);
-    if let Some(memory) = merge.memory {
-        let made = merge_in_rounds(rt, files, merge, memory, &mut progress);
-        progress.clear(rt);
-        return made;
-    }
-    let contents = contents_of_all(rt, files, merge.verbose, &mut progress);
-    let made = match contents {
-        Ok(contents) => {
-            progress.show(rt, Stage::Merging(files.len()));
-            merge_contents(rt, files, contents.as_slice(), merge, &mut progress)
-        }
-        Err(failure) => Err(failure),
+    let progress = &mut progress;
+    let made = match (merge.compaction, merge.memory) {
+        (Some(compaction), _) => merge_groups(rt, files, merge, compaction, progress),
+        (None, Some(memory)) => merge_in_rounds(rt, files, merge, memory, progress),
+        (None, None) => merge_in_memory(rt, files, merge, progress),
     };
     progress.clear(rt);
     made
+}
+
+// The same of shards that are all in memory.
+fn merge_in_memory<
+    'a,
+    R: Files + Input + Clock + Print + Eprint + RandomSource + AllocGlobal + Clone + Drop,
+>(rt: &R, files: &[&'a str], merge: Merge<'a>, progress: &mut Progress) -> Result<(), Failure<'a>> {
+    let contents = contents_of_all(rt, files, merge.verbose, progress)?;
+    progress.show(rt, Stage::Merging(files.len()));
+    merge_contents(rt, files, contents.as_slice(), merge, progress)
 }
 
 // Merges the shards with these bytes.
@@ -72,8 +89,8 @@ fn merge_contents<'a, R: Files + Print + Eprint + RandomSource + AllocGlobal + C
     put(rt, merge.target.path, bytes.as_slice())
 }
 
-// The bytes of each file. All are read once, since standard input and pipes cannot be read again.
-fn contents_of_all<'a, R: Files + Input + Clock + Eprint + AllocGlobal>(
+/// The bytes of each file. All are read once, since standard input and pipes cannot be read again.
+pub fn contents_of_all<'a, R: Files + Input + Clock + Eprint + AllocGlobal>(
     rt: &R,
     files: &[&'a str],
     verbose: bool,
@@ -187,8 +204,8 @@ fn those_under<T: Copy>(
     Ok(found)
 }
 
-// The union of the inputs, with an expiry if one is wanted, in the version of the target.
-fn merged<'a, R: Eprint + AllocGlobal>(
+/// The union of the inputs, with an expiry if one is wanted, in the version of the target.
+pub fn merged<'a, R: Eprint + AllocGlobal>(
     rt: &R,
     files: &[&'a str],
     inputs: &[&[u8]],

@@ -20,7 +20,7 @@ use crate::files::{Place, STANDARD_STREAM, is_worth_reading, place_at, rename_ov
 use crate::make::report_leftovers;
 use crate::merge::report_size;
 use crate::progress::{Progress, Stage};
-use crate::arguments::Merge;
+use crate::request::Merge;
 use assembly::Assembly;
 use mdb_report::fault::{Fault, fault_of};
 use parts::merge_parts;

@@ -3,12 +3,14 @@
 ghost use Rattle.std.specs.Prelude.{◌≡◌, ◌≤◌};
 ghost use Rattle.mdb.specs.Status.{number_of, after_finding};
 
-use crate::arguments::{Merge, Request, Sources, request_of};
+use crate::arguments::request_of;
 use crate::failure::Failure;
+use crate::hash_list::add_listed;
 use crate::inputs::inputs_of;
 use crate::inspect::inspect;
 use crate::make::make;
 use crate::merge::merge_files;
+use crate::request::{Merge, Request, Sources};
 use crate::terminals::Terminals;
 use crate::words::{Words, WordsError, read_words};
 use mdb_report::fault::Fault;
@@ -73,7 +75,10 @@ fn status_of_words<
     R: Files + Input + Clock + Print + Eprint + RandomSource + AllocGlobal + Clone + Drop,
 >(rt: &R, words: &Words, terminals: Terminals) -> Status {
     match request_of(rt.alloc(), words.texts.as_slice(), seconds_now(rt)) {
-        Ok(request) => status_of(rt, &request, words.unreadable.as_slice(), terminals),
+        Ok(mut request) => match add_listed(rt, &mut request) {
+            Ok(()) => status_of(rt, &request, words.unreadable.as_slice(), terminals),
+            Err(failure) => failed(rt, &failure),
+        },
         Err(error) => {
             if error.print(rt).is_err() {
                 return Status::Failed;

@@ -4,7 +4,7 @@ use Rattle.xet_core_structures.specs.declared.shard_format.MDBShardInfo.{MDBShar
 use Rattle.xet_core_structures.specs.Ends.{HasHeaderAndFooter}
 use Rattle.shard_bytes.specs.Checking.{IsIntact}
 use Rattle.mdb_report.specs.declared.inquiry.Inquiry.{Inquiry}
-use Rattle.mdb_report.specs.declared.inquiry.Inquiry.TheVariants.{Summary, Brief, Check, Find, Query}
+use Rattle.mdb_report.specs.declared.inquiry.Inquiry.TheVariants.{Summary, Brief, Check, Find, FindXorbs, Query}
 use Rattle.mdb_report.specs.declared.parts.Parts.{Parts}
 use Rattle.mdb_report.specs.Parts.{PartsAscend}
 use Rattle.mdb_report.specs.Summary.{ArePartsOf}
@@ -16,9 +16,10 @@ FindsProblems Brief = ⊤
 FindsProblems (Check named key) = ⊤
 FindsProblems _ = ⊥
 
--- the inquiry looks something up: files by their hashes, or a run of chunks
+-- the inquiry looks something up: files or xorbs by their hashes, or a run of chunks
 abbrev pub LooksUp : Inquiry → Type 0
 LooksUp (Find hashes costs) = ⊤
+LooksUp (FindXorbs hashes) = ⊤
 LooksUp (Query hashes) = ⊤
 LooksUp _ = ⊥
 
@@ -27,6 +28,7 @@ LooksUp _ = ⊥
 abbrev pub SaysNoMore : Inquiry → Bool → Type 0
 SaysNoMore Brief named = ⊥
 SaysNoMore (Find hashes costs) named = (costs ≡ true) ⊎ (named ≡ false)
+SaysNoMore (FindXorbs hashes) named = named ≡ false
 SaysNoMore (Query hashes) named = named ≡ false
 SaysNoMore _ named = ⊤
 

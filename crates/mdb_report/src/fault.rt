@@ -46,6 +46,10 @@ pub enum Fault {
     NoTable(Table),
     /// No xorb of the shard has this hash.
     NoXorb(MerkleHash),
+    /// No file and no xorb of the shard has this hash.
+    NoRecord(MerkleHash),
+    /// This line of a list of hashes is not the digits of one.
+    NoHash(u64),
     /// A lookup still lacks pages of the file after all the rounds in which they are read.
     TooManyRounds,
     /// There is nothing to merge.
@@ -107,6 +111,10 @@ impl fmt::Display for Fault {
             }
             Fault::NoTable(table) => write!(f, "it has no {table}, which this needs"),
             Fault::NoXorb(hash) => write!(f, "no xorb has the hash {hash}"),
+            Fault::NoRecord(hash) => write!(f, "no file and no xorb has the hash {hash}"),
+            Fault::NoHash(line) => {
+                write!(f, "line {line} is no hash: it has 64 hexadecimal digits")
+            }
             Fault::TooManyRounds => write!(
                 f,
                 "the lookup gave up: it has read from the file too many times"
@@ -118,13 +126,10 @@ impl fmt::Display for Fault {
                 f,
                 "it is a terminal: write the shard to a file, by -o, or to a pipe"
             ),
-            Fault::NoParts => write!(
-                f,
-                "no regular file, which is needed to read it in parts, by --memory"
-            ),
+            Fault::NoParts => write!(f, "it is no regular file, so it can't be read in parts"),
             Fault::NoPlace => write!(
                 f,
-                "a merge in parts, by --memory, is written to a regular file alone"
+                "it is no regular file, and a merge by --memory is written to one alone"
             ),
             Fault::Changed => write!(f, "it was changed while it was read"),
             Fault::Other(error) => write!(f, "{error}"),

@@ -15,6 +15,7 @@ use crate::records::{ChunkReport, XorbReport, file_reports};
 use crate::summary::Summary;
 use crate::tables::{Table, lacks_chunk_table, lacks_file_table};
 use crate::tally::Tally;
+use crate::xorb_printing::{find_xorbs, print_lacking};
 use shard_bytes::check::Section;
 use shard_bytes::load::load_bytes;
 use shard_bytes::minimal::eligible_chunks;
@@ -61,6 +62,10 @@ pub enum Inquiry {
         hashes: Vec<MerkleHash>,
         costs: bool,
     },
+    /// The xorbs with these hashes.
+    FindXorbs {
+        hashes: Vec<MerkleHash>,
+    },
     /// A run of these chunks.
     Query {
         hashes: Vec<MerkleHash>,
@@ -75,7 +80,7 @@ impl Inquiry {
         ensures { IsTrue result ↔ LooksUp self.now }
     {
         match self {
-            Inquiry::Find { .. } | Inquiry::Query { .. } => true,
+            Inquiry::Find { .. } | Inquiry::FindXorbs { .. } | Inquiry::Query { .. } => true,
             _ => false,
         }
     }
@@ -181,6 +186,9 @@ pub fn print_answer<W: Write>(
                 output,
             );
         }
+        Inquiry::FindXorbs { hashes } => {
+            return find_xorbs(alloc, bytes, hashes.as_slice(), layout, tally, output);
+        }
         Inquiry::Query { hashes } => {
             return query(alloc, bytes, hashes.as_slice(), layout, tally, output);
         }
@@ -219,6 +227,9 @@ pub fn print_end<W: Write>(
                 }
             }
             Ok(())
+        }
+        Inquiry::FindXorbs { hashes } if named => {
+            print_lacking(alloc, hashes.as_slice(), layout, tally, output)
         }
         Inquiry::Query { .. } if named && !tally.has_run => {
             print(alloc, &RunReport { run: None }, layout, output)

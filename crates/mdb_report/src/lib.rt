@@ -24,3 +24,5 @@ pub mod size;
 pub mod summary;
 pub mod tables;
 pub mod tally;
+pub mod xorb_lookup;
+pub mod xorb_printing;

@@ -13,6 +13,7 @@ use crate::inquiry::Trouble;
 use crate::lookup::{FoundReport, RunReport};
 use crate::paged_source::PagedSource;
 use crate::pages::{PAGE_SIZE, Page, Pages};
+use crate::xorb_lookup::FoundXorb;
 use std::alloc::{AllocError, Global};
 use std::io;
 use std::io::{Read, Seek, SeekFrom};
@@ -91,6 +92,30 @@ impl<F: Read + Seek + Drop> PagedFile<F> {
                 Err(error) => error,
             };
             match source.inner().missing() {
+                Some(number) => self.read_from(alloc, number, round)?,
+                None => return Err(Trouble::Shard(error)),
+            }
+        }
+        Err(Trouble::TooManyRounds)
+    }
+
+    /// Looks up a xorb in the shard, which has this header and footer. The errors are those of
+    /// `find`.
+    pub fn find_xorb(
+        &mut self,
+        alloc: Global,
+        info: &MDBShardInfo,
+        hash: MerkleHash,
+    ) -> Result<FoundXorb, Trouble>
+        ensures { IfOk result (λ report. report.hash.0 ≡ hash) }
+    {
+        for round in 0..ROUNDS {
+            let mut source = PagedSource::new(&self.pages);
+            let error = match FoundXorb::in_source(alloc, info, &mut source, hash) {
+                Ok(report) => return Ok(report),
+                Err(error) => error,
+            };
+            match source.missing() {
                 Some(number) => self.read_from(alloc, number, round)?,
                 None => return Err(Trouble::Shard(error)),
             }

@@ -13,6 +13,7 @@ use crate::records::FileReport;
 use crate::section::Section;
 use crate::summary::Summary;
 use crate::tally::Tally;
+use crate::xorb_printing::print_xorb_lookup;
 use shard_bytes::check::Section as Part;
 use std::alloc::Global;
 use std::io::{BufReader, Read, Seek, Write};
@@ -69,6 +70,11 @@ pub fn print_paged_answer<F: Read + Seek + Drop, W: Write>(
             )?;
             return Ok(Some(answer));
         }
+        Inquiry::FindXorbs { hashes } if info.metadata.xorb_lookup_num_entry != 0 => {
+            let hashes = hashes.as_slice();
+            let answer = find_xorbs(alloc, &mut file, &info, hashes, layout, tally, output)?;
+            return Ok(Some(answer));
+        }
         Inquiry::Query { hashes } if info.metadata.chunk_lookup_num_entry != 0 => {
             let report = file.query(alloc, &info, hashes.as_slice())?;
             return Ok(Some(print_run(alloc, &report, layout, tally, output)?));
@@ -95,6 +101,30 @@ fn find<F: Read + Seek + Drop, W: Write>(
     for hash in hashes {
         let report = file.find(alloc, info, *hash, costs)?;
         found |= print_lookup(alloc, &report, layout, tally, output)?;
+    }
+    if found {
+        Ok(Answer::Printed)
+    } else {
+        Ok(Answer::FoundNothing)
+    }
+}
+
+// Looks xorbs up.
+fn find_xorbs<F: Read + Seek + Drop, W: Write>(
+    alloc: Global,
+    file: &mut PagedFile<F>,
+    info: &MDBShardInfo,
+    hashes: &[MerkleHash],
+    layout: Layout<'_>,
+    tally: &mut Tally,
+    output: &mut W,
+) -> Result<Answer, Trouble>
+    ensures { IfOk result (λ answer. answer ≢ Answer.FoundProblems) }
+{
+    let mut found = false;
+    for hash in hashes {
+        let report = file.find_xorb(alloc, info, *hash)?;
+        found |= print_xorb_lookup(alloc, &report, layout, tally, output)?;
     }
     if found {
         Ok(Answer::Printed)

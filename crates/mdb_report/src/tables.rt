@@ -17,6 +17,7 @@ use xet_core_structures::xorb_structs::XorbChunkSequenceHeader;
 #[derive(Clone, Copy, Debug, PartialEq, Eq)]
 pub enum Table {
     Files,
+    Xorbs,
     Chunks,
 }
 
@@ -24,6 +25,7 @@ impl fmt::Display for Table {
     fn fmt<W: fmt::Write>(&self, f: &mut fmt::Formatter<W>) -> fmt::Result {
         match self {
             Table::Files => write!(f, "file table"),
+            Table::Xorbs => write!(f, "xorb table"),
             Table::Chunks => write!(f, "chunk table"),
         }
     }

@@ -10,7 +10,7 @@ use crate::failure::Failure;
 use crate::make::in_version;
 use crate::merge::{report_choice, report_oddity};
 use crate::progress::{Progress, Stage};
-use crate::arguments::{Merge, Strictness};
+use crate::request::{Merge, Strictness};
 use mdb_report::fault::Fault;
 use shard_bytes::check::Section;
 use shard_bytes::merge::merge_bytes;

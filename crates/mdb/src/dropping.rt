@@ -1,0 +1,151 @@
+//! The command that takes records out of a shard.
+
+use crate::blame::blamed;
+use crate::failure::Failure;
+use crate::make::bytes_of;
+use crate::request::Dropping;
+use crate::rounds::block::{put_bookend, put_footer};
+use mdb_report::fault::{Fault, fault_of};
+use mdb_report::section::Section;
+use shard_bytes::combine::{Operation, combine_bytes};
+use shard_bytes::expiry::with_expiry;
+use shard_bytes::load::load_bytes;
+use std::alloc::Global;
+use std::rt::Files;
+use xet_core_structures::error::{CoreError, Result as ShardResult};
+use xet_core_structures::file_structs::FileDataSequenceHeader;
+use xet_core_structures::merklehash::{HMACKey, MerkleHash};
+use xet_core_structures::shard_format::{MDBShardFileHeader, MDBShardInfo};
+use xet_core_structures::xorb_structs::XorbChunkSequenceHeader;
+use xet_records::record_reader::FormatVersion;
+
+/// The bytes of a shard without the files and xorbs that have some hashes: its difference from a
+/// shard of records with these hashes. A hash that no record has is reported, and is a failure.
+pub fn without_records<'a, R: Files + Input + Eprint + AllocGlobal>(
+    rt: &R,
+    dropping: &Dropping<'a>,
+) -> Result<Vec<u8>, Failure<'a>> {
+    let alloc = rt.alloc();
+    let file = dropping.file;
+    let bytes = bytes_of(rt, file)?;
+    let dropped = match load_bytes(alloc, bytes.as_slice()) {
+        Ok(info) => {
+            has_records(
+                rt,
+                file,
+                bytes.as_slice(),
+                &info,
+                dropping.hashes.as_slice(),
+            )?;
+            hash_shard(
+                alloc,
+                dropping.hashes.as_slice(),
+                info.metadata.chunk_hash_hmac_key,
+            )
+        }
+        Err(error) => Err(error),
+    };
+    let dropped = match dropped {
+        Ok(dropped) => dropped,
+        Err(error) => return Err(failed_on(alloc, file, bytes.as_slice(), error)),
+    };
+    let kept = combine_bytes(
+        alloc,
+        Operation::Difference,
+        dropped.as_slice(),
+        bytes.as_slice(),
+    );
+    let written = match (kept, dropping.expiry) {
+        (Ok(kept), Some(expiry)) => with_expiry(alloc, kept, expiry),
+        (kept, _) => kept,
+    };
+    match written {
+        Ok(written) => Ok(written),
+        Err(error) => Err(blamed(alloc, &[file], &[bytes.as_slice()], error)),
+    }
+}
+
+fn failed_on<'a>(alloc: Global, file: &'a str, bytes: &[u8], error: CoreError) -> Failure<'a> {
+    Failure::on_file(file, fault_of(alloc, bytes, error))
+}
+
+// Reports each hash that no record of the shard has, and fails if there is one.
+fn has_records<'a, R: Eprint + AllocGlobal>(
+    rt: &R,
+    file: &'a str,
+    bytes: &[u8],
+    info: &MDBShardInfo,
+    hashes: &[MerkleHash],
+) -> Result<(), Failure<'a>> {
+    let alloc = rt.alloc();
+    let mut known = match record_hashes(alloc, bytes, info) {
+        Ok(known) => known,
+        Err(error) => return Err(blamed(alloc, &[file], &[bytes], error)),
+    };
+    known.as_mut_slice().sort_unstable();
+    let mut lacking = None;
+    for hash in hashes {
+        if known.as_slice().binary_search(hash).is_ok() {
+            continue;
+        }
+        if let Some(before) = lacking {
+            let _ = rt.eprintln(&Failure::on_file(file, Fault::NoRecord(before)));
+        }
+        lacking = Some(*hash);
+    }
+    match lacking {
+        Some(last) => Err(Failure::on_file(file, Fault::NoRecord(last))),
+        None => Ok(()),
+    }
+}
+
+// The hashes of the files and of the xorbs of a shard.
+fn record_hashes(alloc: Global, bytes: &[u8], info: &MDBShardInfo) -> ShardResult<Vec<MerkleHash>> {
+    let mut hashes = Vec::new(alloc);
+    let version = FormatVersion::of_header(info.header.version);
+    let mut files = Section::new(bytes_from(bytes, info.metadata.file_info_offset), version);
+    for _ in 0..bytes.len() {
+        match files.next_file(alloc)? {
+            Some(file) => hashes.push(file.metadata.file_hash)?,
+            None => break,
+        }
+    }
+    let mut xorbs = Section::new(bytes_from(bytes, info.metadata.xorb_info_offset), version);
+    for _ in 0..bytes.len() {
+        match xorbs.next_xorb(alloc)? {
+            Some(xorb) => hashes.push(xorb.metadata.xorb_hash)?,
+            None => break,
+        }
+    }
+    Ok(hashes)
+}
+
+// The bytes from an offset on; none if it is past the end.
+fn bytes_from(bytes: &[u8], offset: u64) -> &[u8] {
+    let start = usize::try_from(offset).unwrap_or(usize::MAX);
+    match bytes.get(start..) {
+        Some(rest) => rest,
+        None => &[],
+    }
+}
+
+// The bytes of a shard under a key that has, for each of some hashes, a file without segments and a
+// xorb without chunks, and no tables.
+fn hash_shard(alloc: Global, hashes: &[MerkleHash], key: HMACKey) -> ShardResult<Vec<u8>> {
+    let mut sorted = Vec::from_slice(alloc, hashes)?;
+    sorted.as_mut_slice().sort_unstable();
+    sorted.dedup();
+    let mut bytes = Vec::new(alloc);
+    MDBShardFileHeader::of_version(FormatVersion::V3).serialize(&mut bytes)?;
+    for hash in &sorted {
+        FileDataSequenceHeader::new(*hash, 0, false, false).serialize(&mut bytes)?;
+    }
+    put_bookend(&mut bytes)?;
+    let xorb_info_offset = bytes.len() as u64;
+    for hash in &sorted {
+        XorbChunkSequenceHeader::new(*hash, 0, 0).serialize(&mut bytes)?;
+    }
+    put_bookend(&mut bytes)?;
+    put_footer(&mut bytes, xorb_info_offset, key)?;
+    Ok(bytes)
+}

@@ -1,0 +1,103 @@
+//! Hashes that a file or standard input lists.
+
+use crate::failure::Failure;
+use crate::files::read;
+use crate::request::{HashList, Making, Request};
+use mdb_report::fault::Fault;
+use mdb_report::inquiry::Inquiry;
+use shard_bytes::minimal::KeptXorbs;
+use std::rt::Files;
+use xet_core_structures::merklehash::MerkleHash;
+
+/// Adds the hashes that a request names a list of to those that it has.
+pub fn add_listed<'a, R: Files + Input + AllocGlobal>(
+    rt: &R,
+    request: &mut Request<'a>,
+) -> Result<(), Failure<'a>> {
+    let Some(list) = list_of(request) else {
+        return Ok(());
+    };
+    match request {
+        Request::Inspect(_, inquiry, _) => add_to_inquiry(rt, list, inquiry),
+        Request::Make(Making::Drop(dropping), _) => add_from(rt, list, &mut dropping.hashes),
+        Request::Make(Making::Subset(_, subset, _), _) => {
+            let mut listed = Vec::new(rt.alloc());
+            add_from(rt, list, &mut listed)?;
+            if let KeptXorbs::Listed(hashes) = &mut subset.kept {
+                for hash in listed {
+                    push(list.path, hashes, hash)?;
+                }
+            } else {
+                subset.kept = KeptXorbs::Listed(listed);
+            }
+            Ok(())
+        }
+        _ => Ok(()),
+    }
+}
+
+// The list of hashes that a request names.
+fn list_of<'a>(request: &Request<'a>) -> Option<HashList<'a>> {
+    match request {
+        Request::Inspect(sources, _, _) => sources.hashes,
+        Request::Make(Making::Drop(dropping), _) => dropping.list,
+        Request::Make(Making::Subset(_, _, list), _) => *list,
+        _ => None,
+    }
+}
+
+fn add_to_inquiry<'a, R: Files + Input + AllocGlobal>(
+    rt: &R,
+    list: HashList<'a>,
+    inquiry: &mut Inquiry,
+) -> Result<(), Failure<'a>> {
+    match inquiry {
+        Inquiry::Find { hashes, .. } => add_from(rt, list, hashes),
+        Inquiry::FindXorbs { hashes } => add_from(rt, list, hashes),
+        Inquiry::Query { hashes } => add_from(rt, list, hashes),
+        _ => Ok(()),
+    }
+}
+
+// Adds the hashes in a list, one a line; lines without a word are passed over.
+fn add_from<'a, R: Files + Input + AllocGlobal>(
+    rt: &R,
+    list: HashList<'a>,
+    hashes: &mut Vec<MerkleHash>,
+) -> Result<(), Failure<'a>> {
+    let bytes = match read(rt, list.path) {
+        Ok(bytes) => bytes,
+        Err(error) => return Err(Failure::on_file(list.path, Fault::from(error))),
+    };
+    let end = list.end;
+    let mut number: u64 = 0;
+    for line in bytes.as_slice().split(|byte| *byte == end) {
+        number = number.saturating_add(1);
+        if line.is_empty() {
+            continue;
+        }
+        match hash_in(line) {
+            Some(hash) => push(list.path, hashes, hash)?,
+            None => return Err(Failure::on_file(list.path, Fault::NoHash(number))),
+        }
+    }
+    Ok(())
+}
+
+fn hash_in(line: &[u8]) -> Option<MerkleHash> {
+    let Ok(text) = str::from_utf8(line) else {
+        return None;
+    };
+    MerkleHash::from_hex(text).ok()
+}
+
+fn push<'a>(
+    list: &'a str,
+    hashes: &mut Vec<MerkleHash>,
+    hash: MerkleHash,
+) -> Result<(), Failure<'a>> {
+    match hashes.push(hash) {
+        Ok(()) => Ok(()),
+        Err(_) => Err(Failure::on_file(list, Fault::OutOfMemory)),
+    }
+}

@@ -1,0 +1,109 @@
+//! What is asked for by a command line.
+
+use mdb_report::inquiry::Inquiry;
+use mdb_report::line::Style;
+use shard_bytes::combine::Operation;
+use shard_bytes::export::Export;
+use shard_bytes::minimal::Subset;
+use xet_core_structures::file_structs::KeptParts;
+use xet_core_structures::merklehash::{HMACKey, MerkleHash};
+use xet_records::record_reader::FormatVersion;
+
+/// What is asked for.
+#[derive(Drop)]
+pub enum Request<'a> {
+    /// To print answers about shards.
+    Inspect(Sources<'a>, Inquiry, Style),
+    /// To write a shard.
+    Make(Making<'a>, Target<'a>),
+    /// To write a merge of shards.
+    Merge(Sources<'a>, Merge<'a>),
+}
+
+/// Where a shard is written, and in which version of the format.
+#[derive(Clone, Copy, Debug, PartialEq, Eq)]
+pub struct Target<'a> {
+    /// A path, or `-` for standard output; of a merge by keys a folder.
+    pub path: &'a str,
+    pub version: FormatVersion,
+}
+
+/// The words that name the shards to read.
+#[derive(Drop)]
+pub struct Sources<'a> {
+    /// Paths of shards and of folders.
+    pub words: Vec<&'a str>,
+    /// The path of a file that lists more of them.
+    pub list: Option<&'a str>,
+    /// The list of more hashes to look up.
+    pub hashes: Option<HashList<'a>>,
+    /// The byte that ends a path in the list.
+    pub end: u8,
+}
+
+/// A file that lists hashes.
+#[derive(Clone, Copy, Debug, PartialEq, Eq)]
+pub struct HashList<'a> {
+    pub path: &'a str,
+    /// The byte that ends each of them.
+    pub end: u8,
+}
+
+/// A command that writes a shard.
+#[derive(Drop)]
+pub enum Making<'a> {
+    Combine(Operation, &'a str, &'a str),
+    Export(&'a str, Export),
+    Minimal(&'a str, u64, KeptParts),
+    /// The xorbs to keep may be listed besides.
+    Subset(&'a str, Subset, Option<HashList<'a>>),
+    Drop(Dropping<'a>),
+}
+
+/// The records that are taken out of a shard.
+#[derive(Drop)]
+pub struct Dropping<'a> {
+    pub file: &'a str,
+    pub hashes: Vec<MerkleHash>,
+    /// The list of more of them.
+    pub list: Option<HashList<'a>>,
+    /// The expiry of what is written, in seconds; none if it is left out.
+    pub expiry: Option<u64>,
+}
+
+/// How shards are merged.
+#[derive(Clone, Copy, Debug, PartialEq, Eq)]
+pub struct Merge<'a> {
+    pub target: Target<'a>,
+    pub strictness: Strictness,
+    /// Whether each file is reported as it is read.
+    pub verbose: bool,
+    /// Whether the shards under each key are merged by themselves, into a folder.
+    pub by_key: bool,
+    /// The expiry of what is written, in seconds; none if it is left out.
+    pub expiry: Option<u64>,
+    /// About how many bytes of memory it may take, if the shards are not all to be in memory.
+    pub memory: Option<u64>,
+    /// The time by which shards have expired that are left out; none are if there is none.
+    pub expired_by: Option<u64>,
+    /// How shards are merged in groups, into a folder.
+    pub compaction: Option<Compaction>,
+}
+
+/// How shards are merged in groups.
+#[derive(Clone, Copy, Debug, PartialEq, Eq)]
+pub struct Compaction {
+    /// The most bytes that the shards of a group have together.
+    pub max_size: u64,
+    /// The key of the hashes by which merges are named.
+    pub hash_key: HMACKey,
+}
+
+/// What is done where shards that are to be merged do not agree.
+#[derive(Clone, Copy, Debug, PartialEq, Eq)]
+pub enum Strictness {
+    /// One record is kept, and the difference is reported.
+    Lenient,
+    /// They are not merged.
+    Strict,
+}

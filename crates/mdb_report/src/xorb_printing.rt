@@ -1,0 +1,76 @@
+//! Looking xorbs up in a shard, and printing what is found.
+
+ghost use Rattle.std.specs.Prelude.{◌≡◌, ◌≢◌, IfOk, is_some};
+
+use crate::inquiry::{Answer, Trouble};
+use crate::line::{Layout, print};
+use crate::tables::Table;
+use crate::tally::Tally;
+use crate::xorb_lookup::{FoundXorb, lacks_xorb_table};
+use std::alloc::Global;
+use std::io;
+use std::io::Write;
+use xet_core_structures::merklehash::MerkleHash;
+
+/// Looks xorbs up in the bytes of a shard.
+pub(crate) fn find_xorbs<W: Write>(
+    alloc: Global,
+    bytes: &[u8],
+    hashes: &[MerkleHash],
+    layout: Layout<'_>,
+    tally: &mut Tally,
+    output: &mut W,
+) -> Result<Answer, Trouble>
+    ensures { IfOk result (λ answer. answer ≢ Answer.FoundProblems) }
+{
+    if lacks_xorb_table(alloc, bytes)? {
+        return Err(Trouble::NoTable(Table::Xorbs));
+    }
+    let mut found = false;
+    for hash in hashes {
+        let report = FoundXorb::of_lookup(alloc, bytes, *hash)?;
+        found |= print_xorb_lookup(alloc, &report, layout, tally, output)?;
+    }
+    if found {
+        Ok(Answer::Printed)
+    } else {
+        Ok(Answer::FoundNothing)
+    }
+}
+
+/// Prints what a lookup found, and answers whether it found something. If it has found nothing, it
+/// is printed only without the name of a shard.
+pub(crate) fn print_xorb_lookup<W: Write>(
+    alloc: Global,
+    report: &FoundXorb,
+    layout: Layout<'_>,
+    tally: &mut Tally,
+    output: &mut W,
+) -> Result<bool, Trouble>
+    ensures { IfOk result (λ found. found ≡ is_some report.now.found) }
+{
+    let found = report.found.is_some();
+    if found {
+        tally.add_found(report.hash.0)?;
+    }
+    if found || layout.shard.is_none() {
+        print(alloc, report, layout, output)?;
+    }
+    Ok(found)
+}
+
+/// Prints of each hash that no shard has that it was not found.
+pub(crate) fn print_lacking<W: Write>(
+    alloc: Global,
+    hashes: &[MerkleHash],
+    layout: Layout<'_>,
+    tally: &Tally,
+    output: &mut W,
+) -> io::Result<()> {
+    for hash in hashes {
+        if !tally.has_found(hash) {
+            print(alloc, &FoundXorb::nothing(*hash), layout, output)?;
+        }
+    }
+    Ok(())
+}
