@@ -1,12 +1,16 @@
 pub mod Agreeing
 pub mod Checking
 pub mod Combining
+pub mod CutOut
+pub mod EndsAlone
 pub mod Exclusive
 pub mod Expiring
 pub mod Exporting
 pub mod Formats
+pub mod Fronts
 pub mod InARow
 pub mod Inserting
+pub mod InParts
 pub mod Keeping
 pub mod Malformed
 pub mod MemoryErrors

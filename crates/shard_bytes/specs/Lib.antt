@@ -9,6 +9,7 @@ pub mod InARow
 pub mod Merging
 pub mod Minimal
 pub mod Outcomes
+pub mod Parts
 pub mod Query
 pub mod Recording
 pub mod Sizes

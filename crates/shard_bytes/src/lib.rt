@@ -14,6 +14,7 @@ pub mod load;
 mod memory;
 pub mod merge;
 pub mod minimal;
+pub mod parts;
 pub mod query;
 pub mod records;
 mod room;

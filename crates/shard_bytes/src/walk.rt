@@ -37,8 +37,8 @@ pub fn xorb_at(alloc: Global, bytes: &[u8], row: u32) -> Result<Option<MDBXorbIn
     unless_bookend(info.read_xorb_info(alloc, &mut source, row))
 }
 
-// The record, or `None` where reading one met a bookend, whose error is `InternalError`.
-fn unless_bookend<R: Drop>(read: Result<R>) -> Result<Option<R>>
+/// The record, or `None` where reading one met a bookend, whose error is `InternalError`.
+pub(crate) fn unless_bookend<R: Drop>(read: Result<R>) -> Result<Option<R>>
     ensures { IsRead read result }
 {
     match read {

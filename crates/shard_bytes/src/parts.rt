@@ -1,0 +1,177 @@
+//! Lookups in parts of a shard that were read by themselves: in the bytes of a lookup table, and of
+//! a record in the bytes from its row on.
+//!
+//! [`load_bytes`](crate::load::load_bytes) reads both ends of a shard, 48 and 200 bytes, without
+//! what lies between them, and the footer says where tables and sections are. So a file is found in
+//! a shard that is far away by three reads: the two ends, the file table, and the record.
+
+ghost use Rattle.std.specs.Prelude.{◌≡◌, ◌≢◌, ◌<◌, ◌*◌, ◌%◌, ◌/◌, ◌^◌, ℕ, List, length, IfOk, IsOkAnd, MatchResult};
+ghost use Rattle.std.specs.FinMap as finite;
+ghost use Rattle.xet_core_structures.specs.declared.error.CoreError.{CoreError};
+ghost use Rattle.xet_core_structures.specs.declared.shard_format.MDBShardInfo.{MDBShardInfo};
+ghost use Rattle.xet_core_structures.specs.Ends.{HasHeaderAndFooter};
+ghost use Rattle.xet_core_structures.specs.FileRecord.{file_records};
+ghost use Rattle.xet_core_structures.specs.Lookup.{HasAt, StartsAmong, row_at};
+ghost use Rattle.xet_core_structures.specs.Shard.{Shard};
+ghost use Rattle.xet_core_structures.specs.WrittenShard.{IsBytesWithInfo};
+ghost use Rattle.xet_core_structures.specs.XorbRecord.{xorb_records};
+ghost use Rattle.xet_shards.specs.Lookup.WrittenChunks.{RowsAmong};
+ghost use Rattle.shard_bytes.specs.Walking.{HasFileAt, HasXorbAt};
+ghost use Rattle.shard_bytes.specs.Parts.{HasFileIn, RefusesFileIn, HasXorbIn, RefusesXorbIn, FindsPlaces, FindsRowsIn, RefusesPlaces, RefusesRows, CollidesAmong, IsCut};
+
+use crate::walk::unless_bookend;
+use std::alloc::Global;
+use xet_core_structures::error::{CoreError, Result};
+use xet_core_structures::file_structs::MDBFileInfo;
+use xet_core_structures::merklehash::MerkleHash;
+use xet_core_structures::shard_format::{MDBShardFileFooter, MDBShardFileHeader, MDBShardInfo};
+use xet_core_structures::source::MemorySource;
+use xet_core_structures::xorb_structs::MDBXorbInfo;
+use xet_records::record_reader::FormatVersion;
+
+/// Looks in the bytes of a file table, or of a xorb table, for the rows with this first word of a
+/// hash, and puts the rows of the section at which their records start at the front of `rows`.
+/// Returns how many these are; entries past them are unchanged.
+///
+/// `InvalidArguments` if the bytes are no whole rows, which have 12 bytes each;
+/// `TruncatedHashCollision` of the word if eight or more rows have it.
+pub fn find_rows(alloc: Global, table: &[u8], word: u64, rows: &mut [u32; 8]) -> Result<usize>
+    ensures table { MatchResult result (FindsRowsIn table.now word rows.old rows.new)
+        (RefusesRows table.now word) }
+    ensures files { (s : Shard) → (shard : List ℕ) → (info : MDBShardInfo) → IsBytesWithInfo s shard info
+        → IsCut shard info.metadata.file_lookup_offset (12 * info.metadata.file_lookup_num_entry) table.now
+        → MatchResult result (StartsAmong file_records (finite.values s.files) word rows.new)
+        (CollidesAmong file_records (finite.values s.files) word) }
+    ensures xorbs { (s : Shard) → (shard : List ℕ) → (info : MDBShardInfo) → IsBytesWithInfo s shard info
+        → IsCut shard info.metadata.xorb_lookup_offset (12 * info.metadata.xorb_lookup_num_entry) table.now
+        → MatchResult result (StartsAmong xorb_records (finite.values s.xorbs) word rows.new)
+        (CollidesAmong xorb_records (finite.values s.xorbs) word) }
+{
+    search_starts(alloc, table, word, rows)
+}
+
+// Searches a table of starts.
+fn search_starts(alloc: Global, table: &[u8], word: u64, rows: &mut [u32; 8]) -> Result<usize>
+    ensures { MatchResult result (FindsRowsIn table.now word rows.old rows.new)
+        (RefusesRows table.now word) }
+{
+    let mut info = MDBShardInfo::default();
+    info.metadata.file_lookup_num_entry = rows_in(table, 12)?;
+    let mut source = MemorySource::new(table);
+    info.get_file_info_index_by_hash(alloc, &mut source, &beginning_with(word), rows)
+}
+
+/// Looks in the bytes of a chunk table for rows with this first word of a chunk's hash, and puts
+/// what up to eight of them say at the front of `places`: the row of the xorb section at which the
+/// xorb starts, and the index of the chunk in it. Returns how many these are; entries past them are
+/// unchanged. The words of the table are those of hashes under the shard's key.
+///
+/// `InvalidArguments` if the bytes are no whole rows, which have 16 bytes each.
+pub fn find_places(
+    alloc: Global,
+    table: &[u8],
+    word: u64,
+    places: &mut [(u32, u32); 8],
+) -> Result<usize>
+    ensures table { MatchResult result (FindsPlaces table.now word places.old places.new)
+        (RefusesPlaces table.now) }
+    ensures chunks { (s : Shard) → (shard : List ℕ) → (info : MDBShardInfo) → IsBytesWithInfo s shard info
+        → IsCut shard info.metadata.chunk_lookup_offset (16 * info.metadata.chunk_lookup_num_entry) table.now
+        → IsOkAnd result (RowsAmong (finite.values s.xorbs) word places.old places.new) }
+{
+    search_chunks(alloc, table, word, places)
+}
+
+// Searches a chunk table.
+fn search_chunks(
+    alloc: Global,
+    table: &[u8],
+    word: u64,
+    places: &mut [(u32, u32); 8],
+) -> Result<usize>
+    ensures { MatchResult result (FindsPlaces table.now word places.old places.new)
+        (RefusesPlaces table.now) }
+{
+    let mut info = MDBShardInfo::default();
+    info.metadata.chunk_lookup_num_entry = rows_in(table, 16)?;
+    let mut source = MemorySource::new(table);
+    info.get_xorb_info_index_by_chunk(alloc, &mut source, &beginning_with(word), places)
+}
+
+// The number of rows of a table, each of so many bytes. `InvalidArguments` if they are not whole.
+fn rows_in(table: &[u8], row_size: u64) -> Result<u64>
+    requires { 0 < row_size }
+    ensures { MatchResult result
+        (λ rows. (length table.now % row_size ≡ 0) × (rows ≡ length table.now / row_size)
+        × (length table.now < 2 ^ 64))
+        (λ e. (e ≡ CoreError.InvalidArguments) × (length table.now % row_size ≢ 0)) }
+{
+    let size = table.len() as u64;
+    if size % row_size != 0 {
+        return Err(CoreError::InvalidArguments);
+    }
+    Ok(size / row_size)
+}
+
+// A hash with this first word, which is all that a table has of hashes.
+fn beginning_with(word: u64) -> MerkleHash
+    ensures { result ≡ record { word0 = word; word1 = 0; word2 = 0; word3 = 0 } }
+{
+    MerkleHash::from([word, 0, 0, 0])
+}
+
+/// The file's record at the front of some bytes, or `None` if a section's bookend is there: of the
+/// bytes from a row of a file section on, and of any that are enough of them, it is the record at
+/// this row. The version is that of the shard.
+///
+/// `InvalidArguments` if the version is neither 2 nor 3. Else the errors of
+/// [`MDBShardInfo::read_file_info`]; `UnexpectedEof` says that more bytes are needed.
+pub fn file_in(alloc: Global, version: u64, bytes: &[u8]) -> Result<Option<MDBFileInfo>>
+    ensures any_bytes { MatchResult result (HasFileIn version bytes.now)
+        (RefusesFileIn version bytes.now) }
+    ensures in_shard { (shard : List ℕ) → (info : MDBShardInfo) → (row : ℕ)
+        → HasHeaderAndFooter shard info → info.header.version ≡ version
+        → HasAt shard (row_at info.metadata.file_info_offset row) bytes.now
+        → IfOk result (HasFileAt shard row) }
+{
+    read_file(alloc, version, bytes)
+}
+
+// Reads the file at the front of some bytes.
+fn read_file(alloc: Global, version: u64, bytes: &[u8]) -> Result<Option<MDBFileInfo>>
+    ensures { MatchResult result (HasFileIn version bytes.now) (RefusesFileIn version bytes.now) }
+{
+    let Some(version) = FormatVersion::of_number(version) else {
+        return Err(CoreError::InvalidArguments);
+    };
+    let info = MDBShardInfo {
+        header: MDBShardFileHeader::of_version(version),
+        metadata: MDBShardFileFooter::default(),
+    };
+    let mut source = MemorySource::new(bytes);
+    unless_bookend(info.read_file_info(alloc, &mut source, 0))
+}
+
+/// The xorb's record at the front of some bytes, or `None` if a section's bookend is there: of the
+/// bytes from a row of a xorb section on, and of any that are enough of them, it is the record at
+/// this row.
+///
+/// The errors are those of [`MDBShardInfo::read_xorb_info`]; `UnexpectedEof` says that more bytes
+/// are needed.
+pub fn xorb_in(alloc: Global, bytes: &[u8]) -> Result<Option<MDBXorbInfo>>
+    ensures any_bytes { MatchResult result (HasXorbIn bytes.now) (RefusesXorbIn bytes.now) }
+    ensures in_shard { (shard : List ℕ) → (info : MDBShardInfo) → (row : ℕ)
+        → HasHeaderAndFooter shard info
+        → HasAt shard (row_at info.metadata.xorb_info_offset row) bytes.now
+        → IfOk result (HasXorbAt shard row) }
+{
+    read_xorb(alloc, bytes)
+}
+
+// Reads the xorb at the front of some bytes.
+fn read_xorb(alloc: Global, bytes: &[u8]) -> Result<Option<MDBXorbInfo>>
+    ensures { MatchResult result (HasXorbIn bytes.now) (RefusesXorbIn bytes.now) }
+{
+    let mut source = MemorySource::new(bytes);
+    unless_bookend(MDBShardInfo::default().read_xorb_info(alloc, &mut source, 0))
+}
