@@ -1,5 +1,6 @@
 pub mod Agreeing
 pub mod Checking
+pub mod ChunkRows
 pub mod Combining
 pub mod CutOut
 pub mod EndsAlone

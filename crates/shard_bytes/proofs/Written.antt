@@ -3,18 +3,25 @@ use Rattle.std.proofs.Common.{◌≡◌, inl, inr, ℕ, List, Option, Ok, Err, s
 use Rattle.std.specs.Prelude.{IsOkAnd, MatchResult}
 use Rattle.std.specs.FinMap.{values}
 use Rattle.std.specs.declared.result.Result.{Result}
+use Rattle.std.specs.declared.vec.Vec.{Vec}
 use Rattle.xet_core_structures.specs.declared.error.CoreError.{CoreError}
+use Rattle.xet_core_structures.specs.declared.error.CoreError.TheVariants.{OutOfMemory}
 use Rattle.xet_core_structures.specs.declared.file_structs.MDBFileInfo.{MDBFileInfo}
 use Rattle.xet_core_structures.specs.declared.merklehash.DataHash.{DataHash}
 use Rattle.xet_core_structures.specs.declared.shard_format.MDBShardInfo.{MDBShardInfo}
 use Rattle.xet_core_structures.specs.declared.source.MemorySource.{MemorySource}
+use Rattle.xet_core_structures.specs.declared.xorb_structs.MDBXorbInfo.{MDBXorbInfo}
 use Rattle.xet_core_structures.specs.Ends.{HasHeaderAndFooter, Loads}
 use Rattle.xet_core_structures.specs.FileRecord.{file_records}
 use Rattle.xet_core_structures.specs.Lookup.{FoundInShard, LookupFailsAmong}
 use Rattle.xet_core_structures.specs.Shard.{Shard}
 use Rattle.xet_core_structures.specs.Source.{Source, DeviceFailure}
-use Rattle.xet_core_structures.specs.WrittenShard.{IsBytesOf, IsBytesWithInfo}
+use Rattle.xet_core_structures.specs.ChunkQuery.{Run}
+use Rattle.xet_core_structures.specs.KeyedHash.{no_key}
+use Rattle.xet_core_structures.specs.WrittenQueries.{RunInXorb, QueryFailsInXorb}
+use Rattle.xet_core_structures.specs.WrittenShard.{IsBytesOf, IsBytesWithInfo, ReadsBack}
 use Rattle.shard_bytes.specs.Finding.{NotFoundInShard}
+use Rattle.shard_bytes.specs.Query.{HasNoChunkAt}
 use Rattle.shard_bytes.proofs.Combining.{in_memory}
 
 -- header and footer were read from these bytes
@@ -35,3 +42,18 @@ lookup_in_memory s hash (Ok value) old new is = is
 lookup_in_memory s hash (Err e) old new (inl failed) = absurd (omega (arith, failed.0))
 lookup_in_memory s hash (Err e) old new (inr (inl (is, some, few))) = inl (is, few)
 lookup_in_memory s hash (Err e) old new (inr (inr many)) = inr many
+
+-- a query at a chunk of a xorb, on a source in memory
+pub direct_in_memory : (hashes : List DataHash) (xorb : MDBXorbInfo) (index : ℕ) (result : Result (Option Run) CoreError) (old new : MemorySource)
+    → MatchResult result (RunInXorb no_key hashes xorb index) (QueryFailsInXorb hashes xorb index (in_memory old) (in_memory new))
+    → MatchResult result (RunInXorb no_key hashes xorb index) (HasNoChunkAt hashes xorb index)
+direct_in_memory hashes xorb index (Ok value) old new is = is
+direct_in_memory hashes xorb index (Err e) old new (some, inl failed) = absurd (omega (arith, failed.0))
+direct_in_memory hashes xorb index (Err e) old new (some, inr (is, past)) = (some, is, past)
+
+-- a list of a shard is read from a source in memory
+pub list_in_memory : {T Z : Type 0} (items : List T) (result : Result (Vec T Z) CoreError) (old new : MemorySource) → ReadsBack items (in_memory old) (in_memory new) result
+    → MatchResult result (λ found. found.items ≡ items) (λ e. e ≡ OutOfMemory)
+list_in_memory items (Ok found) old new is = is
+list_in_memory items (Err e) old new (inl failed) = absurd (omega (arith, failed.0))
+list_in_memory items (Err e) old new (inr is) = is

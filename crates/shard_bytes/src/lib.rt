@@ -4,6 +4,7 @@
 
 pub mod agree;
 pub mod check;
+pub mod chunk_rows;
 pub mod combine;
 pub mod expiry;
 pub mod export;

@@ -4,9 +4,12 @@ ghost use Rattle.std.specs.Prelude.{◌<◌, ◌^◌, ℕ, Option, IfSome, IsOkA
 ghost use Rattle.std.specs.FinMap as finite;
 ghost use Rattle.xet_core_structures.specs.KeyedHash.{no_key};
 ghost use Rattle.xet_core_structures.specs.Shard.{Shard};
-ghost use Rattle.xet_core_structures.specs.WrittenQueries.{RunAmong};
+ghost use Rattle.xet_core_structures.specs.WrittenQueries.{RunAmong, RunInXorb};
 ghost use Rattle.xet_core_structures.specs.WrittenShard.{IsBytesOf};
-ghost use Rattle.shard_bytes.specs.Query.{AnswersQuery, RefusesQuery};
+ghost use Rattle.xet_core_structures.specs.XorbRecord.{xorb_records};
+ghost use Rattle.xet_core_structures.specs.declared.xorb_structs.MDBXorbInfo.{MDBXorbInfo};
+ghost use Rattle.xet_shards.specs.Write.Section.{StartsAt};
+ghost use Rattle.shard_bytes.specs.Query.{AnswersQuery, RefusesQuery, AnswersQueryAt, RefusesQueryAt, HasNoChunkAt};
 
 use std::alloc::Global;
 use xet_core_structures::error::Result;
@@ -33,4 +36,29 @@ pub fn query_chunks(
     let mut source = MemorySource::new(bytes);
     let info = MDBShardInfo::load_from_reader(alloc, &mut source)?;
     info.chunk_hash_dedup_query(alloc, &mut source, hashes)
+}
+
+/// The run of these chunks from the chunk at an index on of the xorb at a row of the xorb section:
+/// its number of chunks, and their segment; or `None` if the chunk has another hash than the first.
+/// So a place that an index has for the first word of a hash is looked at.
+///
+/// The errors are those of [`MDBShardInfo::load_from_reader`] and
+/// [`MDBShardInfo::chunk_hash_dedup_query_direct`].
+pub fn query_at(
+    alloc: Global,
+    bytes: &[u8],
+    hashes: &[MerkleHash],
+    row: u32,
+    index: u32,
+) -> Result<Option<(usize, FileDataSequenceEntry)>>
+    ensures any_bytes { MatchResult result (AnswersQueryAt bytes.now hashes.now row index)
+        (RefusesQueryAt bytes.now hashes.now row index) }
+    ensures written { (s : Shard) → (xorb : MDBXorbInfo) → IsBytesOf s bytes.now
+        → StartsAt xorb_records (finite.values s.xorbs) row xorb
+        → MatchResult result (RunInXorb no_key hashes.now xorb index)
+        (HasNoChunkAt hashes.now xorb index) }
+{
+    let mut source = MemorySource::new(bytes);
+    let info = MDBShardInfo::load_from_reader(alloc, &mut source)?;
+    info.chunk_hash_dedup_query_direct(alloc, &mut source, hashes, row, index)
 }
