@@ -42,6 +42,9 @@ static union {
     xet_finding findings[100];
     xet_segment run;
     xet_info info;
+    xet_chunk_row rows[1000];
+    xet_chunk_place places[8];
+    uint32_t starts[8];
     struct {
         xet_file file;
         xet_file_segment segments[100];
@@ -70,6 +73,7 @@ static xet_file_segment segments[1000];
 static xet_listed_xorb xorbs[100];
 static xet_chunk chunks_of_xorbs[1000];
 static xet_counts counts;
+static xet_info info;
 
 static size_t read_shard(const char *name, uint8_t *bytes) {
     FILE *file = fopen(name, "rb");
@@ -82,6 +86,7 @@ static size_t read_shard(const char *name, uint8_t *bytes) {
 static uint32_t call(int number, size_t *count) {
     const xet_export_options options = {{7, 1, 0, 0}, 1000, 60, true, true, true, true};
     const xet_subset_options times = {9, 0, false};
+    const xet_range all = {{0}, {0}, false, false};
     const xet_hash file = {{100, 1, 0, 0}}, chunks[2] = {{{21, 1, 0, 0}}, {{22, 1, 0, 0}}}, xorb = {{10, 1, 0, 0}};
     const xet_bytes both[2] = {{first, first_length}, {second, second_length}};
     const xet_bytes twice[2] = {{first, first_length}, {first, first_length}};
@@ -123,19 +128,19 @@ static uint32_t call(int number, size_t *count) {
     case 14:
         return xet_check(second, second_length, out.findings, 100, count);
     case 15:
-        return xet_file_at(first, first_length, 0, &out.listed.place, &out.listed.file, out.listed.segments, 100);
-    case 16:
-        return xet_xorb_at(first, first_length, 0, &out.listed.place, &out.listed.xorb, out.listed.chunks, 100);
-    case 17: {
+        return xet_write(files, counts.files, segments, counts.segments, xorbs, counts.xorbs, chunks_of_xorbs,
+                         counts.chunks, UINT64_MAX, out.bytes, ROOM, count);
+    case 16: {
         xet_counts found;
         uint32_t error = xet_records(first, first_length, out.lists.files, 100, out.lists.segments, 1000,
                                      out.lists.xorbs, 100, out.lists.chunks, 1000, &found);
         *count = found.files + found.segments + found.xorbs + found.chunks;
         return error;
     }
+    case 17:
+        return xet_merge_range(both, 2, &all, out.bytes, ROOM, count);
     case 18:
-        return xet_write(files, counts.files, segments, counts.segments, xorbs, counts.xorbs, chunks_of_xorbs,
-                         counts.chunks, UINT64_MAX, out.bytes, ROOM, count);
+        return xet_query_at(first, first_length, chunks, 2, 0, 0, count, &out.run);
     case 19:
         return xet_merge_range(both, 2, &range, out.bytes, ROOM, count);
     case 20: {
@@ -155,7 +160,7 @@ static uint32_t call(int number, size_t *count) {
     case 26:
         return xet_hmac(&file, chunks, out.hashes);
     default:
-        return xet_load(first, first_length, &out.info);
+        return xet_version() == XET_VERSION_NUMBER ? xet_load(first, first_length, &out.info) : XET_OTHER;
     }
 }
 
@@ -164,6 +169,8 @@ int main(int words, char **names) {
         return 2;
     first_length = read_shard(names[1], first);
     second_length = read_shard(names[2], second);
+    if (xet_load(first, first_length, &info) != 0)
+        return 2;
     if (xet_records(first, first_length, files, 100, segments, 1000, xorbs, 100, chunks_of_xorbs, 1000, &counts) != 0)
         return 2;
     for (int number = 0; number < CALLS; number++) {

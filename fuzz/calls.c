@@ -262,6 +262,56 @@ static uint32_t call_write(const struct input *input, void *out, size_t capacity
     return within(xet_write_room(counted), error, *written);
 }
 
+static uint32_t call_chunk_rows(const struct input *input, void *out, size_t capacity, size_t *written) {
+    return xet_chunk_rows(SHARD(0), out, capacity, written);
+}
+
+/* A part of the first shard: from the place that its footer has, if that is in the shard, to the next part's. */
+static xet_bytes part_of(const struct input *input, uint64_t (*start)(const xet_info *info),
+                                uint64_t (*end)(const xet_info *info)) {
+    xet_info info;
+    size_t length = input->shards[0].length;
+    if (xet_load(SHARD(0), &info) != XET_OK || start(&info) > end(&info) || end(&info) > length)
+        return (xet_bytes){SHARD(0)};
+    return (xet_bytes){input->shards[0].bytes + start(&info), (size_t)(end(&info) - start(&info))};
+}
+
+static uint64_t file_section(const xet_info *info) {
+    return info->file_section;
+}
+
+static uint64_t xorb_section(const xet_info *info) {
+    return info->xorb_section;
+}
+
+static uint64_t file_table(const xet_info *info) {
+    return info->file_table;
+}
+
+static uint64_t xorb_table(const xet_info *info) {
+    return info->xorb_table;
+}
+
+static uint64_t chunk_table(const xet_info *info) {
+    return info->chunk_table;
+}
+
+static uint64_t footer(const xet_info *info) {
+    return info->footer;
+}
+
+static uint32_t call_find_rows(const struct input *input, void *out, size_t capacity, size_t *written) {
+    xet_bytes table = part_of(input, file_table, xorb_table);
+    return xet_find_rows(table.bytes, table.length, input->file.words[0], out, capacity, written);
+}
+
+static uint32_t call_find_places(const struct input *input, void *out, size_t capacity, size_t *written) {
+    xet_bytes table = part_of(input, chunk_table, footer);
+    const xet_hash *chunk = (const void *)input->chunks.bytes;
+    uint64_t word = input->chunks.length ? chunk->words[0] : 0;
+    return xet_find_places(table.bytes, table.length, word, out, capacity, written);
+}
+
 static const struct filling fillings[] = {
     {"xet_union", 1, OF_MERGING, call_union, 3},
     {"xet_difference", 1, OF_MERGING, call_difference, 3},
@@ -275,6 +325,10 @@ static const struct filling fillings[] = {
     {"xet_write_v2", 1, OF_MERGING, call_write_v2, 2},
     {"xet_records and xet_write", 1, OF_MERGING, call_write, 3},
     {"xet_eligible", sizeof(xet_hash), OF_SECTIONS, call_eligible, 0},
+    {"xet_chunk_rows", sizeof(xet_chunk_row), OF_SECTIONS, call_chunk_rows, 0},
+    {"xet_find_rows", sizeof(uint32_t), BIT(XET_OK) | BIT(XET_INVALID_ARGUMENTS) | BIT(XET_TRUNCATED_HASH_COLLISION),
+     call_find_rows, 0},
+    {"xet_find_places", sizeof(xet_chunk_place), BIT(XET_OK) | BIT(XET_INVALID_ARGUMENTS), call_find_places, 0},
     {"xet_check", sizeof(xet_finding), BIT(XET_OK), call_check, 0},
     {"xet_find_file", sizeof(xet_file_segment), OF_FINDING, call_find_file, 0},
     {"xet_hash_to_hex", 1, BIT(XET_OK), call_hash_to_hex, 0},
@@ -345,6 +399,15 @@ static void check_load(const struct input *input) {
     free_block(&info);
 }
 
+/* A run that was looked for: how many of the hashes it has, and where. */
+static void check_run(size_t hash_count, uint32_t error, size_t count, const struct block *run) {
+    require(count <= hash_count && (error == XET_OK || count == 0), "the count is another");
+    require(count > 0 || is_filled(run, 0), "no run is written");
+    xet_segment segment;
+    memcpy(&segment, run->bytes, sizeof segment);
+    require(count == 0 || segment.end - segment.start == count, "the run has another length");
+}
+
 static void check_query(const struct input *input) {
     called = "xet_query_chunks";
     struct block run = new_struct(input, sizeof(xet_segment));
@@ -352,11 +415,7 @@ static void check_query(const struct input *input) {
     const void *hashes = input->chunks.bytes;
     void *out = run.bytes;
     uint32_t error = result(xet_query_chunks(SHARD(0), hashes, hash_count, &count, out), OF_SECTIONS);
-    require(count <= hash_count && (error == XET_OK || count == 0), "the count is another");
-    require(count > 0 || is_filled(&run, 0), "no run is written");
-    xet_segment segment;
-    memcpy(&segment, run.bytes, sizeof segment);
-    require(count == 0 || segment.end - segment.start == count, "the run has another length");
+    check_run(hash_count, error, count, &run);
     free_block(&run);
 }
 
@@ -470,14 +529,30 @@ static const struct reading readings[] = {
     {"xet_xorb_at", sizeof(xet_xorb), sizeof(xet_chunk), call_xorb_at, xorb_found},
 };
 
+/* The same of bytes from a row on: `length` is that of the bytes, and a row is not looked at. */
+static uint32_t call_file_in(const uint8_t *bytes, size_t length, uint32_t row, xet_place *place, void *record,
+                             void *items, size_t capacity) {
+    return row ? XET_IO : xet_file_in(bytes, length, 3, place, record, items, capacity);
+}
+
+static uint32_t call_xorb_in(const uint8_t *bytes, size_t length, uint32_t row, xet_place *place, void *record,
+                             void *items, size_t capacity) {
+    return row ? XET_IO : xet_xorb_in(bytes, length, place, record, items, capacity);
+}
+
+static const struct reading part_readings[] = {
+    {"xet_file_in", sizeof(xet_file), sizeof(xet_file_segment), call_file_in, file_found},
+    {"xet_xorb_in", sizeof(xet_xorb), sizeof(xet_chunk), call_xorb_in, xorb_found},
+};
+
 /* Reads the record at a row with room for so many of its items, and returns the row of the next one, or 0 if there is
  * none. How many items it has is told also where they do not fit. */
-static uint64_t check_row(const struct reading *reading, const struct input *input, uint32_t row, size_t capacity,
-                          size_t *items) {
+static uint64_t check_row(const struct reading *reading, const struct input *input, xet_bytes bytes, uint32_t row,
+                          size_t capacity, size_t *items) {
     struct block place = new_struct(input, sizeof(xet_place)), record = new_struct(input, reading->record);
     struct block out = new_struct(input, capacity * reading->item);
     void *there = place.bytes;
-    uint32_t error = reading->call(SHARD(0), row, there, record.bytes, out.bytes, capacity);
+    uint32_t error = reading->call(bytes.bytes, bytes.length, row, there, record.bytes, out.bytes, capacity);
     result(error, OF_SECTIONS | BIT(XET_SHORT));
     xet_place found = {.next = 0};
     *items = 0;
@@ -497,16 +572,17 @@ static uint64_t check_row(const struct reading *reading, const struct input *inp
     return found.next;
 }
 
-/* Walks through the beginning of a section. */
-static void check_walk(const struct reading *reading, const struct input *input) {
+/* Walks through the beginning of a section, so many records. */
+static void check_walk(const struct reading *reading, const struct input *input, xet_bytes bytes, int steps) {
     called = reading->name;
     uint64_t row = 0;
-    for (int step = 0; step < 20 && row <= UINT32_MAX; step++) {
+    for (int step = 0; step < steps && row <= UINT32_MAX; step++) {
         size_t items, again;
-        uint64_t next = check_row(reading, input, (uint32_t)row, 0, &items);
+        uint64_t next = check_row(reading, input, bytes, (uint32_t)row, 0, &items);
         if (next == 0)
             return;
-        require(check_row(reading, input, (uint32_t)row, items, &again) == next && again == items, "a row changes");
+        bool is_same = check_row(reading, input, bytes, (uint32_t)row, items, &again) == next && again == items;
+        require(is_same, "a row changes");
         row = next;
     }
 }
@@ -517,10 +593,13 @@ void make_calls(const struct input *input, struct random *random, struct tally *
         check_filling(&fillings[at], input, random);
     check_load(input);
     check_query(input);
+    check_query_at(input);
     check_find_disagreement(input);
     check_find_malformed(input);
-    check_walk(&readings[0], input);
-    check_walk(&readings[1], input);
+    for (int at = 0; at < 2; at++)
+        check_walk(&readings[at], input, (xet_bytes){SHARD(0)}, 20);
+    check_walk(&part_readings[0], input, part_of(input, file_section, xorb_section), 1);
+    check_walk(&part_readings[1], input, part_of(input, xorb_section, file_table), 1);
     check_texts(input);
     check_hashes(input);
 }

@@ -112,6 +112,17 @@ typedef struct xet_info {
     uint64_t stored_bytes_on_disk; /* of all xorbs */
     uint64_t materialized_bytes;   /* of all files */
     uint64_t stored_bytes;         /* of all xorbs, unpacked */
+    /* Where the parts start, in bytes from the front of the shard. A table ends where the next part starts; its rows
+     * have 12 bytes, in the chunk table 16. A row of a section has 48. */
+    uint64_t file_section;
+    uint64_t xorb_section;
+    uint64_t file_table;
+    uint64_t xorb_table;
+    uint64_t chunk_table;
+    uint64_t footer;
+    uint64_t footer_size;    /* as the header has it; the footer has 200 bytes, whatever this is */
+    uint64_t footer_version; /* 1 */
+    uint64_t reserved[6];    /* of the footer */
 } xet_info;
 
 /* What an export is to have. A key of zeros leaves the chunk hashes as they are. */
@@ -125,7 +136,8 @@ typedef struct xet_export_options {
     bool chunk_table;
 } xet_export_options;
 
-/* Reads the header and the footer of a shard.
+/* Reads the header and the footer of a shard: its first 48 and its last 200 bytes. So `shard` may be these 248 bytes,
+ * without what lies between them.
  *
  * XET_SHARD_VERSION: the tag is another, the version is neither 2 nor 3, or that of the footer is not 1.
  * XET_IO: there are too few bytes for a header and a footer. */
@@ -324,6 +336,35 @@ uint32_t xet_write_v2(const uint8_t *shard, size_t length, uint8_t *out, size_t 
 uint32_t xet_query_chunks(const uint8_t *shard, size_t length, const xet_hash *hashes, size_t hash_count, size_t *count,
                           xet_segment *run);
 
+/* Looks at the run of these hashes, which are not keyed, from the chunk at an index of the xorb at a row of the xorb
+ * section: where an index over many shards has the first word of the first hash. `*count` is how many chunks have the
+ * hashes, one by one, and `run` says where they are. If no hash is given, or that chunk has another hash than the
+ * first, `*count` is 0 and `run` stays as it is. With an error `*count` is 0, and `run` stays.
+ *
+ * XET_SHARD_VERSION, XET_IO: the errors of xet_load; XET_IO also if a row that is read ends too early.
+ * XET_INVALID_ARGUMENTS: there is no xorb at the row, since the section ends there, or it has no chunk at the index.
+ * XET_INVALID_SHARD: a number does not fit its width.
+ * XET_OUT_OF_MEMORY. */
+uint32_t xet_query_at(const uint8_t *shard, size_t length, const xet_hash *hashes, size_t hash_count, uint32_t row,
+                      uint32_t index, size_t *count, xet_segment *run);
+
+/* A row of a chunk table, as it lies in a shard: the first word of the chunk's hash, the row of the xorb section at
+ * which its xorb starts, and its index among the chunks of the xorb. */
+typedef struct xet_chunk_row {
+    uint64_t word;
+    uint32_t row;
+    uint32_t index;
+} xet_chunk_row;
+
+/* Writes where the chunks of a shard are, which an index over many shards is made of: the rows of its chunk table; or,
+ * if that is left out, those that it would have, in the order of the xorb section. Where the shard has a key, each word
+ * is that of a hash under it, as xet_hmac makes it. `capacity` and `*written` count rows.
+ *
+ * XET_SHARD_VERSION, XET_IO: the errors of xet_load; XET_IO also if the table or the section ends too early.
+ * XET_INVALID_SHARD: there are more than 4294967295 rows.
+ * XET_OUT_OF_MEMORY, XET_SHORT. */
+uint32_t xet_chunk_rows(const uint8_t *shard, size_t length, xet_chunk_row *out, size_t capacity, size_t *written);
+
 /* Writes the hashes of the chunks that the global index keeps, each once and in ascending order: chunks that are
  * marked, those whose word 3 is a multiple of 1024, and those at which a file starts. Only the header and the sections
  * are read. `capacity` and `*written` count hashes, which are at most `length` / 48.
@@ -402,6 +443,48 @@ typedef struct xet_chunk {
 /* The same of the xorb section. The errors are those of xet_file_at. */
 uint32_t xet_xorb_at(const uint8_t *shard, size_t length, uint32_t row, xet_place *place, xet_xorb *xorb,
                      xet_chunk *chunks, size_t capacity);
+
+/* Lookups in a shard of which only parts were read. xet_load reads both ends, and `info` says where the others are.
+ *
+ * xet_find_rows looks in the bytes of a file table, or of a xorb table, for the first word of a hash, and writes the
+ * rows of the section at which the records with such a hash start: 7 at most. A row is 48 bytes, so the file at row 5
+ * starts at `info.file_section` + 5 * 48.
+ *
+ * XET_INVALID_ARGUMENTS: the bytes are no whole rows.
+ * XET_TRUNCATED_HASH_COLLISION: eight or more rows have the word.
+ * XET_OUT_OF_MEMORY, XET_SHORT. */
+uint32_t xet_find_rows(const uint8_t *table, size_t length, uint64_t word, uint32_t *rows, size_t capacity,
+                       size_t *written);
+
+/* Where a chunk is: the row of the xorb section at which its xorb starts, and its index among the chunks there. */
+typedef struct xet_chunk_place {
+    uint32_t row;
+    uint32_t index;
+} xet_chunk_place;
+
+/* The same of a chunk table, and of the first word of a chunk's hash, which is keyed if the shard has a key. Writes the
+ * places of 8 rows at most, as many as a query looks at.
+ *
+ * XET_INVALID_ARGUMENTS: the bytes are no whole rows.
+ * XET_OUT_OF_MEMORY, XET_SHORT. */
+uint32_t xet_find_places(const uint8_t *table, size_t length, uint64_t word, xet_chunk_place *places, size_t capacity,
+                         size_t *written);
+
+/* Reads the file's record at the front of some bytes, as xet_file_at reads the one at a row: of the bytes from a row
+ * on, and of any that are enough of them, it is the record there. `place->next` is how many rows it has, and its hash
+ * is to be compared with the one that was looked for. `version` is that of the shard.
+ *
+ * XET_IO: the bytes end before the record does, so more are needed.
+ * XET_INVALID_ARGUMENTS: the version is neither 2 nor 3.
+ * XET_INVALID_SHARD: the file has a row that the version does not have, or more rows than 32 bits count.
+ * XET_OUT_OF_MEMORY, XET_SHORT. */
+uint32_t xet_file_in(const uint8_t *bytes, size_t length, uint64_t version, xet_place *place, xet_file *file,
+                     xet_file_segment *segments, size_t capacity);
+
+/* The same of a xorb, which is alike in both versions. The errors are those of xet_file_in, without
+ * XET_INVALID_ARGUMENTS. */
+uint32_t xet_xorb_in(const uint8_t *bytes, size_t length, xet_place *place, xet_xorb *xorb, xet_chunk *chunks,
+                     size_t capacity);
 
 /* A file of a list: its hash, its SHA-256 and its auxiliary hash, or zeros where it has none, its flags, and how many of
  * the list of segments are its own. The flags say what it has: bit 31 verification hashes, 30 a SHA-256, 29 an auxiliary

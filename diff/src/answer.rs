@@ -32,6 +32,15 @@ pub struct Info {
     pub stored_bytes_on_disk: u64,
     pub materialized_bytes: u64,
     pub stored_bytes: u64,
+    pub file_section: u64,
+    pub xorb_section: u64,
+    pub file_table: u64,
+    pub xorb_table: u64,
+    pub chunk_table: u64,
+    pub footer: u64,
+    pub footer_size: u64,
+    pub footer_version: u64,
+    pub reserved: [u64; 6],
 }
 
 /// What an export is to have.

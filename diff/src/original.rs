@@ -146,6 +146,15 @@ fn info(info: &MDBShardInfo) -> Info {
         stored_bytes_on_disk: info.stored_bytes_on_disk(),
         materialized_bytes: info.materialized_bytes(),
         stored_bytes: info.stored_bytes(),
+        file_section: info.metadata.file_info_offset,
+        xorb_section: info.metadata.xorb_info_offset,
+        file_table: info.metadata.file_lookup_offset,
+        xorb_table: info.metadata.xorb_lookup_offset,
+        chunk_table: info.metadata.chunk_lookup_offset,
+        footer: info.metadata.footer_offset,
+        footer_size: info.header.footer_size,
+        footer_version: info.metadata.version,
+        reserved: info.metadata._buffer,
     }
 }
 

@@ -1,10 +1,13 @@
 -- What was made is delivered, and why nothing was made is answered.
-use Rattle.std.proofs.Common.{◌≡◌, ◌⊎◌, inl, inr, ℕ, ◌<◌, ◌≤◌, List, ◌++◌, length, drop, Ok, Err, Result, MatchResult, sym, ◌∙◌, subst, arith}
+use Rattle.std.proofs.Common.{◌≡◌, ◌⊎◌, inl, inr, ℕ, ◌<◌, ◌≤◌, List, ◌++◌, length, drop, Option, Ok, Err, Result, MatchResult, sym, ◌∙◌, subst, arith}
 use Rattle.std.specs.Prelude.{IfOk}
 use Rattle.std.specs.declared.vec.Vec.{Vec}
 use Rattle.xet_core_structures.specs.declared.error.CoreError.{CoreError}
-use Rattle.xet_core_structures.specs.Errors.{variant_number}
+use Rattle.xet_core_structures.specs.declared.file_structs.FileDataSequenceEntry.{FileDataSequenceEntry}
+use Rattle.xet_core_structures.specs.Errors.{CoreResult, variant_number}
 use Rattle.xet_core_structures.specs.Trees.Filling.{FillsWith}
+use Rattle.xet_c.specs.declared.segment.XetSegment.{XetSegment}
+use Rattle.xet_c.specs.Arguments.{IsRun, ShowsRun}
 use Rattle.xet_c.specs.Output.{Answers, Delivers, Refuses, Outcome}
 
 pub outcome : {X Z : Type 0} (IsMade : List X → Type 0) (IsCause : CoreError → Type 0) (old new : List X) (written answer : ℕ) (made : Result (Vec X Z) CoreError)
@@ -45,3 +48,11 @@ pub size_given : (Says : ℕ → Type 0) (room written answer : ℕ) (r : Result
     → MatchResult r (Answers room written answer) (λ e. (answer ≡ variant_number e) × (written ≡ 0)) → Says written
 size_given Says room written answer (Ok size) says none (count, answers) = subst Says (sym count) says
 size_given Says room written answer (Err e) says none (answers, zero) = subst Says (sym zero) none
+
+-- a run that was looked for is shown, or why there is none
+pub run_shown : (IsAnswer : Option (ℕ × FileDataSequenceEntry) → Type 0) (IsCause : CoreError → Type 0) (old new : XetSegment) (count answer : ℕ) (found : CoreResult (Option (ℕ × FileDataSequenceEntry)))
+    → MatchResult found IsAnswer IsCause
+    → MatchResult found (λ run. IsRun run old new count × (answer ≡ 0)) (λ e. (new ≡ old) × (count ≡ 0) × (answer ≡ variant_number e))
+    → ShowsRun IsAnswer IsCause old new count answer
+run_shown IsAnswer IsCause old new count answer (Ok run) is shown = inl (run, is, shown.0, shown.1)
+run_shown IsAnswer IsCause old new count answer (Err e) is shown = inr (e, is, shown.0, shown.1, shown.2)

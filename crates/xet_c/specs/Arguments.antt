@@ -8,6 +8,7 @@ use Rattle.xet_core_structures.specs.declared.file_structs.MDBFileInfo.{MDBFileI
 use Rattle.xet_core_structures.specs.declared.merklehash.DataHash.{DataHash}
 use Rattle.xet_core_structures.specs.declared.shard_format.MDBShardInfo.{MDBShardInfo}
 use Rattle.xet_core_structures.specs.declared.set_operations.ranges.HashRange.{HashRange}
+use Rattle.xet_core_structures.specs.Errors.{variant_number}
 use Rattle.xet_core_structures.specs.FileRecord.{has_verification}
 use Rattle.xet_core_structures.specs.Hash.{words_of}
 use Rattle.shard_bytes.specs.declared.export.Export.{Export}
@@ -15,7 +16,7 @@ use Rattle.shard_bytes.specs.declared.minimal.KeptXorbs.{KeptXorbs}
 use Rattle.shard_bytes.specs.declared.minimal.KeptXorbs.TheVariants.{All as all_xorbs, Listed}
 use Rattle.shard_bytes.specs.declared.minimal.Subset.{Subset}
 use Rattle.shard_bytes.specs.Minimal.{SubsetBytes}
-use Rattle.shard_bytes.specs.Query.{AnswersQuery, RefusesQuery}
+use Rattle.shard_bytes.specs.Query.{AnswersQuery, RefusesQuery, AnswersQueryAt, RefusesQueryAt}
 use Rattle.xet_c.specs.declared.export.XetExport.{XetExport}
 use Rattle.xet_c.specs.declared.find.XetFile.{XetFile}
 use Rattle.xet_c.specs.declared.hash.XetHash.{XetHash}
@@ -50,6 +51,15 @@ c_info info = record {
   stored_bytes_on_disk = info.metadata.stored_bytes_on_disk;
   materialized_bytes = info.metadata.materialized_bytes;
   stored_bytes = info.metadata.stored_bytes;
+  file_section = info.metadata.file_info_offset;
+  xorb_section = info.metadata.xorb_info_offset;
+  file_table = info.metadata.file_lookup_offset;
+  xorb_table = info.metadata.xorb_lookup_offset;
+  chunk_table = info.metadata.chunk_lookup_offset;
+  footer = info.metadata.footer_offset;
+  footer_size = info.header.footer_size;
+  footer_version = info.metadata.version;
+  reserved = info.metadata._buffer;
 }
 
 -- a hash by its words
@@ -142,6 +152,28 @@ abbrev pub RefusesRun : List ℕ → List XetHash → CoreError → Type 0
 RefusesRun bytes cs e =
     (e ≡ OutOfMemory)
     ⊎ ((hashes : List DataHash) × (map c_hash hashes ≡ cs) × RefusesQuery bytes hashes e)
+
+-- what a query for these hashes answers at a row and an index
+abbrev pub AnswersRunAt : List ℕ → List XetHash → (row index : ℕ)
+    → Option (ℕ × FileDataSequenceEntry) → Type 0
+AnswersRunAt bytes cs row index answer =
+    (hashes : List DataHash) × (map c_hash hashes ≡ cs)
+    × AnswersQueryAt bytes hashes row index answer
+
+-- why a query for these hashes at a row and an index is refused
+abbrev pub RefusesRunAt : List ℕ → List XetHash → (row index : ℕ) → CoreError → Type 0
+RefusesRunAt bytes cs row index e =
+    (e ≡ OutOfMemory)
+    ⊎ ((hashes : List DataHash) × (map c_hash hashes ≡ cs)
+    × RefusesQueryAt bytes hashes row index e)
+
+-- an answer is shown, or why there is none: then the count is 0, and the segment stays
+abbrev pub ShowsRun : (Option (ℕ × FileDataSequenceEntry) → Type 0) → (CoreError → Type 0)
+    → (old new : XetSegment) → (count result : ℕ) → Type 0
+ShowsRun Answers Refuses old new count result =
+    ((answer : Option (ℕ × FileDataSequenceEntry)) × Answers answer × IsRun answer old new count
+    × (result ≡ 0))
+    ⊎ ((e : CoreError) × Refuses e × (new ≡ old) × (count ≡ 0) × (result ≡ variant_number e))
 
 -- a bound is asked for by its words, or none is
 abbrev pub IsBound : Bool → List ℕ → Option DataHash → Type 0

@@ -3,6 +3,7 @@ pub mod Arguments
 pub mod Checking
 pub mod Finding
 pub mod Output
+pub mod Parts
 pub mod Recording
 pub mod Text
 pub mod Walking

@@ -9,6 +9,7 @@
 
 mod agree;
 mod check;
+mod chunk_rows;
 mod combine;
 mod eligible;
 mod export;
@@ -21,6 +22,7 @@ mod load;
 mod merge;
 mod minimal;
 mod output;
+mod parts;
 mod query;
 mod records;
 mod release;

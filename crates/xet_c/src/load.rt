@@ -14,8 +14,9 @@ use std::alloc::Global;
 use xet_core_structures::error::CoreError;
 use xet_core_structures::shard_format::MDBShardInfo;
 
-/// What header and footer of a shard say: the version, the rows of the three tables, the key, times
-/// in seconds, and sizes.
+/// What header and footer of a shard say, all but the tag, which is one: the version, the rows of the
+/// three tables, the key, times in seconds, sizes, the offsets of the parts in bytes, the size of
+/// the footer by the header, and the footer's version and reserved words.
 #[repr(C)]
 #[derive(Clone, Copy, Drop)]
 pub struct XetInfo {
@@ -29,9 +30,19 @@ pub struct XetInfo {
     pub stored_bytes_on_disk: u64,
     pub materialized_bytes: u64,
     pub stored_bytes: u64,
+    pub file_section: u64,
+    pub xorb_section: u64,
+    pub file_table: u64,
+    pub xorb_table: u64,
+    pub chunk_table: u64,
+    pub footer: u64,
+    pub footer_size: u64,
+    pub footer_version: u64,
+    pub reserved: [u64; 6],
 }
 
-/// Reads header and footer of a shard. If the result is not 0, `info` stays as it is.
+/// Reads header and footer of a shard, or of its first 48 and its last 200 bytes. If the result is
+/// not 0, `info` stays as it is.
 #[unsafe(no_mangle)]
 pub extern "C" fn xet_load(alloc: Global, shard: &[u8], info: &mut XetInfo) -> u32
     ensures { ((i : MDBShardInfo) × HasHeaderAndFooter shard.now i × (info.new ≡ c_info i) × (result ≡ 0))
@@ -63,5 +74,14 @@ fn info_of(info: &MDBShardInfo) -> XetInfo
         stored_bytes_on_disk: footer.stored_bytes_on_disk,
         materialized_bytes: footer.materialized_bytes,
         stored_bytes: footer.stored_bytes,
+        file_section: footer.file_info_offset,
+        xorb_section: footer.xorb_info_offset,
+        file_table: footer.file_lookup_offset,
+        xorb_table: footer.xorb_lookup_offset,
+        chunk_table: footer.chunk_lookup_offset,
+        footer: footer.footer_offset,
+        footer_size: info.header.footer_size,
+        footer_version: footer.version,
+        reserved: footer._buffer,
     }
 }

@@ -154,7 +154,8 @@ pub extern "C" fn xet_xorb_at(
     show_xorb(alloc, row, &found, place, xorb, chunks)
 }
 
-fn show_xorb(
+/// Shows what was found at a row, unless an allocation fails.
+pub fn show_xorb(
     alloc: Global,
     row: u32,
     found: &Result<Option<MDBXorbInfo>>,

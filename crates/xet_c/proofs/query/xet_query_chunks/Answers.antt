@@ -1,0 +1,5 @@
+use Rattle.xet_c.proofs.Outcomes.{run_shown}
+use Rattle.xet_c.proofs.query.xet_query_chunks.Goals as goal
+
+pub returns : goal.returns
+returns c = run_shown _ _ _ _ _ _ c.query-found.result c.query-found.ensures c.show_run.ensures
