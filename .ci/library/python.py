@@ -16,7 +16,7 @@ SONAME = f"libxet.so.{read(f'{TOP}/VERSION').split('.')[0]}"
 # The types of fields, in Rattle and in the Python module.
 TYPES = {
     "bool": ctypes.c_bool, "u32": ctypes.c_uint32, "u64": ctypes.c_uint64, "usize": ctypes.c_size_t,
-    "[u64; 4]": ctypes.c_uint64 * 4,
+    "[u64; 4]": ctypes.c_uint64 * 4, "[u64; 6]": ctypes.c_uint64 * 6,
 }
 # The structs of crates/xet_c, in the Python module and in xet.h.
 STRUCTS = {
@@ -27,6 +27,7 @@ STRUCTS = {
     "XetFinding": ("_Finding", "xet_finding"), "XetXorb": ("_Xorb", "xet_xorb"), "XetChunk": ("_Chunk", "xet_chunk"),
     "XetListedFile": ("_ListedFile", "xet_listed_file"), "XetListedXorb": ("_ListedXorb", "xet_listed_xorb"),
     "XetCounts": ("_Counts", "xet_counts"), "XetRange": ("_Range", "xet_range"),
+    "XetChunkRow": ("_ChunkRow", "xet_chunk_row"), "XetChunkPlace": ("_ChunkPlace", "xet_chunk_place"),
 }
 
 
@@ -111,10 +112,10 @@ def copied(room, library):
 
 def check_package(room, library):
     """The module opens the library beside it, which is no module in its help."""
-    program = "import pkgutil, xet_shards as it; print(list(pkgutil.iter_modules(it.__path__)), it.__version__)"
+    program = "import pkgutil, xet_shards as it; print(*(m[1] for m in pkgutil.iter_modules(it.__path__)), it.__version__)"
     folder = copied(room, library)
     printed, why = ran(sys.executable, "-c", program, cwd=room, env={"PYTHONPATH": folder, "XET_LIBRARY": ""})
-    wanted = f"[] {read(f'{TOP}/VERSION')}"
+    wanted = f"index {read(f'{TOP}/VERSION')}"
     return why or (None if printed == wanted else f"the package shows {printed}")
 
 
@@ -143,13 +144,13 @@ def check_wheel(room, library):
         return f"no {os.path.basename(wheel)} is built, but {[it for it in os.listdir(room) if it.endswith('.whl')]}"
     with zipfile.ZipFile(wheel) as file:
         names = {os.path.basename(it) for it in file.namelist()}
-    missing = {"__init__.py", "py.typed", SONAME, "LICENSE", "NOTICE"} - names
+    missing = {"__init__.py", "index.py", "py.typed", SONAME, "LICENSE", "NOTICE"} - names
     return f"the wheel lacks {sorted(missing)}" if missing else None
 
 
-def run_tests(named):
-    """Returns how many Python tests passed, and what is wrong with those that failed."""
-    printed, why = ran(sys.executable, f"{MODULE}/tests/test_vectors.py", env=named)
+def run_tests(file, named):
+    """Returns how many Python tests of a file passed, and what is wrong with those that failed."""
+    printed, why = ran(sys.executable, f"{MODULE}/tests/{file}", env=named)
     lines = printed.splitlines()
     counts = re.fullmatch(r"(\d+) passed, (\d+) failed", lines[-1] if lines else "")
     failed = lines[:-1] if counts and counts[2] != "0" else []

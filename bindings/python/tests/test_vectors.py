@@ -82,15 +82,22 @@ def refused(name, call, *arguments, **named):
 
 def test_load():
     assert len(ONE_FILE) == 452 and ONE_FILE == shard_of("file 100 200:0:5:5")
-    none = xet_shards.NO_KEY
-    assert xet_shards.load(ONE_FILE) == xet_shards.Info(3, 1, 0, 0, none, 0, xet_shards.NO_EXPIRY, 0, 5, 0)
-    assert xet_shards.load(XORB_AND_FILE) == xet_shards.Info(3, 1, 1, 1, none, 0, xet_shards.NO_EXPIRY, 0, 5, 5)
+    none, end = xet_shards.NO_KEY, (200, 1, (0,) * 6)
+    assert xet_shards.load(ONE_FILE) == xet_shards.Info(
+        3, 1, 0, 0, none, 0, xet_shards.NO_EXPIRY, 0, 5, 0, 48, 192, 240, 252, 252, 252, *end
+    )
+    assert xet_shards.load(XORB_AND_FILE) == xet_shards.Info(
+        3, 1, 1, 1, none, 0, xet_shards.NO_EXPIRY, 0, 5, 5, 48, 192, 336, 348, 360, 376, *end
+    )
 
 
 def test_load_an_export():
     key = hash_text("7")
     exported = xet_shards.export(XORB_AND_FILE, key, 1000, 60, files=False)
-    assert xet_shards.load(exported) == xet_shards.Info(3, 0, 1, 1, key, 1000, 1060, 0, 0, 5)
+    # The file section has its bookend alone.
+    assert xet_shards.load(exported) == xet_shards.Info(
+        3, 0, 1, 1, key, 1000, 1060, 0, 0, 5, 48, 96, 240, 240, 252, 268, 200, 1, (0,) * 6
+    )
 
 
 def test_kinds_of_bytes():
@@ -760,7 +767,7 @@ def test_arguments():
 
 def test_sizes_of_structs():
     # Of a 64-bit target: each word at a multiple of eight.
-    sizes = {"_Hash": 32, "_Segment": 48, "_Info": 104, "_Export": 56, "_File": 80}
+    sizes = {"_Hash": 32, "_Segment": 48, "_Info": 216, "_Export": 56, "_File": 80}
     assert {it: ctypes.sizeof(getattr(xet_shards, it)) for it in sizes} == sizes
 
 
@@ -847,8 +854,9 @@ def test_outputs_of_queries():
         assert (count.value, bytes(run)) == (0, before)
 
 
-def main():
-    tests = {name: test for name, test in globals().items() if name.startswith("test_")}
+def main(names):
+    """Runs the tests among some names. Returns 1 if one failed."""
+    tests = {name: test for name, test in names.items() if name.startswith("test_") and callable(test)}
     failed = 0
     for name, test in tests.items():
         try:
@@ -862,4 +870,4 @@ def main():
 
 
 if __name__ == "__main__":
-    sys.exit(main())
+    sys.exit(main(globals()))

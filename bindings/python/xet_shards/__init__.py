@@ -25,11 +25,13 @@ from dataclasses import dataclass
 from typing import Any, Callable, Dict, Iterable, Iterator, List, Optional, Sequence, Tuple, Union
 
 __all__ = [
-    "Buffer", "Chunk", "Disagreement", "DisagreementError", "File", "Finding", "Info", "ListedFile", "MalformedError",
-    "MalformedRecord", "NO_EXPIRY", "NO_KEY", "Run", "Segment", "Table", "WritableBuffer", "XetError", "Xorb", "check",
-    "concatenate", "difference", "eligible", "export", "files", "find_disagreement", "find_file", "find_malformed",
-    "from_table", "hash_bytes", "hash_of_name", "hash_texts", "hmac", "load", "merge", "merge_into", "merge_room",
-    "minimal", "query_chunks", "shard_name", "subset", "table", "union", "write", "write_v2", "xorbs",
+    "Buffer", "Chunk", "Disagreement", "DisagreementError", "File", "Finding", "Index", "Info", "ListedFile",
+    "MalformedError", "MalformedRecord", "NO_EXPIRY", "NO_KEY", "Run", "Segment", "Table", "WritableBuffer",
+    "XetError", "Xorb", "check", "chunk_rows", "concatenate", "difference", "eligible", "export", "file_at", "file_in",
+    "files", "find_disagreement", "find_file", "find_malformed", "find_places", "find_rows", "from_table",
+    "hash_bytes", "hash_of_name", "hash_texts", "hmac", "load", "merge", "merge_into", "merge_room", "minimal",
+    "query_at", "query_chunks", "shard_name", "subset", "table", "union", "write", "write_v2", "xorb_at", "xorb_in",
+    "xorbs",
 ]
 
 __version__ = "0.1.0"
@@ -164,7 +166,11 @@ class MalformedError(XetError):
 
 @dataclass(frozen=True)
 class Info:
-    """What the header and the footer of a shard say. A table that is left out has 0 rows."""
+    """What the header and the footer of a shard say. A table that is left out has 0 rows.
+
+    `file_section` to `footer` are where the parts of the shard start, in bytes from its front. A table ends where the
+    next part starts; its rows have 12 bytes, in the chunk table 16. A row of a section has 48.
+    """
 
     version: int
     files: int
@@ -176,6 +182,15 @@ class Info:
     stored_bytes_on_disk: int
     materialized_bytes: int
     stored_bytes: int
+    file_section: int
+    xorb_section: int
+    file_table: int
+    xorb_table: int
+    chunk_table: int
+    footer: int
+    footer_size: int
+    footer_version: int
+    reserved: Tuple[int, ...]
 
 
 @dataclass(frozen=True)
@@ -289,7 +304,9 @@ class _Info(ctypes.Structure):
     _fields_ = [
         ("version", c_uint64), ("files", c_uint64), ("xorbs", c_uint64), ("chunks", c_uint64), ("key", _Words),
         ("creation", c_uint64), ("expiry", c_uint64), ("stored_bytes_on_disk", c_uint64),
-        ("materialized_bytes", c_uint64), ("stored_bytes", c_uint64),
+        ("materialized_bytes", c_uint64), ("stored_bytes", c_uint64), ("file_section", c_uint64),
+        ("xorb_section", c_uint64), ("file_table", c_uint64), ("xorb_table", c_uint64), ("chunk_table", c_uint64),
+        ("footer", c_uint64), ("footer_size", c_uint64), ("footer_version", c_uint64), ("reserved", c_uint64 * 6),
     ]
 
 
@@ -325,6 +342,14 @@ class _Xorb(ctypes.Structure):
 
 class _Chunk(ctypes.Structure):
     _fields_ = [("hash", _Words), ("start", c_uint32), ("bytes", c_uint32), ("flags", c_uint32)]
+
+
+class _ChunkRow(ctypes.Structure):
+    _fields_ = [("word", c_uint64), ("row", c_uint32), ("index", c_uint32)]
+
+
+class _ChunkPlace(ctypes.Structure):
+    _fields_ = [("row", c_uint32), ("index", c_uint32)]
 
 
 class _ListedFile(ctypes.Structure):
@@ -388,10 +413,16 @@ _CALLS = {
     "xet_subset": [*_SHARD, POINTER(_Subset), *_HASHES, *_OUT],
     "xet_write_v2": [*_SHARD, *_OUT],
     "xet_query_chunks": [*_SHARD, *_HASHES, POINTER(c_size_t), POINTER(_Segment)],
+    "xet_query_at": [*_SHARD, *_HASHES, c_uint32, c_uint32, POINTER(c_size_t), POINTER(_Segment)],
+    "xet_chunk_rows": [*_SHARD, POINTER(_ChunkRow), c_size_t, POINTER(c_size_t)],
     "xet_eligible": [*_SHARD, *_HASHES, POINTER(c_size_t)],
     "xet_find_file": [*_SHARD, POINTER(_Hash), POINTER(_File), POINTER(_FileSegment), c_size_t],
     "xet_file_at": [*_SHARD, c_uint32, POINTER(_Place), POINTER(_File), POINTER(_FileSegment), c_size_t],
     "xet_xorb_at": [*_SHARD, c_uint32, POINTER(_Place), POINTER(_Xorb), POINTER(_Chunk), c_size_t],
+    "xet_find_rows": [*_SHARD, c_uint64, POINTER(c_uint32), c_size_t, POINTER(c_size_t)],
+    "xet_find_places": [*_SHARD, c_uint64, POINTER(_ChunkPlace), c_size_t, POINTER(c_size_t)],
+    "xet_file_in": [*_SHARD, c_uint64, POINTER(_Place), POINTER(_File), POINTER(_FileSegment), c_size_t],
+    "xet_xorb_in": [*_SHARD, POINTER(_Place), POINTER(_Xorb), POINTER(_Chunk), c_size_t],
     "xet_records": [*_SHARD, *_LISTS, POINTER(_Counts)],
     "xet_write": [*_LISTS, c_uint64, *_OUT],
     "xet_check": [*_SHARD, POINTER(_Finding), c_size_t, POINTER(c_size_t)],
@@ -517,12 +548,15 @@ def _made(room: int, call: Callable[[ctypes.Array[Any], int, c_size_t], Any]) ->
 
 
 def load(shard: Buffer) -> Info:
-    """Returns what the header and the footer of a shard say."""
+    """Returns what the header and the footer of a shard say: its first 48 and its last 200 bytes.
+
+    These 248 bytes are enough, without what lies between them.
+    """
     info = _Info()
     with _Addresses(shard) as [data]:
         _check(_library.xet_load(*data, byref(info)))
     values: Dict[str, Any] = {name: getattr(info, name) for name, *_ in _Info._fields_}
-    values["key"] = _text(info.key)
+    values["key"], values["reserved"] = _text(info.key), tuple(info.reserved)
     return Info(**values)
 
 
@@ -551,24 +585,53 @@ def _shown_file(file: _File, segments: Sequence[_FileSegment]) -> File:
     )
 
 
-def _walked(call: Callable[..., Any], shard: Buffer, record: Any, item: Any, counted: str) -> Iterator[Tuple[Any, ...]]:
-    """Gives the place, the record and the items of each record of a section, until its end. They are used again."""
-    place, row, room = _Place(), 0, 64
-    items = _array(item, room)
+class _Step:
+    """Makes the call of a record, and again if its items do not fit. What it shows is used again by the next call."""
+
+    def __init__(self, record: Any, item: Any, counted: str) -> None:
+        self.place, self.record, self._item, self._counted = _Place(), record, item, counted
+        self._items, self._room = _array(item, 64), 64
+
+    def __call__(self, call: Callable[..., Any], *arguments: Any) -> Any:
+        """Returns the items of the record, or None if there is none."""
+        number = call(*arguments, byref(self.place), byref(self.record), self._items, self._room)
+        if number == _SHORT:
+            self._room = getattr(self.record, self._counted)
+            self._items = _array(self._item, self._room)
+            number = call(*arguments, byref(self.place), byref(self.record), self._items, self._room)
+        _check(number)
+        return self._items[: getattr(self.record, self._counted)] if self.record.found else None
+
+
+def _file_step() -> _Step:
+    return _Step(_File(), _FileSegment, "segments")
+
+
+def _xorb_step() -> _Step:
+    return _Step(_Xorb(), _Chunk, "chunks")
+
+
+def _walked(call: Callable[..., Any], shard: Buffer, step: _Step) -> Iterator[Any]:
+    """Gives the items of each record of a section, until its end."""
+    row = 0
     with _Addresses(shard) as [data]:
         # A row past 32 bits is none of a section.
         while row < 2**32:
-            number = call(*data, row, byref(place), byref(record), items, room)
-            if number == _SHORT:
-                room = getattr(record, counted)
-                items = _array(item, room)
-                number = call(*data, row, byref(place), byref(record), items, room)
-            _check(number)
-            if not record.found:
+            items = step(call, *data, row)
+            if items is None:
                 return
-            yield place, record, items[: getattr(record, counted)]
-            row = place.next
+            yield items
+            row = step.place.next
     raise XetError(_INVALID_SHARD)
+
+
+def _listed_file(step: _Step, segments: Sequence[_FileSegment]) -> ListedFile:
+    return ListedFile(_text(step.place.hash), step.place.flags, _shown_file(step.record, segments))
+
+
+def _listed_xorb(step: _Step, chunks: Sequence[_Chunk]) -> Xorb:
+    listed = tuple(Chunk(_text(it.hash), it.start, it.bytes, it.flags) for it in chunks)
+    return Xorb(_text(step.place.hash), step.place.flags, step.record.bytes, step.record.bytes_on_disk, listed)
 
 
 def files(shard: Buffer) -> Iterator[ListedFile]:
@@ -576,15 +639,83 @@ def files(shard: Buffer) -> Iterator[ListedFile]:
 
     Each is read when it is asked for, so a shard that is invalid may give some files before the error.
     """
-    for place, file, segments in _walked(_library.xet_file_at, shard, _File(), _FileSegment, "segments"):
-        yield ListedFile(_text(place.hash), place.flags, _shown_file(file, segments))
+    step = _file_step()
+    for segments in _walked(_library.xet_file_at, shard, step):
+        yield _listed_file(step, segments)
 
 
 def xorbs(shard: Buffer) -> Iterator[Xorb]:
     """Gives the xorbs of a shard, as `files` gives its files."""
-    for place, xorb, chunks in _walked(_library.xet_xorb_at, shard, _Xorb(), _Chunk, "chunks"):
-        listed = tuple(Chunk(_text(it.hash), it.start, it.bytes, it.flags) for it in chunks)
-        yield Xorb(_text(place.hash), place.flags, xorb.bytes, xorb.bytes_on_disk, listed)
+    step = _xorb_step()
+    for chunks in _walked(_library.xet_xorb_at, shard, step):
+        yield _listed_xorb(step, chunks)
+
+
+def file_at(shard: Buffer, row: int) -> Optional[Tuple[ListedFile, int]]:
+    """Returns the file at a row of the file section, and the row of the next one; or None at the end of the section."""
+    step = _file_step()
+    with _Addresses(shard) as [data]:
+        segments = step(_library.xet_file_at, *data, _number(row))
+    return None if segments is None else (_listed_file(step, segments), step.place.next)
+
+
+def xorb_at(shard: Buffer, row: int) -> Optional[Tuple[Xorb, int]]:
+    """Returns the xorb at a row of the xorb section, and the row of the next one; or None at the end of the section."""
+    step = _xorb_step()
+    with _Addresses(shard) as [data]:
+        chunks = step(_library.xet_xorb_at, *data, _number(row))
+    return None if chunks is None else (_listed_xorb(step, chunks), step.place.next)
+
+
+def file_in(data: Buffer, version: int) -> Optional[Tuple[ListedFile, int]]:
+    """Returns the file's record at the front of some bytes of a shard of this version, and how many rows it has.
+
+    It is None if the section ends there. A row has 48 bytes, and what is behind the record is not looked at. `Io` says
+    that more bytes are needed.
+    """
+    step = _file_step()
+    with _Addresses(data) as [given]:
+        segments = step(_library.xet_file_in, *given, _word(version))
+    return None if segments is None else (_listed_file(step, segments), step.place.next)
+
+
+def xorb_in(data: Buffer) -> Optional[Tuple[Xorb, int]]:
+    """Returns the xorb's record at the front of some bytes of a shard, and how many rows it has, as `file_in` does."""
+    step = _xorb_step()
+    with _Addresses(data) as [given]:
+        chunks = step(_library.xet_xorb_in, *given)
+    return None if chunks is None else (_listed_xorb(step, chunks), step.place.next)
+
+
+def find_rows(table: Buffer, wanted: str) -> List[int]:
+    """Returns the rows of a section that the bytes of its table have under the first word of a hash: 7 at most.
+
+    So a file is found in a shard that is far away by three reads. `load` of its first 48 and its last 200 bytes says
+    where the table of files is, and `file_in` reads the record from a row on, whose hash is to be compared:
+
+        rows = find_rows(read(info.file_table, 12 * info.files), file_hash)
+        found = file_in(read(info.file_section + 48 * rows[0], 48 * 100), info.version)
+    """
+    word = _words(wanted)[0]
+    with _Addresses(table) as [data]:
+        rows = _filled(
+            c_uint32, 7, lambda out, room, written: _library.xet_find_rows(*data, word, out, room, byref(written))
+        )
+    return list(rows)
+
+
+def find_places(table: Buffer, wanted: str) -> List[Tuple[int, int]]:
+    """Returns the places that the bytes of a table of chunks have under the first word of a chunk's hash: 8 at most.
+
+    A place is the row of the xorb section at which a xorb starts, and the index of the chunk in it. If the shard has a
+    key, the hash is one under it, as `hmac` makes it.
+    """
+    word = _words(wanted)[0]
+    with _Addresses(table) as [data]:
+        places = _filled(
+            _ChunkPlace, 8, lambda out, room, written: _library.xet_find_places(*data, word, out, room, byref(written))
+        )
+    return [(it.row, it.index) for it in places]
 
 
 _WITH_VERIFICATION, _WITH_SHA256, _WITH_AUX = 1 << 31, 1 << 30, 1 << 29
@@ -643,6 +774,12 @@ def _written(lists: Sequence[Tuple[Any, int]], expiry: Optional[int]) -> bytes:
     # What xet_write_room of xet.h says, without the 344 bytes of every shard.
     room = 156 * files + 96 * segments + 60 * xorbs + 64 * chunks
     return _made(room, lambda out, room, written: _library.xet_write(*arguments, time, out, room, byref(written)))
+
+
+def _word(number: int) -> int:
+    if not 0 <= number < 2**64:
+        raise ValueError("a number of a shard has 64 bits")
+    return number
 
 
 def _number(number: int) -> int:
@@ -804,6 +941,41 @@ def query_chunks(shard: Buffer, hashes: Sequence[str]) -> Optional[Run]:
     with _Addresses(shard) as [data]:
         _check(_library.xet_query_chunks(*data, wanted, len(hashes), byref(count), byref(run)))
     return Run(count.value, _segment(run)) if count.value else None
+
+
+def query_at(shard: Buffer, hashes: Sequence[str], row: int, index: int) -> Optional[Run]:
+    """Returns the run of these hashes from the chunk at an index of the xorb at a row of the xorb section.
+
+    The hashes are not keyed. It is None if that chunk has another hash than the first.
+    """
+    wanted, count, run = _hashes(hashes), c_size_t(), _Segment()
+    with _Addresses(shard) as [data]:
+        _check(_library.xet_query_at(
+            *data, wanted, len(hashes), _number(row), _number(index), byref(count), byref(run)
+        ))
+    return Run(count.value, _segment(run)) if count.value else None
+
+
+def chunk_rows(shard: Buffer) -> bytes:
+    """Returns where the chunks of a shard are: the rows of its chunk table, or those that it would have.
+
+    Without a table they are in the order of the xorb section. A row has 16 bytes, lowest byte first: the first word of
+    the chunk's hash, under the shard's key if it has one, the row of the xorb section at which its xorb starts, and its
+    index in the xorb. So `struct.iter_unpack("<QII", rows)` gives them one by one, and
+    `numpy.frombuffer(rows, [("word", "<u8"), ("row", "<u4"), ("index", "<u4")])` as an array.
+    """
+    written = c_size_t()
+    with _Addresses(shard) as [data]:
+        # A chunk has a row of 48 bytes in the section, and one of 16 in the table.
+        room = data[1] // 64
+        out = _array(_ChunkRow, room)
+        number = _library.xet_chunk_rows(*data, out, room, byref(written))
+        if number == _SHORT:
+            room = written.value
+            out = _array(_ChunkRow, room)
+            number = _library.xet_chunk_rows(*data, out, room, byref(written))
+    _check(number)
+    return ctypes.string_at(out, written.value * ctypes.sizeof(_ChunkRow))
 
 
 def union(first: Buffer, second: Buffer) -> bytes:
@@ -1081,3 +1253,7 @@ def hmac(key: str, chunk_hash: str) -> str:
     under, wanted, found = _Hash(_words(key)), _Hash(_words(chunk_hash)), _Hash()
     _check(_library.xet_hmac(byref(under), byref(wanted), byref(found)))
     return _text(found.words)
+
+
+# It is made of the functions above.
+from .index import Index  # noqa: E402
