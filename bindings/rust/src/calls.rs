@@ -3,7 +3,7 @@
 //! All `unsafe` code of the crate is the one block in `library`.
 #![allow(unsafe_code)]
 
-use crate::{Chunk, Export, Hash, Info, Segment};
+use crate::{Chunk, ChunkPlace, ChunkRow, Export, Hash, Info, Segment};
 use std::marker::PhantomData;
 
 /// Defines for each call of the library a safe function of the same name.
@@ -62,12 +62,22 @@ library! {
     fn xet_subset(shard: &[u8], options: &Subset, xorbs: &[Hash], out: &mut [u8], written: &mut usize) -> u32;
     fn xet_write_v2(shard: &[u8], out: &mut [u8], written: &mut usize) -> u32;
     fn xet_query_chunks(shard: &[u8], hashes: &[Hash], count: &mut usize, run: &mut Segment) -> u32;
+    fn xet_query_at(
+        shard: &[u8], hashes: &[Hash], row: u32, index: u32, count: &mut usize, run: &mut Segment,
+    ) -> u32;
+    fn xet_chunk_rows(shard: &[u8], out: &mut [ChunkRow], written: &mut usize) -> u32;
     fn xet_eligible(shard: &[u8], out: &mut [Hash], written: &mut usize) -> u32;
     fn xet_find_file(shard: &[u8], hash: &Hash, file: &mut File, segments: &mut [FileSegment]) -> u32;
     fn xet_file_at(
         shard: &[u8], row: u32, place: &mut Place, file: &mut File, segments: &mut [FileSegment],
     ) -> u32;
     fn xet_xorb_at(shard: &[u8], row: u32, place: &mut Place, xorb: &mut Xorb, chunks: &mut [Chunk]) -> u32;
+    fn xet_find_rows(table: &[u8], word: u64, rows: &mut [u32], written: &mut usize) -> u32;
+    fn xet_find_places(table: &[u8], word: u64, places: &mut [ChunkPlace], written: &mut usize) -> u32;
+    fn xet_file_in(
+        bytes: &[u8], version: u64, place: &mut Place, file: &mut File, segments: &mut [FileSegment],
+    ) -> u32;
+    fn xet_xorb_in(bytes: &[u8], place: &mut Place, xorb: &mut Xorb, chunks: &mut [Chunk]) -> u32;
     fn xet_records(
         shard: &[u8], files: &mut [ListedFile], segments: &mut [FileSegment], xorbs: &mut [ListedXorb],
         chunks: &mut [Chunk], counts: &mut Counts,

@@ -22,9 +22,11 @@ mod combine;
 mod error;
 mod finding;
 mod hash;
+mod index;
 mod lookup;
 mod name;
 mod output;
+mod parts;
 mod records;
 mod walk;
 mod write;
@@ -36,10 +38,12 @@ pub use combine::{
 pub use error::Error;
 pub use finding::{check, Finding, Part};
 pub use hash::Hash;
-pub use lookup::{eligible, find_file, load, query_chunks, File, Info, Run, Segment};
+pub use index::Index;
+pub use lookup::{chunk_rows, eligible, find_file, load, query_at, query_chunks, ChunkRow, File, Info, Run, Segment};
 pub use name::{hash_bytes, hash_of_name, hmac, shard_name};
+pub use parts::{file_in, find_places, find_rows, xorb_in, ChunkPlace};
 pub use records::{records, write_records, Records, WITH_AUX, WITH_SHA256, WITH_VERIFICATION};
-pub use walk::{files, xorbs, Chunk, FileIter, ListedFile, Xorb, XorbIter};
+pub use walk::{file_at, files, xorb_at, xorbs, Chunk, FileIter, ListedFile, Xorb, XorbIter};
 pub use write::{export, minimal, subset, write_v2, Export, Minimal, Subset, Xorbs};
 
 /// The version of the library that is linked: 10000 times the first of its three numbers, 100 times the second, and the

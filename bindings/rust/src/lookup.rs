@@ -1,7 +1,7 @@
 //! What a shard says, and what is looked up in it.
 
 use crate::error::check;
-use crate::output::{hashes_of, zeros, SHORT};
+use crate::output::{filled, hashes_of, zeros, SHORT};
 use crate::{calls, Hash, Result};
 
 /// What the header and the footer of a shard say. A table that is left out has 0 rows.
@@ -28,6 +28,24 @@ pub struct Info {
     pub materialized_bytes: u64,
     /// Of all xorbs, unpacked.
     pub stored_bytes: u64,
+    /// Where the section of files starts, in bytes from the front of the shard. A row of a section has 48 bytes.
+    pub file_section: u64,
+    /// Where the section of xorbs starts.
+    pub xorb_section: u64,
+    /// Where the table of files starts. Its rows have 12 bytes.
+    pub file_table: u64,
+    /// Where the table of xorbs starts. Its rows have 12 bytes.
+    pub xorb_table: u64,
+    /// Where the table of chunks starts. Its rows have 16 bytes.
+    pub chunk_table: u64,
+    /// Where the footer starts.
+    pub footer: u64,
+    /// The size of the footer, as the header has it. It is 200 bytes, whatever this is.
+    pub footer_size: u64,
+    /// The version of the footer: 1.
+    pub footer_version: u64,
+    /// The reserved words of the footer.
+    pub reserved: [u64; 6],
 }
 
 /// Chunks `start` to `end`, without `end`, of a xorb.
@@ -68,7 +86,8 @@ pub struct Run {
     pub segment: Segment,
 }
 
-/// Reads the header and the footer of a shard.
+/// Reads the header and the footer of a shard: its first 48 and its last 200 bytes. These 248 bytes are enough, without
+/// what lies between them.
 ///
 /// # Errors
 ///
@@ -151,6 +170,58 @@ pub fn query_chunks(shard: &[u8], hashes: &[Hash]) -> Result<Option<Run>> {
     let (mut count, mut segment) = (0, Segment::default());
     check(calls::xet_query_chunks(shard, hashes, &mut count, &mut segment))?;
     Ok((count > 0).then_some(Run { count, segment }))
+}
+
+/// Looks at the run of these hashes, which are not keyed, from the chunk at an index of the xorb at a row of the xorb
+/// section. It is `None` if that chunk has another hash than the first.
+///
+/// # Errors
+///
+/// - `ShardVersion`, `Io`: as of [`load`]; `Io` also if a row that is read ends too early.
+/// - `InvalidArguments`: there is no xorb at the row, or it has no chunk at the index.
+/// - `InvalidShard`: a number does not fit its width.
+/// - `OutOfMemory`: an allocation failed.
+///
+/// ```
+/// # fn main() -> Result<(), Box<dyn std::error::Error>> {
+/// let shard = std::fs::read("examples/b.mdb")?;
+/// for place in xet_shards::chunk_rows(&shard)? {
+///     let hash = [place.word, 1, 0, 0].into();
+///     let run = xet_shards::query_at(&shard, &[hash], place.row, place.index)?.expect("the chunk is there");
+///     assert_eq!((run.count, run.segment.start), (1, place.index));
+/// }
+/// # Ok(())
+/// # }
+/// ```
+pub fn query_at(shard: &[u8], hashes: &[Hash], row: u32, index: u32) -> Result<Option<Run>> {
+    let (mut count, mut segment) = (0, Segment::default());
+    check(calls::xet_query_at(shard, hashes, row, index, &mut count, &mut segment))?;
+    Ok((count > 0).then_some(Run { count, segment }))
+}
+
+/// A row of a chunk table: where a chunk is.
+#[derive(Clone, Copy, Debug, Default, PartialEq, Eq, Hash)]
+#[repr(C)]
+pub struct ChunkRow {
+    /// The first word of the chunk's hash, under the key of the shard if it has one.
+    pub word: u64,
+    /// The row of the xorb section at which its xorb starts.
+    pub row: u32,
+    /// Its index among the chunks of the xorb.
+    pub index: u32,
+}
+
+/// Where the chunks of a shard are: the rows of its chunk table, or, if that is left out, those that it would have, in
+/// the order of the xorb section.
+///
+/// # Errors
+///
+/// - `ShardVersion`, `Io`: as of [`load`]; `Io` also if the table or the section ends too early.
+/// - `InvalidShard`: there are more than 4294967295 rows.
+/// - `OutOfMemory`: an allocation failed.
+pub fn chunk_rows(shard: &[u8]) -> Result<Vec<ChunkRow>> {
+    // The table has 16 bytes for each chunk, and the section 48.
+    filled(shard.len() / 64, |out, written| calls::xet_chunk_rows(shard, out, written))
 }
 
 /// The hashes of the chunks that the global index keeps, each once and in ascending order.

@@ -106,18 +106,46 @@ impl Iterator for FileIter<'_> {
 
     fn next(&mut self) -> Option<Self::Item> {
         let row = self.row.take()?;
-        let read =
-            |row, place: &mut _, file: &mut _, items: &mut [_]| calls::xet_file_at(self.shard, row, place, file, items);
-        match step(row, &mut self.room, read, |file: &calls::File| file.found.then_some(file.segments)) {
-            Ok(None) => None,
-            Ok(Some((place, file, count))) => {
-                let segments = &self.room[..count];
-                self.row = Some(place.next);
-                Some(Ok(ListedFile { hash: place.hash, flags: place.flags, file: file_of(&file, segments) }))
-            }
-            Err(error) => Some(Err(error)),
-        }
+        let found = file_by(&mut self.room, row, |row, place, file, items| {
+            calls::xet_file_at(self.shard, row, place, file, items)
+        });
+        let found = found.transpose()?;
+        Some(found.map(|(file, next)| {
+            self.row = Some(next);
+            file
+        }))
     }
+}
+
+/// The file that a call shows, and the row after it.
+pub(crate) fn file_by(
+    room: &mut Vec<calls::FileSegment>,
+    row: u64,
+    call: impl FnMut(u32, &mut calls::Place, &mut calls::File, &mut [calls::FileSegment]) -> u32,
+) -> Result<Option<(ListedFile, u64)>> {
+    let found = step(row, room, call, |file: &calls::File| file.found.then_some(file.segments))?;
+    Ok(found.map(|(place, file, count)| {
+        (ListedFile { hash: place.hash, flags: place.flags, file: file_of(&file, &room[..count]) }, place.next)
+    }))
+}
+
+/// The file at a row of the file section of a shard, and the row of the next one; or `None` at the end of the section.
+///
+/// # Errors
+///
+/// Those of [`files`].
+///
+/// ```
+/// # fn main() -> Result<(), Box<dyn std::error::Error>> {
+/// let shard = std::fs::read("examples/a.mdb")?;
+/// let (file, next) = xet_shards::file_at(&shard, 0)?.expect("the shard has a file");
+/// assert_eq!((file.hash, next), ([100, 1, 0, 0].into(), 2));
+/// assert_eq!(xet_shards::file_at(&shard, 2)?, None);
+/// # Ok(())
+/// # }
+/// ```
+pub fn file_at(shard: &[u8], row: u32) -> Result<Option<(ListedFile, u64)>> {
+    file_by(&mut Vec::new(), row.into(), |row, place, file, items| calls::xet_file_at(shard, row, place, file, items))
 }
 
 /// A walk through the xorb section of a shard: see [`xorbs`].
@@ -151,18 +179,36 @@ impl Iterator for XorbIter<'_> {
 
     fn next(&mut self) -> Option<Self::Item> {
         let row = self.row.take()?;
-        let read =
-            |row, place: &mut _, xorb: &mut _, items: &mut [_]| calls::xet_xorb_at(self.shard, row, place, xorb, items);
-        match step(row, &mut self.room, read, |xorb: &calls::Xorb| xorb.found.then_some(xorb.chunks)) {
-            Ok(None) => None,
-            Ok(Some((place, xorb, count))) => {
-                let (bytes, bytes_on_disk) = (xorb.bytes, xorb.bytes_on_disk);
-                Some(copied(&self.room[..count]).map(|chunks| {
-                    self.row = Some(place.next);
-                    Xorb { hash: place.hash, flags: place.flags, bytes, bytes_on_disk, chunks }
-                }))
-            }
-            Err(error) => Some(Err(error)),
-        }
+        let found = xorb_by(&mut self.room, row, |row, place, xorb, items| {
+            calls::xet_xorb_at(self.shard, row, place, xorb, items)
+        });
+        let found = found.transpose()?;
+        Some(found.map(|(xorb, next)| {
+            self.row = Some(next);
+            xorb
+        }))
     }
+}
+
+/// The xorb that a call shows, and the row after it.
+pub(crate) fn xorb_by(
+    room: &mut Vec<Chunk>,
+    row: u64,
+    call: impl FnMut(u32, &mut calls::Place, &mut calls::Xorb, &mut [Chunk]) -> u32,
+) -> Result<Option<(Xorb, u64)>> {
+    let found = step(row, room, call, |xorb: &calls::Xorb| xorb.found.then_some(xorb.chunks))?;
+    let shown = |(place, xorb, count): (calls::Place, calls::Xorb, usize)| {
+        let (bytes, bytes_on_disk, chunks) = (xorb.bytes, xorb.bytes_on_disk, copied(&room[..count])?);
+        Ok((Xorb { hash: place.hash, flags: place.flags, bytes, bytes_on_disk, chunks }, place.next))
+    };
+    found.map(shown).transpose()
+}
+
+/// The xorb at a row of the xorb section of a shard, and the row of the next one; or `None` at the end of the section.
+///
+/// # Errors
+///
+/// Those of [`files`].
+pub fn xorb_at(shard: &[u8], row: u32) -> Result<Option<(Xorb, u64)>> {
+    xorb_by(&mut Vec::new(), row.into(), |row, place, xorb, items| calls::xet_xorb_at(shard, row, place, xorb, items))
 }
