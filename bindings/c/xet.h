@@ -381,16 +381,19 @@ typedef struct xet_file_segment {
     uint64_t verification[4];
 } xet_file_segment;
 
-/* What a file's record has: the number of its segments, whether these have verification hashes, and its SHA-256 and its
- * auxiliary hash, or zeros where it has none. If there is no such file, `found` is false and all else is zero. */
+/* What a file's record has: its flags, the number of its segments, whether these have verification hashes, its SHA-256
+ * and its auxiliary hash, or zeros where it has none, and its reserved word. If there is no such file, `found` is false
+ * and all else is zero. */
 typedef struct xet_file {
     bool found;
     bool has_verification;
     bool has_sha256;
     bool has_aux;
+    uint32_t flags;
     size_t segments;
     uint64_t sha256[4];
     uint64_t aux_hash[4];
+    uint64_t reserved;
 } xet_file;
 
 /* Looks up the file with this hash by the table of files: a shard without that table, as a minimal shard, has no file
@@ -432,12 +435,13 @@ typedef struct xet_xorb {
     size_t chunks;
 } xet_xorb;
 
-/* A chunk of a xorb: its hash, the offset and the number of its bytes, unpacked, and its flags. */
+/* A chunk of a xorb: its hash, the offset and the number of its bytes, unpacked, its flags, and its reserved word. */
 typedef struct xet_chunk {
     uint64_t hash[4];
     uint32_t start;
     uint32_t bytes;
     uint32_t flags;
+    uint32_t reserved;
 } xet_chunk;
 
 /* The same of the xorb section. The errors are those of xet_file_at. */
@@ -516,10 +520,10 @@ typedef struct xet_counts {
 } xet_counts;
 
 /* Reads all records of the sections to which the footer leads, also of a shard without tables, and writes them to the
- * fronts of four lists: files in the order of their section, their segments, xorbs, and their chunks. Where the shard has
- * a key, the chunk hashes are under it. Reserved words are not shown. `counts` says how many there are of each. With
- * XET_SHORT a list has no room for its own, and all lists stay as they are: with all capacities 0 a call asks for the
- * counts. With any other error the counts are 0.
+ * fronts of four lists: files in the order of their section, their segments, xorbs, and their chunks. Where the shard
+ * has a key, the chunk hashes are under it. Reserved words of files are not shown. `counts` says how many there are of
+ * each. With XET_SHORT a list has no room for its own, and all lists stay as they are: with all capacities 0 a call asks
+ * for the counts. With any other error the counts are 0.
  *
  * XET_SHARD_VERSION, XET_IO: the errors of xet_load; XET_IO also if a section ends too early.
  * XET_INVALID_SHARD: a file has a row that the version does not have, or a section more than 4294967295 rows.
@@ -528,9 +532,9 @@ uint32_t xet_records(const uint8_t *shard, size_t length, xet_listed_file *files
                      xet_file_segment *segments, size_t segment_capacity, xet_listed_xorb *xorbs, size_t xorb_capacity,
                      xet_chunk *chunks, size_t chunk_capacity, xet_counts *counts);
 
-/* Writes the shard that has these files and xorbs, in version 3, with all tables and without a key. The records may be in
- * any order. Of two files, or two xorbs, with one hash the later one counts. Reserved words are zeros; the hashes of parts
- * that a file's flags do not name are not read. `expiry` is in seconds, and UINT64_MAX means none.
+/* Writes the shard that has these files and xorbs, in version 3, with all tables and without a key. The records may be
+ * in any order. Of two files, or two xorbs, with one hash the later one counts. Reserved words of files are zeros; the
+ * hashes of parts that a file's flags do not name are not read. `expiry` is in seconds, and UINT64_MAX means none.
  *
  * So the lists that xet_records makes of a shard without a key, in the form in which this library writes it and with
  * reserved words that are zeros, are written as the bytes of the same shard, in version 3 and with the expiry given.

@@ -122,9 +122,11 @@ impl Call {
 /// The timestamp that minimal shards and subsets get.
 pub const NOW: u64 = 1_700_000_000;
 
-/// A file's segments, the hashes of its verification rows and its SHA-256.
+/// A file's flags and reserved word, its segments, the hashes of its verification rows and its SHA-256.
 #[derive(Clone, PartialEq, Eq, Debug)]
 pub struct File {
+    pub flags: u32,
+    pub reserved: u64,
     pub segments: Vec<Segment>,
     pub verification: Option<Vec<[u64; 4]>>,
     pub sha256: Option<[u64; 4]>,

@@ -79,6 +79,8 @@ fn call_original(call: &Call, first: &[u8], second: &[u8]) -> Result<Answer> {
             let found = load(first)?
                 .get_file_reconstruction_info(&mut Cursor::new(first), &merkle(hash))?;
             Answer::File(found.map(|file| File {
+                flags: file.metadata.file_flags,
+                reserved: file.metadata._unused,
                 segments: file.segments.iter().map(segment).collect(),
                 verification: file.contains_verification().then(|| {
                     let rows = file.verification.iter();

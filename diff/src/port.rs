@@ -11,9 +11,11 @@ struct FoundFile {
     has_verification: bool,
     has_sha256: bool,
     has_aux: bool,
+    flags: u32,
     segments: usize,
     sha256: [u64; 4],
     aux_hash: [u64; 4],
+    reserved: u64,
 }
 
 #[repr(C)]
@@ -248,6 +250,8 @@ fn find(shard: &[u8], hash: &Hash) -> Answer {
     segments.truncate(file.segments);
     let verification = segments.iter().map(|row| row.verification).collect();
     Answer::File(file.found.then_some(File {
+        flags: file.flags,
+        reserved: file.reserved,
         segments: segments.iter().map(|row| row.segment).collect(),
         verification: file.has_verification.then_some(verification),
         sha256: file.has_sha256.then_some(file.sha256),

@@ -361,6 +361,22 @@ def test_hashes():
     raises(ValueError, xet_shards.hmac, key, key[1:])
 
 
+def test_reserved_words():
+    # Those of the file's header and of the chunk.
+    marked = bytearray(XORB_AND_FILE)
+    marked[88:96], marked[284:288] = struct.pack("<Q", 7), struct.pack("<I", 8)
+    file, wanted = xet_shards._File(), xet_shards._Hash(scripts.words_of(hash_text("100")))
+    segments = (xet_shards._FileSegment * 1)()
+    call, shard = xet_shards._library.xet_find_file, bytes(marked)
+    assert call(shard, len(shard), ctypes.byref(wanted), ctypes.byref(file), segments, 1) == 0
+    assert (file.flags, file.reserved) == (0, 7)
+    (xorb,) = xet_shards.xorbs(marked)
+    assert (xorb.chunks[0].flags, xorb.chunks[0].reserved) == (0, 8)
+    # What is written has that of the chunk alone.
+    marked[88:96] = bytes(8)
+    assert xet_shards.write(xet_shards.files(marked), [xorb]) == marked
+
+
 def test_digits():
     digits = b"000000000000000100000000000000020000000000000003000000000000000a"
     words, written = xet_shards._Hash((1, 2, 3, 10)), ctypes.c_size_t()
@@ -767,7 +783,7 @@ def test_arguments():
 
 def test_sizes_of_structs():
     # Of a 64-bit target: each word at a multiple of eight.
-    sizes = {"_Hash": 32, "_Segment": 48, "_Info": 216, "_Export": 56, "_File": 80}
+    sizes = {"_Hash": 32, "_Segment": 48, "_Info": 216, "_Export": 56, "_File": 88, "_Chunk": 48}
     assert {it: ctypes.sizeof(getattr(xet_shards, it)) for it in sizes} == sizes
 
 
@@ -804,7 +820,7 @@ def test_outputs_of_errors():
 
 
 def test_outputs_of_lookups():
-    file = xet_shards._File(True, True, True, True, 4, (1, 2, 3, 4), (5, 6, 7, 8))
+    file = xet_shards._File(True, True, True, True, 3, 4, (1, 2, 3, 4), (5, 6, 7, 8), 9)
     segments = (xet_shards._FileSegment * 2)()
     segments[0].segment.bytes, segments[1].segment.bytes = 123, 456
     before, rows = bytes(file), bytes(segments)
@@ -818,6 +834,7 @@ def test_outputs_of_lookups():
     assert call(three, len(three), ctypes.byref(wanted), ctypes.byref(file), segments, 2) == 19
     assert (file.found, file.segments) == (True, 3)
     assert (file.has_verification, file.has_sha256, file.has_aux) == (False, True, False)
+    assert (file.flags, file.reserved) == (1 << 30, 0)
     assert (list(file.sha256), list(file.aux_hash), bytes(segments)) == ([3, 1, 0, 0], [0] * 4, rows)
     # What is behind the segments stays.
     assert call(ONE_FILE, len(ONE_FILE), ctypes.byref(wanted), ctypes.byref(file), segments, 2) == 0

@@ -237,12 +237,13 @@ class ListedFile:
 
 @dataclass(frozen=True)
 class Chunk:
-    """A chunk of a xorb: its bytes, unpacked, and at which offset they start, and its flags."""
+    """A chunk of a xorb: its bytes, unpacked, and at which offset they start, its flags, and its reserved word."""
 
     hash: str
     start: int
     bytes: int
     flags: int
+    reserved: int = 0
 
 
 @dataclass(frozen=True)
@@ -328,7 +329,7 @@ class _Range(ctypes.Structure):
 class _File(ctypes.Structure):
     _fields_ = [
         ("found", c_bool), ("has_verification", c_bool), ("has_sha256", c_bool), ("has_aux", c_bool),
-        ("segments", c_size_t), ("sha256", _Words), ("aux_hash", _Words),
+        ("flags", c_uint32), ("segments", c_size_t), ("sha256", _Words), ("aux_hash", _Words), ("reserved", c_uint64),
     ]
 
 
@@ -341,7 +342,9 @@ class _Xorb(ctypes.Structure):
 
 
 class _Chunk(ctypes.Structure):
-    _fields_ = [("hash", _Words), ("start", c_uint32), ("bytes", c_uint32), ("flags", c_uint32)]
+    _fields_ = [
+        ("hash", _Words), ("start", c_uint32), ("bytes", c_uint32), ("flags", c_uint32), ("reserved", c_uint32),
+    ]
 
 
 class _ChunkRow(ctypes.Structure):
@@ -630,7 +633,7 @@ def _listed_file(step: _Step, segments: Sequence[_FileSegment]) -> ListedFile:
 
 
 def _listed_xorb(step: _Step, chunks: Sequence[_Chunk]) -> Xorb:
-    listed = tuple(Chunk(_text(it.hash), it.start, it.bytes, it.flags) for it in chunks)
+    listed = tuple(Chunk(_text(it.hash), it.start, it.bytes, it.flags, it.reserved) for it in chunks)
     return Xorb(_text(step.place.hash), step.place.flags, step.record.bytes, step.record.bytes_on_disk, listed)
 
 
@@ -760,7 +763,9 @@ def write(files: Iterable[ListedFile], xorbs: Iterable[Xorb], expiry: Optional[i
     for xorb in xorbs:
         numbers = map(_number, (xorb.flags, len(xorb.chunks), xorb.bytes, xorb.bytes_on_disk))
         listed_xorbs.append(_ListedXorb(_words(xorb.hash), *numbers))
-        chunks += [_Chunk(_words(it.hash), *map(_number, (it.start, it.bytes, it.flags))) for it in xorb.chunks]
+        chunks += [
+            _Chunk(_words(it.hash), *map(_number, (it.start, it.bytes, it.flags, it.reserved))) for it in xorb.chunks
+        ]
     lists: List[Tuple[Any, List[Any]]] = [
         (_ListedFile, listed), (_FileSegment, segments), (_ListedXorb, listed_xorbs), (_Chunk, chunks),
     ]
@@ -811,7 +816,7 @@ class Table:
     - `segments`: `xorb0` to `xorb3`, `flags`, `bytes`, `start`, `end`, and `verification0` to `verification3`
     - `xorbs`: `hash0` to `hash3`, `flags`, `chunks`, how many of the array of chunks are its own, `bytes`,
       `bytes_on_disk`
-    - `chunks`: `hash0` to `hash3`, `start`, `bytes`, `flags`
+    - `chunks`: `hash0` to `hash3`, `start`, `bytes`, `flags`, `reserved`, which may be left out for zeros
 
     The array that says to which xorb a chunk belongs is `numpy.repeat(numpy.arange(len(xorbs)), xorbs["chunks"])`.
     """
@@ -850,7 +855,7 @@ def _types() -> Tuple[Any, ...]:
         type_of(("xorb", True), *numbers("flags", "bytes", "start", "end"), ("verification", True),
                 size=ctypes.sizeof(_FileSegment)),
         type_of(hash_of, *numbers("flags", "chunks", "bytes", "bytes_on_disk"), size=ctypes.sizeof(_ListedXorb)),
-        type_of(hash_of, *numbers("start", "bytes", "flags"), size=ctypes.sizeof(_Chunk)),
+        type_of(hash_of, *numbers("start", "bytes", "flags", "reserved"), size=ctypes.sizeof(_Chunk)),
     )
 
 
@@ -895,7 +900,13 @@ def _as_type(columns: Any, wanted: Any) -> Any:
         return numpy.require(columns, requirements=["C", "A"])
     made = numpy.zeros(len(columns[wanted.names[0]]), wanted)
     for name in wanted.names:
-        column = numpy.asarray(columns[name])
+        try:
+            column = numpy.asarray(columns[name])
+        except (KeyError, ValueError):
+            # Of an array without this field the error is another than of a mapping.
+            if name != "reserved":
+                raise
+            continue
         # A number that is out of range, or no number, is not to become another.
         if column.size and not (column.dtype.kind in "iu" and int(column.min()) >= 0
                                 and int(column.max()) <= numpy.iinfo(wanted[name]).max):

@@ -123,9 +123,11 @@ pub struct File {
     pub has_verification: bool,
     pub has_sha256: bool,
     pub has_aux: bool,
+    pub flags: u32,
     pub segments: usize,
     pub sha256: Hash,
     pub aux_hash: Hash,
+    pub reserved: u64,
 }
 
 #[repr(C)]

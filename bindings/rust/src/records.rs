@@ -99,9 +99,11 @@ fn listed(it: &calls::ListedFile, segments: &[calls::FileSegment]) -> ListedFile
         has_verification: it.flags & WITH_VERIFICATION != 0,
         has_sha256: it.flags & WITH_SHA256 != 0,
         has_aux: it.flags & WITH_AUX != 0,
+        flags: it.flags,
         segments: segments.len(),
         sha256: it.sha256,
         aux_hash: it.aux_hash,
+        reserved: 0,
     };
     ListedFile { hash: it.hash, flags: it.flags, file: file_of(&file, segments) }
 }
@@ -121,7 +123,7 @@ fn listed(it: &calls::ListedFile, segments: &[calls::FileSegment]) -> ListedFile
 ///
 /// # fn main() -> Result<(), Box<dyn std::error::Error>> {
 /// let xorb = [10, 1, 0, 0].into();
-/// let chunks = vec![Chunk { hash: [21, 1, 0, 0].into(), start: 0, bytes: 5, flags: 0 }];
+/// let chunks = vec![Chunk { hash: [21, 1, 0, 0].into(), start: 0, bytes: 5, ..Chunk::default() }];
 /// let xorbs = [Xorb { hash: xorb, flags: 0, bytes: 5, bytes_on_disk: 0, chunks }];
 /// let segments = vec![Segment { xorb, flags: 0, bytes: 5, start: 0, end: 1 }];
 /// let file = File { segments, verification: None, sha256: None, aux_hash: None };

@@ -28,6 +28,8 @@ pub struct Chunk {
     pub bytes: u32,
     /// The flags of the chunk, as the shard has them.
     pub flags: u32,
+    /// The reserved word of the chunk, as the shard has it.
+    pub reserved: u32,
 }
 
 /// A xorb of a shard.

@@ -122,18 +122,22 @@ c_file (Some file) = record {
   has_verification = has_verification file.metadata.file_flags;
   has_sha256 = is_some file.metadata_ext;
   has_aux = is_some file.aux_ext;
+  flags = file.metadata.file_flags;
   segments = length file.segments;
   sha256 = words_or_zero (option_map (λ row. row.hash) file.metadata_ext);
   aux_hash = words_or_zero (option_map (λ row. row.hash) file.aux_ext);
+  reserved = file.metadata._unused;
 }
 c_file None = record {
   found = false;
   has_verification = false;
   has_sha256 = false;
   has_aux = false;
+  flags = 0;
   segments = 0;
   sha256 = words_or_zero None;
   aux_hash = words_or_zero None;
+  reserved = 0;
 }
 
 -- a count and a segment show the answer of a query: of none the count is 0, and the segment stays

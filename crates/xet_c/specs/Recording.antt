@@ -70,11 +70,10 @@ pub record IsListedFile (f : XetListedFile) (segments : List XetFileSegment) (r 
   pub sha256 : AreHashRows (if_flagged (has_metadata_ext f.flags) (f.sha256 ∷ [])) (option_to_list r.metadata_ext)
   pub aux_hash : AreHashRows (if_flagged (has_aux_ext f.flags) (f.aux_hash ∷ [])) (option_to_list r.aux_ext)
 
--- the record of a xorb of a list that has these chunks; reserved words are zeros
+-- the record of a xorb of a list that has these chunks
 pub record IsListedXorb (x : XetListedXorb) (chunks : List XetChunk) (r : MDBXorbInfo) : Type 0 where
   pub header : c_listed_xorb r ≡ x
   pub chunks_are : map c_chunk r.chunks ≡ chunks
-  pub reserved : All (λ c. c._unused ≡ 0) r.chunks
 
 -- the records of a list, each with as many of the items of another list as it says, one after
 -- another, and all of them

@@ -58,13 +58,14 @@ c_xorb (Some r) = record {
 }
 c_xorb None = record { found = false; bytes = 0; bytes_on_disk = 0; chunks = 0 }
 
--- the hash and the numbers of a chunk
+-- the hash and the numbers of a chunk, its reserved word among them
 abbrev pub c_chunk : XorbChunkSequenceEntry → XetChunk
 c_chunk c = record {
   hash = words_of c.chunk_hash;
   start = c.chunk_byte_range_start;
   bytes = c.unpacked_segment_bytes;
   flags = c.flags;
+  reserved = c._unused;
 }
 
 -- the chunks of a xorb, or none without a xorb

@@ -16,9 +16,9 @@ use xet_core_structures::error::{CoreError, Result};
 use xet_core_structures::file_structs::MDBFileInfo;
 use xet_core_structures::merklehash::MerkleHash;
 
-/// What a file's record has: the number of its segments, whether these have verification hashes,
-/// and its SHA-256 and its auxiliary hash, or zeros if it has none. If there is no such file,
-/// `found` is false and all else is zero.
+/// What a file's record has: its flags, the number of its segments, whether these have verification
+/// hashes, its SHA-256 and its auxiliary hash, or zeros if it has none, and its reserved word. If
+/// there is no such file, `found` is false and all else is zero.
 #[repr(C)]
 #[derive(Clone, Copy, Drop)]
 pub struct XetFile {
@@ -26,9 +26,11 @@ pub struct XetFile {
     pub has_verification: bool,
     pub has_sha256: bool,
     pub has_aux: bool,
+    pub flags: u32,
     pub segments: usize,
     pub sha256: [u64; 4],
     pub aux_hash: [u64; 4],
+    pub reserved: u64,
 }
 
 /// Looks a file up, and puts its segments to the front of `segments`. If the result is 19 they do
@@ -82,9 +84,11 @@ pub fn file_of(found: &Option<MDBFileInfo>) -> XetFile
             has_verification: false,
             has_sha256: false,
             has_aux: false,
+            flags: 0,
             segments: 0,
             sha256: [0; 4],
             aux_hash: [0; 4],
+            reserved: 0,
         };
     };
     let sha256 = record.metadata_ext.map(|row| row.sha256);
@@ -94,8 +98,10 @@ pub fn file_of(found: &Option<MDBFileInfo>) -> XetFile
         has_verification: record.contains_verification(),
         has_sha256: sha256.is_some(),
         has_aux: aux_hash.is_some(),
+        flags: record.metadata.file_flags,
         segments: record.segments.len(),
         sha256: words_or_zero(sha256),
         aux_hash: words_or_zero(aux_hash),
+        reserved: record.metadata._unused,
     }
 }

@@ -128,14 +128,13 @@ pub fn verification_row_of(segment: &XetFileSegment) -> FileVerificationEntry
 
 /// The row of a chunk of a list.
 pub fn chunk_row_of(chunk: &XetChunk) -> XorbChunkSequenceEntry
-    ensures chunk { c_chunk result ≡ chunk.now }
-    ensures reserved { result._unused ≡ 0 }
+    ensures { c_chunk result ≡ chunk.now }
 {
     XorbChunkSequenceEntry {
         chunk_hash: MerkleHash::from(chunk.hash),
         chunk_byte_range_start: chunk.start,
         unpacked_segment_bytes: chunk.bytes,
         flags: chunk.flags,
-        _unused: 0,
+        _unused: chunk.reserved,
     }
 }

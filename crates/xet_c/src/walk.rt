@@ -48,6 +48,7 @@ pub struct XetChunk {
     pub start: u32,
     pub bytes: u32,
     pub flags: u32,
+    pub reserved: u32,
 }
 
 /// Reads the record at a row of the file section, and puts its segments to the front of `segments`.
@@ -251,5 +252,6 @@ pub fn chunk_of(entry: &XorbChunkSequenceEntry) -> XetChunk
         start: entry.chunk_byte_range_start,
         bytes: entry.unpacked_segment_bytes,
         flags: entry.flags,
+        reserved: entry._unused,
     }
 }

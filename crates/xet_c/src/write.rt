@@ -218,8 +218,7 @@ fn xorb_of(alloc: Global, xorb: &XetListedXorb, chunks: &[XetChunk]) -> Result<M
 
 // The rows of chunks.
 fn rows_of(alloc: Global, chunks: &[XetChunk]) -> Result<Vec<XorbChunkSequenceEntry>>
-    ensures chunks { IfOk result (λ rows. map c_chunk rows.items ≡ chunks.now) }
-    ensures reserved { IfOk result (λ rows. All (λ c. c._unused ≡ 0) rows.items) }
+    ensures ok { IfOk result (λ rows. map c_chunk rows.items ≡ chunks.now) }
     ensures causes { IfErr result (λ e. e ≡ CoreError.OutOfMemory) }
 {
     let mut rows = Vec::with_capacity(alloc, chunks.len())?;

@@ -1,7 +1,6 @@
 use Rattle.std.proofs.Common.{◌≡◌, map, take}
-use Rattle.std.specs.Prelude.{All}
 use Rattle.xet_c.specs.Walking.{c_chunk}
 use Rattle.xet_c.proofs.write.rows_of.Given as goal
 
 abbrev pub invariant-loop-chunk : goal.invariant-loop-chunk
-invariant-loop-chunk l = (map c_chunk l.rows.items ≡ take l.chunk-index l.chunks) × All (λ c. c._unused ≡ 0) l.rows.items
+invariant-loop-chunk l = map c_chunk l.rows.items ≡ take l.chunk-index l.chunks
