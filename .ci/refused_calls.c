@@ -6,7 +6,7 @@
 #include <stdlib.h>
 #include <string.h>
 
-enum { ROOM = 1 << 20, CALLS = 28 };
+enum { ROOM = 1 << 20, CALLS = 32 };
 
 void *__real_malloc(size_t size);
 void *__real_realloc(void *block, size_t size);
@@ -90,11 +90,10 @@ static uint32_t call(int number, size_t *count) {
     const xet_hash file = {{100, 1, 0, 0}}, chunks[2] = {{{21, 1, 0, 0}}, {{22, 1, 0, 0}}}, xorb = {{10, 1, 0, 0}};
     const xet_bytes both[2] = {{first, first_length}, {second, second_length}};
     const xet_bytes twice[2] = {{first, first_length}, {first, first_length}};
-    const xet_range range = {{100, 0, 0, 0}, {0, 0, 0, 0}, true, false};
     size_t differing = 0;
     const char *name = "0000000000000001000000000000000200000000000000030000000000000004.mdb";
     /* These write no count. */
-    if (number == 6 || (number > 14 && number != 18 && number != 19 && number != 21))
+    if (number == 6 || number > 23)
         *count = 0;
     switch (number) {
     case 0:
@@ -142,23 +141,35 @@ static uint32_t call(int number, size_t *count) {
     case 18:
         return xet_query_at(first, first_length, chunks, 2, 0, 0, count, &out.run);
     case 19:
-        return xet_merge_range(both, 2, &range, out.bytes, ROOM, count);
-    case 20: {
-        bool malformed = false;
-        return xet_find_malformed(twice, 2, &malformed, &out.agreeing.first);
-    }
+        return xet_chunk_rows(first, first_length, out.rows, 1000, count);
+    case 20:
+        return xet_find_rows(first + info.file_table, 12 * info.files, 100, out.starts, 8, count);
     case 21:
-        return xet_concatenate(both, 1, out.bytes, ROOM, count);
+        return xet_find_places(first + info.chunk_table, 16 * info.chunks, 21, out.places, 8, count);
     case 22:
-        return xet_hash_from_hex((const uint8_t *)name, 64, out.hashes);
-    case 23:
-        return xet_version() == XET_VERSION_NUMBER ? XET_OK : XET_OTHER;
+        return xet_concatenate(both, 1, out.bytes, ROOM, count);
+    case 23: {
+        bool malformed = true;
+        uint32_t error = xet_find_malformed(twice, 2, &malformed, &out.agreeing.first);
+        *count = malformed;
+        return error;
+    }
     case 24:
-        return xet_parse_shard_name((const uint8_t *)name, 68, out.hashes);
+        return xet_file_at(first, first_length, 0, &out.listed.place, &out.listed.file, out.listed.segments, 100);
     case 25:
-        return xet_hash_bytes(&file, first, first_length, out.hashes);
+        return xet_xorb_at(first, first_length, 0, &out.listed.place, &out.listed.xorb, out.listed.chunks, 100);
     case 26:
-        return xet_hmac(&file, chunks, out.hashes);
+        return xet_file_in(first + info.file_section, info.xorb_section - info.file_section, 3, &out.listed.place,
+                           &out.listed.file, out.listed.segments, 100);
+    case 27:
+        return xet_xorb_in(first + info.xorb_section, info.file_table - info.xorb_section, &out.listed.place,
+                           &out.listed.xorb, out.listed.chunks, 100);
+    case 28:
+        return xet_hash_from_hex((const uint8_t *)name, 64, out.hashes);
+    case 29:
+        return xet_parse_shard_name((const uint8_t *)name, 68, out.hashes);
+    case 30:
+        return xet_hash_bytes(&file, first, first_length, out.hashes) | xet_hmac(&file, chunks, out.hashes);
     default:
         return xet_version() == XET_VERSION_NUMBER ? xet_load(first, first_length, &out.info) : XET_OTHER;
     }

@@ -92,6 +92,14 @@ static uint32_t call_concatenate(const struct input *input, void *out, size_t ca
     return xet_concatenate(list, input->count, out, capacity, written);
 }
 
+/* A record that no shard may have is told exactly if there is one, and is of a shard of the list. */
+static void check_malformed(const struct input *input, const struct block *found, bool is_told) {
+    xet_disagreement record;
+    memcpy(&record, found->bytes, sizeof record);
+    require(is_told || is_filled(found, 0), "the record is touched");
+    require(!is_told || (record.first < input->count && record.first == record.second), "the record is of no shard");
+}
+
 /* A disagreement is told exactly if there is one, and names two shards of the list. */
 static void check_disagreement(const struct input *input, const struct block *found, size_t differing, bool is_told) {
     xet_disagreement first;
@@ -102,14 +110,6 @@ static void check_disagreement(const struct input *input, const struct block *fo
     require(differing == 0 || is_pair, "the disagreement is not of two shards");
 }
 
-/* A record that no shard may have is of one shard of the list. */
-static void check_malformed(const struct input *input, const struct block *found, size_t differing) {
-    xet_disagreement first;
-    memcpy(&first, found->bytes, sizeof first);
-    require(differing == 0, "a malformed record is counted as a disagreement");
-    require(first.first < input->count && first.first == first.second, "the malformed record is of no shard");
-}
-
 static uint32_t call_merge_agreeing(const struct input *input, void *out, size_t capacity, size_t *written) {
     xet_bytes list[SHARDS];
     list_shards(input, list);
@@ -117,22 +117,13 @@ static uint32_t call_merge_agreeing(const struct input *input, void *out, size_t
     size_t differing = 12345;
     void *first = found.bytes;
     uint32_t error = xet_merge_agreeing(list, input->count, out, capacity, written, &differing, first);
-    if (error == XET_MALFORMED)
-        check_malformed(input, &found, differing);
-    else
+    if (error == XET_MALFORMED) {
+        require(differing == 0, "the count of disagreements is another");
+        check_malformed(input, &found, true);
+    } else {
         check_disagreement(input, &found, differing, error == XET_DISAGREE);
+    }
     free_block(&found);
-    return within_room(error, bytes_of(list, input->count), *written);
-}
-
-/* The hashes from that of the file on, or those below it. */
-static uint32_t call_merge_range(const struct input *input, void *out, size_t capacity, size_t *written) {
-    xet_bytes list[SHARDS];
-    list_shards(input, list);
-    xet_range range = {{0}, {0}, input->verification, !input->verification};
-    memcpy(range.from, &input->file, sizeof range.from);
-    memcpy(range.to, &input->file, sizeof range.to);
-    uint32_t error = xet_merge_range(list, input->count, &range, out, capacity, written);
     return within_room(error, bytes_of(list, input->count), *written);
 }
 
@@ -316,9 +307,9 @@ static const struct filling fillings[] = {
     {"xet_union", 1, OF_MERGING, call_union, 3},
     {"xet_difference", 1, OF_MERGING, call_difference, 3},
     {"xet_merge", 1, OF_MERGING, call_merge, 3},
-    {"xet_merge_range", 1, OF_MERGING, call_merge_range, 3},
     {"xet_concatenate", 1, OF_MERGING, call_concatenate, 3},
-    {"xet_merge_agreeing", 1, OF_MERGING | BIT(XET_DISAGREE) | BIT(XET_MALFORMED), call_merge_agreeing, 3},
+    {"xet_merge_agreeing", 1, OF_MERGING | BIT(XET_DISAGREE) | BIT(XET_MALFORMED),
+     call_merge_agreeing, 3},
     {"xet_export", 1, OF_MERGING, call_export, 3},
     {"xet_minimal", 1, OF_SECTIONS, call_minimal, 3},
     {"xet_subset", 1, OF_SECTIONS, call_subset, 3},
@@ -419,20 +410,28 @@ static void check_query(const struct input *input) {
     free_block(&run);
 }
 
-static void check_find_malformed(const struct input *input) {
-    called = "xet_find_malformed";
-    xet_bytes list[SHARDS];
-    list_shards(input, list);
-    struct block found = new_struct(input, sizeof(xet_disagreement));
-    bool malformed = false;
-    void *out = found.bytes;
-    uint32_t error = result(xet_find_malformed(list, input->count, &malformed, out), OF_SECTIONS);
-    require(error == XET_OK || !malformed, "an error tells a malformed record");
-    if (malformed)
-        check_malformed(input, &found, 0);
-    else
-        require(is_filled(&found, 0), "the malformed record is touched");
-    free_block(&found);
+/* Looks at the first chunks that the shard has, by its table or by its section. */
+static void check_query_at(const struct input *input) {
+    called = "xet_query_at";
+    xet_chunk_row rows[8];
+    size_t row_count, hash_count = input->chunks.length / sizeof(xet_hash);
+    const void *hashes = input->chunks.bytes;
+    xet_chunk_row *all = rows;
+    if (xet_chunk_rows(SHARD(0), rows, 8, &row_count) == XET_SHORT) {
+        all = malloc(row_count * sizeof *all);
+        require(all && xet_chunk_rows(SHARD(0), all, row_count, &row_count) == XET_OK, "the rows are not there");
+    }
+    for (size_t at = 0; at < row_count && at < 8; at++) {
+        struct block run = new_struct(input, sizeof(xet_segment));
+        size_t count = 12345;
+        void *out = run.bytes;
+        uint32_t error = result(xet_query_at(SHARD(0), hashes, hash_count, all[at].row, all[at].index, &count, out),
+                                OF_SECTIONS | BIT(XET_INVALID_ARGUMENTS));
+        check_run(hash_count, error, count, &run);
+        free_block(&run);
+    }
+    if (all != rows)
+        free(all);
 }
 
 static void check_find_disagreement(const struct input *input) {
