@@ -1,4 +1,4 @@
--- The keyed hash of bytes of any length, step by step, and that of 32 bytes.
+-- BLAKE3's keyed mode step by step, and that on 32 bytes it is the keyed hash of one block.
 use Rattle.std.proofs.Common.{◌≡◌, ℕ, zero, suc, ◌+◌, ◌-◌, ◌*◌, ◌/◌, ◌^◌, ◌<◌, ◌≤◌, nat_le, Bool, true, false, if◌then◌else◌, List, [], ◌∷◌, ◌++◌, length, take, drop, flat_map, slice_index, refl, sym, ap, ap₂, ◌∙◌, arith, subst, le_trans}
 use Rattle.std.proofs.Math.ListN.{get_or-eq_default}
 use Rattle.std.proofs.Math.Numerals.{add-one}
@@ -10,7 +10,7 @@ use Rattle.xet_base.specs.declared.merklehash.DataHash.{DataHash}
 use Rattle.xet_base.specs.Bytes.{u32_bytes}
 use Rattle.xet_base.specs.Hash.{hash_bytes}
 use Rattle.xet_base.specs.KeyedHash.{hash_of, hmac, keyed_bytes, digest, state_after, initial_state, message_of, words_before, word_at}
-use Rattle.xet_base.specs.Blake3.{chunk_end, root, halves, compressed, block_at, block_flags, after_blocks, chunk_words, parent_words, tree_words, blake3_bytes, keyed_hash}
+use Rattle.xet_base.specs.Blake3.{chunk_end_flag, root_flag, xor_halves, chaining_value, block_at, block_flags, after_blocks, chunk_words, parent_words, tree_words, blake3_bytes, keyed_hash}
 use Rattle.xet_base.proofs.Bytes.{length-hash_bytes}
 
 -- what holds of each list of eight elements
@@ -58,27 +58,27 @@ unfolding after_blocks
 no_blocks key t bytes = refl
 
 pub block_more : (key : List ℕ) (t : ℕ) (bytes : List ℕ) (n : ℕ)
-    → compressed (after_blocks key t bytes n) (block_at bytes n) t 64 (block_flags n) ≡ after_blocks key t bytes (n + 1)
+    → chaining_value (after_blocks key t bytes n) (block_at bytes n) t 64 (block_flags n) ≡ after_blocks key t bytes (n + 1)
 unfolding after_blocks
 block_more key t bytes n = sym (ap (after_blocks key t bytes) (add-one n))
 
 -- a chunk after its whole blocks
 pub chunk_is : (key : List ℕ) (t top : ℕ) (bytes words block : List ℕ) (n whole len flags : ℕ) → whole ≡ (length bytes - 1) / 64 → n ≡ whole
     → words ≡ after_blocks key t bytes n → block ≡ block_at bytes whole → len ≡ length bytes - 64 * whole → flags ≡ block_flags whole
-    → compressed words block t len (flags + 2 + top) ≡ chunk_words key t top bytes
+    → chaining_value words block t len (flags + 2 + top) ≡ chunk_words key t top bytes
 unfolding chunk_words
 chunk_is key t top bytes words block n whole len flags whole_is n_is words_are block_is len_is flags_are =
     let all : words ≡ after_blocks key t bytes whole = words_are ∙ ap (after_blocks key t bytes) n_is in
-    (λ i. compressed (all i) (block_is i) t (len_is i) (flags_are i + 2 + top))
-    ∙ ap (λ m. compressed (after_blocks key t bytes m) (block_at bytes m) t (length bytes - 64 * m) (block_flags m + chunk_end + top)) whole_is
+    (λ i. chaining_value (all i) (block_is i) t (len_is i) (flags_are i + 2 + top))
+    ∙ ap (λ m. chaining_value (after_blocks key t bytes m) (block_at bytes m) t (length bytes - 64 * m) (block_flags m + chunk_end_flag + top)) whole_is
 
 -- a chunk of 1024 bytes
 pub whole_chunk : (key : List ℕ) (t u : ℕ) (bytes words block : List ℕ) (n flags : ℕ) → length bytes ≡ 1024 → n ≡ 15 → u ≡ t
     → words ≡ after_blocks key u bytes n → block ≡ block_at bytes 15 → flags ≡ 16
-    → compressed words block u 64 (flags + 2) ≡ chunk_words key t 0 bytes
+    → chaining_value words block u 64 (flags + 2) ≡ chunk_words key t 0 bytes
 whole_chunk key t u bytes words block n flags len n_is t_is words_are block_is flags_are =
     let flags_add : flags + 2 ≡ flags + 2 + 0 = omega arith in
-    ap (compressed words block u 64) flags_add
+    ap (chaining_value words block u 64) flags_add
     ∙ chunk_is key u 0 bytes words block n 15 64 flags (ap (λ l. (l - 1) / 64) (sym len)) n_is words_are block_is (omega (arith, len)) flags_are
     ∙ ap (λ v. chunk_words key v 0 bytes) t_is
 
@@ -159,12 +159,12 @@ spare key (suc d) n t top bytes fits =
     ∙ smaller key (suc d + n) (d + n) t top bytes (omega arith) (le_trans fits (omega (arith, pow-le-pow_right {n = 2} (omega arith) {i = n} {j = d + n} (omega arith))))
 
 pub whole_tree : (key : List ℕ) (level : ℕ) (bytes : List ℕ) → level ≤ 54 → length bytes ≤ 1024 * 2 ^ level
-    → tree_words key level 0 root bytes ≡ tree_words key 54 0 root bytes
+    → tree_words key level 0 root_flag bytes ≡ tree_words key 54 0 root_flag bytes
 whole_tree key level bytes few fits =
-    spare key (54 - level) level 0 root bytes fits ∙ ap (λ n. tree_words key n 0 root bytes) (omega (arith, few))
+    spare key (54 - level) level 0 root_flag bytes fits ∙ ap (λ n. tree_words key n 0 root_flag bytes) (omega (arith, few))
 
-digest_is : (v : List ℕ) → digest v ≡ flat_map u32_bytes (halves v)
-unfolding digest halves u32_bytes
+digest_is : (v : List ℕ) → digest v ≡ flat_map u32_bytes (xor_halves v)
+unfolding digest xor_halves u32_bytes
 digest_is v = refl
 
 -- the last of the words of 32 bytes as a block: there are no bytes for them
@@ -181,20 +181,20 @@ message_is bytes len = λ k.
     ∷ no_word bytes 11 (omega (arith, len)) k ∷ no_word bytes 12 (omega (arith, len)) k ∷ no_word bytes 13 (omega (arith, len)) k
     ∷ no_word bytes 14 (omega (arith, len)) k ∷ no_word bytes 15 (omega (arith, len)) k ∷ [])
 
--- 32 bytes are one block, which is first, last and root
-one_block : (key bytes : List ℕ) → length bytes ≡ 32 → chunk_words key 0 root bytes ≡ compressed key (block_at bytes 0) 0 32 27
+-- 32 bytes are one block, which is the first and the last of its chunk and of the tree
+one_block : (key bytes : List ℕ) → length bytes ≡ 32 → chunk_words key 0 root_flag bytes ≡ chaining_value key (block_at bytes 0) 0 32 27
 unfolding chunk_words after_blocks
 one_block key bytes len =
-    ap (λ l. compressed (after_blocks key 0 bytes ((l - 1) / 64)) (block_at bytes ((l - 1) / 64)) 0 (l - 64 * ((l - 1) / 64)) (block_flags ((l - 1) / 64) + chunk_end + root)) len
+    ap (λ l. chaining_value (after_blocks key 0 bytes ((l - 1) / 64)) (block_at bytes ((l - 1) / 64)) 0 (l - 64 * ((l - 1) / 64)) (block_flags ((l - 1) / 64) + chunk_end_flag + root_flag)) len
 
 keyed_32 : (key bytes : List ℕ) → length bytes ≡ 32 → keyed_bytes key bytes ≡ blake3_bytes key bytes
-unfolding keyed_bytes blake3_bytes compressed
+unfolding keyed_bytes blake3_bytes chaining_value
 keyed_32 key bytes len =
     let words = words_before key [] in
     digest_is (state_after 7 (initial_state key) (message_of bytes))
-    ∙ ap (λ m. flat_map u32_bytes (halves (state_after 7 (initial_state key) m))) (sym (message_is bytes len))
-    ∙ ap (flat_map u32_bytes) (sym (one_chunk words 54 0 root bytes (omega (arith, len)) ∙ one_block words bytes len))
+    ∙ ap (λ m. flat_map u32_bytes (xor_halves (state_after 7 (initial_state key) m))) (sym (message_is bytes len))
+    ∙ ap (flat_map u32_bytes) (sym (one_chunk words 54 0 root_flag bytes (omega (arith, len)) ∙ one_block words bytes len))
 
--- the keyed hash of a hash is that of its bytes
+-- the keyed hash of a hash is the keyed hash of its bytes
 pub hmac_is_keyed : (key hash : DataHash) → hmac key hash ≡ keyed_hash key (hash_bytes hash)
 hmac_is_keyed key hash = ap hash_of (keyed_32 (hash_bytes key) (hash_bytes hash) (length-hash_bytes hash))

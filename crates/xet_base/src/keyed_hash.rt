@@ -1,4 +1,4 @@
-//! The keyed hash: BLAKE3's keyed mode for one block of 32 bytes.
+//! The keyed hash, BLAKE3's keyed mode: here for one block of 32 bytes, in `tree` for any bytes.
 
 ghost use Rattle.std.specs.Prelude.{◌≡◌, ℕ, ◌+◌, ◌*◌, ◌<◌, ◌≤◌, [], ◌∷◌, length, slice_index};
 ghost use Rattle.xet_base.specs.KeyedHash.{add32, xor_rotate, mix, mix_columns, mix_diagonals, permuted, state_after, message_after, word_at, words_before, initial_state, message_of, digest, keyed_bytes};
@@ -15,7 +15,7 @@ pub(crate) use tree::blake3_bytes;
 // The state or the message.
 type Words = [u32; 16];
 
-// A key, or what a chunk or a part of the tree comes to.
+// A key, or a chaining value.
 type Eight = [u32; 8];
 
 // The state as four rows of four words. A step on rows is one on each column.

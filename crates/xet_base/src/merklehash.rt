@@ -56,7 +56,7 @@ pub fn hash_is_global_dedup_eligible(hash: &MerkleHash) -> bool
     hash.word3 % MDB_SHARD_GLOBAL_DEDUP_CHUNK_MODULUS == 0
 }
 
-/// The keyed hash of some bytes: BLAKE3's keyed mode. Allocates nothing.
+/// BLAKE3's keyed hash of the bytes. Allocates nothing.
 pub fn keyed_hash(key: HMACKey, bytes: &[u8]) -> DataHash
     ensures { result ≡ keyed_hash key bytes.now }
 {

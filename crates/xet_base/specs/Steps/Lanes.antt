@@ -21,7 +21,7 @@ lane j vectors =
     ∷ lane_at vectors 8 j ∷ lane_at vectors 9 j ∷ lane_at vectors 10 j ∷ lane_at vectors 11 j
     ∷ lane_at vectors 12 j ∷ lane_at vectors 13 j ∷ lane_at vectors 14 j ∷ lane_at vectors 15 j ∷ []
 
--- the eight words in lane j of vectors, each of which has one word of four
+-- the eight words in lane j of eight vectors
 abbrev pub lane_of_eight : ℕ → List (List ℕ) → List ℕ
 lane_of_eight j vectors =
     lane_at vectors 0 j ∷ lane_at vectors 1 j ∷ lane_at vectors 2 j ∷ lane_at vectors 3 j

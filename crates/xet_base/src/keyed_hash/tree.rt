@@ -1,15 +1,20 @@
-//! The keyed hash of bytes of any length: chunks of 1024 bytes, and a tree of them.
+//! BLAKE3's keyed mode for bytes of any length: a binary tree over chunks of 1024 bytes.
 
 ghost use Rattle.std.specs.Prelude.{◌≡◌, ◌+◌, ◌*◌, ◌/◌, ◌%◌, ◌^◌, ◌<◌, ◌≤◌, ◌++◌, length, flat_map, slice_index};
 ghost use Rattle.xet_base.specs.Bytes.{u32_bytes};
 ghost use Rattle.xet_base.specs.KeyedHash.{word_at};
-ghost use Rattle.xet_base.specs.Blake3.{start, halves, compressed, block_at, block_flags, chunk_words, parent_words, tree_words, blake3_bytes};
+ghost use Rattle.xet_base.specs.Blake3.{block_state, xor_halves, chaining_value, block_at, block_flags, chunk_words, parent_words, tree_words, blake3_bytes};
 ghost use Rattle.xet_base.specs.Steps.Lanes.{words_in};
 
 use super::four::chunks::four_chunks;
 use super::{Eight, Rows, Words, compress, words_in, words_of};
 use crate::fields::put_u32;
 use std::simd::u32x4;
+
+// The bytes of a chunk, and of a block of it.
+const CHUNK_LEN: usize = 1024;
+
+const BLOCK_LEN: usize = 64;
 
 // The flags of a block.
 const CHUNK_START: u32 = 1;
@@ -22,32 +27,31 @@ const ROOT: u32 = 8;
 
 const KEYED: u32 = 16;
 
-// The bytes of four chunks.
-const FOUR_CHUNKS: usize = 4096;
+const FOUR_CHUNKS_LEN: usize = 4 * CHUNK_LEN;
 
-/// The keyed hash of some bytes.
+/// The keyed hash of the bytes. Allocates nothing.
 #[tactic(auto, unfolding(crate::specs::Blake3::blake3_bytes))]
 pub(crate) fn blake3_bytes(key: &[u8; 32], bytes: &[u8]) -> [u8; 32]
     ensures { result ≡ blake3_bytes key.now bytes.now }
 {
     let level = level_for(bytes.len());
-    bytes_of(&tree_words(&words_of(key), level, 0, ROOT, bytes))
+    words_as_bytes(&tree_words(&words_of(key), level, 0, ROOT, bytes))
 }
 
-// The level of a tree that has room for so many bytes.
+// A level whose tree has room for so many bytes: 2 ^ level chunks.
 fn level_for(len: usize) -> u32
     ensures level { result ≤ 54 }
     ensures room { len ≤ 1024 * 2 ^ result }
 {
     let mut level = 0u32;
-    while level < 54 && 1024 * chunks_below(level) < len {
+    while level < 54 && CHUNK_LEN * chunks_below(level) < len {
         level += 1;
     }
     level
 }
 
-// The words of up to 2 ^ level chunks, of which the first has number t. Four whole ones are hashed
-// side by side.
+// The chaining value of the tree over at most 2 ^ level chunks, the first of which is chunk t. Four
+// whole chunks are hashed side by side.
 fn tree_words(key: &Eight, level: u32, t: u64, top: u32, bytes: &[u8]) -> Eight
     requires level { level ≤ 54 }
     requires room { length bytes.now ≤ 1024 * 2 ^ level }
@@ -58,12 +62,12 @@ fn tree_words(key: &Eight, level: u32, t: u64, top: u32, bytes: &[u8]) -> Eight
     if level == 0 {
         return chunk_words(key, t, top, bytes);
     }
-    if level == 2 && bytes.len() == FOUR_CHUNKS {
+    if level == 2 && bytes.len() == FOUR_CHUNKS_LEN {
         return four_words(key, t, top, bytes);
     }
     let below = level - 1;
     let half = chunks_below(below);
-    let size = 1024 * half;
+    let size = CHUNK_LEN * half;
     if bytes.len() <= size {
         return tree_words(key, below, t, top, bytes);
     }
@@ -73,7 +77,7 @@ fn tree_words(key: &Eight, level: u32, t: u64, top: u32, bytes: &[u8]) -> Eight
     parent_words(key, top, &left, &right)
 }
 
-// The chunks of half a tree.
+// How many chunks a tree of this level has room for.
 #[inline(always)]
 fn chunks_below(level: u32) -> usize
     requires { level < 54 }
@@ -83,55 +87,55 @@ fn chunks_below(level: u32) -> usize
     1usize << level
 }
 
-// The words of four chunks.
+// The chaining value of the tree over four whole chunks.
 fn four_words(key: &Eight, t: u64, top: u32, bytes: &[u8]) -> Eight
     requires len { length bytes.now ≡ 4096 }
     requires counter { t + 4 ≤ 2 ^ 64 }
     requires top { top ≤ 8 }
     ensures { result ≡ tree_words key.now 2 t top bytes.now }
 {
-    let (front, back) = bytes.split_at(2048);
-    let (a, b) = front.split_at(1024);
-    let (c, d) = back.split_at(1024);
+    let (front, back) = bytes.split_at(2 * CHUNK_LEN);
+    let (a, b) = front.split_at(CHUNK_LEN);
+    let (c, d) = back.split_at(CHUNK_LEN);
     let words = four_chunks(key, t, a, b, c, d);
     let left = parent_words(key, 0, &words[0], &words[1]);
     let right = parent_words(key, 0, &words[2], &words[3]);
     parent_words(key, top, &left, &right)
 }
 
-// The words of one chunk.
+// The chaining value of chunk t.
 #[tactic(auto, unfolding(crate::specs::Blake3::chunk_words))]
 fn chunk_words(key: &Eight, t: u64, top: u32, bytes: &[u8]) -> Eight
     requires len { length bytes.now ≤ 1024 }
     requires top { top ≤ 8 }
     ensures { result ≡ chunk_words key.now t top bytes.now }
 {
-    let whole = bytes.len().saturating_sub(1) / 64;
+    let whole = bytes.len().saturating_sub(1) / BLOCK_LEN;
     let mut words = *key;
     for n in 0..whole {
-        words = compressed(&words, block_at(bytes, n), t, 64, block_flags(n));
+        words = chaining_value(&words, block_at(bytes, n), t, 64, block_flags(n));
     }
-    let left = (bytes.len() - 64 * whole) as u32;
-    compressed(
+    let last_len = (bytes.len() - BLOCK_LEN * whole) as u32;
+    chaining_value(
         &words,
         block_at(bytes, whole),
         t,
-        left,
+        last_len,
         block_flags(whole) + CHUNK_END + top,
     )
 }
 
-// The words of two parts.
+// The chaining value of a node, from those of its two subtrees.
 #[tactic(auto, unfolding(crate::specs::Blake3::parent_words))]
 fn parent_words(key: &Eight, top: u32, left: &Eight, right: &Eight) -> Eight
     requires { top ≤ 8 }
     ensures { result ≡ parent_words key.now top left.now right.now }
 {
-    compressed(key, together(left, right), 0, 64, KEYED + PARENT + top)
+    chaining_value(key, concat(left, right), 0, 64, KEYED + PARENT + top)
 }
 
 #[inline(always)]
-fn together(left: &Eight, right: &Eight) -> Words
+fn concat(left: &Eight, right: &Eight) -> Words
     ensures { result ≡ left.now ++ right.now }
 {
     [
@@ -148,44 +152,44 @@ pub(super) fn block_flags(n: usize) -> u32
     if n == 0 { KEYED + CHUNK_START } else { KEYED }
 }
 
-// The words after a block.
-#[tactic(auto, unfolding(crate::specs::Blake3::compressed))]
-fn compressed(before: &Eight, block: Words, counter: u64, len: u32, flags: u32) -> Eight
-    ensures { result ≡ compressed before.now block counter len flags }
+// The chaining value after a block.
+#[tactic(auto, unfolding(crate::specs::Blake3::chaining_value))]
+fn chaining_value(before: &Eight, block: Words, counter: u64, len: u32, flags: u32) -> Eight
+    ensures { result ≡ chaining_value before.now block counter len flags }
 {
-    halves(&words_in(compress(start(before, counter, len, flags), block)))
+    xor_halves(&words_in(compress(block_state(before, counter, len, flags), block)))
 }
 
 #[inline(always)]
-fn start(before: &Eight, counter: u64, len: u32, flags: u32) -> Rows
-    ensures { words_in result ≡ start before.now counter len flags }
+fn block_state(before: &Eight, counter: u64, len: u32, flags: u32) -> Rows
+    ensures { words_in result ≡ block_state before.now counter len flags }
 {
     (
         u32x4::from_array([before[0], before[1], before[2], before[3]]),
         u32x4::from_array([before[4], before[5], before[6], before[7]]),
         u32x4::from_array([0x6A09E667, 0xBB67AE85, 0x3C6EF372, 0xA54FF53A]),
-        u32x4::from_array([low(counter), high(counter), len, flags]),
+        u32x4::from_array([low_word(counter), high_word(counter), len, flags]),
     )
 }
 
 #[inline(always)]
-pub(super) fn low(counter: u64) -> u32
+pub(super) fn low_word(counter: u64) -> u32
     ensures { result ≡ counter % 2 ^ 32 }
 {
     (counter % 4294967296) as u32
 }
 
 #[inline(always)]
-pub(super) fn high(counter: u64) -> u32
+pub(super) fn high_word(counter: u64) -> u32
     ensures { result ≡ counter / 2 ^ 32 }
 {
     (counter / 4294967296) as u32
 }
 
 #[inline(always)]
-#[tactic(auto, unfolding(crate::specs::Blake3::halves))]
-fn halves(v: &Words) -> Eight
-    ensures { result ≡ halves v.now }
+#[tactic(auto, unfolding(crate::specs::Blake3::xor_halves))]
+fn xor_halves(v: &Words) -> Eight
+    ensures { result ≡ xor_halves v.now }
 {
     [
         v[0] ^ v[8],
@@ -199,13 +203,13 @@ fn halves(v: &Words) -> Eight
     ]
 }
 
-// Block n: with zeros after the last byte.
+// Block n, with zeros after the last byte.
 #[inline(always)]
 fn block_at(bytes: &[u8], n: usize) -> Words
     requires { n ≤ 16 }
     ensures { result ≡ block_at bytes.now n }
 {
-    if 64 * n + 64 <= bytes.len() {
+    if BLOCK_LEN * n + BLOCK_LEN <= bytes.len() {
         whole_block(bytes, n)
     } else {
         last_block(bytes, n)
@@ -265,7 +269,7 @@ fn last_block(bytes: &[u8], n: usize) -> Words
     ]
 }
 
-// Word i, all of whose bytes are there.
+// Word i, whose four bytes are all there.
 #[inline(always)]
 #[tactic(auto, unfolding(crate::specs::KeyedHash::word_at))]
 fn word(bytes: &[u8], i: usize) -> u32
@@ -300,9 +304,9 @@ fn byte_at(bytes: &[u8], i: usize) -> u8
     if i < bytes.len() { bytes[i] } else { 0 }
 }
 
-// The words as bytes.
+// The bytes of eight words, lowest byte first.
 #[inline(always)]
-fn bytes_of(w: &Eight) -> [u8; 32]
+fn words_as_bytes(w: &Eight) -> [u8; 32]
     ensures { result ≡ flat_map u32_bytes w.now }
 {
     let mut bytes = [0u8; 32];

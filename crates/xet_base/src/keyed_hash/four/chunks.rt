@@ -1,18 +1,18 @@
-//! Four chunks of 1024 bytes at once.
+//! Four chunks of BLAKE3 at once: one lane of a vector for each.
 
 ghost use Rattle.std.specs.Prelude.{◌≡◌, ℕ, ◌+◌, ◌*◌, ◌^◌, ◌<◌, ◌≤◌, [], ◌∷◌, length, bit_xor, slice_index, slice_index_or};
-ghost use Rattle.xet_base.specs.Blake3.{start, halves, compressed, block_at, after_blocks, chunk_words};
+ghost use Rattle.xet_base.specs.Blake3.{block_state, xor_halves, chaining_value, block_at, after_blocks, chunk_words};
 ghost use Rattle.xet_base.specs.Steps.Lanes.{lane, lane_of_eight};
 
 use super::super::Eight;
-use super::super::tree::{CHUNK_END, block_flags, high, low, whole_block};
+use super::super::tree::{CHUNK_END, block_flags, high_word, low_word, whole_block};
 use super::{Lanes, compress, word};
 use std::simd::u32x4;
 
-// Eight words of each of four chunks.
+// A chaining value in each of four lanes.
 type EightLanes = [u32x4; 8];
 
-/// The words of four whole chunks, numbered from t on.
+/// The chaining values of four whole chunks, the first of which is chunk t.
 pub(crate) fn four_chunks(key: &Eight, t: u64, a: &[u8], b: &[u8], c: &[u8], d: &[u8]) -> [Eight; 4]
     requires a { length a.now ≡ 1024 }
     requires b { length b.now ≡ 1024 }
@@ -22,11 +22,11 @@ pub(crate) fn four_chunks(key: &Eight, t: u64, a: &[u8], b: &[u8], c: &[u8], d: 
     ensures { result ≡ chunk_words key.now t 0 a.now ∷ chunk_words key.now (t + 1) 0 b.now
         ∷ chunk_words key.now (t + 2) 0 c.now ∷ chunk_words key.now (t + 3) 0 d.now ∷ [] }
 {
-    let mut words = each(key);
+    let mut words = in_each_lane(key);
     for n in 0..15 {
-        words = compressed(&words, &blocks_at(a, b, c, d, n), t, block_flags(n));
+        words = chaining_value(&words, &blocks_at(a, b, c, d, n), t, block_flags(n));
     }
-    let last = compressed(
+    let last = chaining_value(
         &words,
         &blocks_at(a, b, c, d, 15),
         t,
@@ -42,7 +42,7 @@ pub(crate) fn four_chunks(key: &Eight, t: u64, a: &[u8], b: &[u8], c: &[u8], d: 
 
 // A key in each lane.
 #[inline(always)]
-fn each(key: &Eight) -> EightLanes
+fn in_each_lane(key: &Eight) -> EightLanes
     ensures { (j : ℕ) → j < 4 → lane_of_eight j result ≡ key.now }
 {
     [
@@ -57,22 +57,22 @@ fn each(key: &Eight) -> EightLanes
     ]
 }
 
-// The words after a block of each chunk.
-#[tactic(auto, unfolding(crate::specs::Blake3::compressed))]
-fn compressed(before: &EightLanes, blocks: &Lanes, t: u64, flags: u32) -> EightLanes
+// The chaining value of each lane after a block.
+#[tactic(auto, unfolding(crate::specs::Blake3::chaining_value))]
+fn chaining_value(before: &EightLanes, blocks: &Lanes, t: u64, flags: u32) -> EightLanes
     requires { t + 4 ≤ 2 ^ 64 }
     ensures { (j : ℕ) → j < 4
         → lane_of_eight j result
-        ≡ compressed (lane_of_eight j before.now) (lane j blocks.now) (t + j) 64 flags }
+        ≡ chaining_value (lane_of_eight j before.now) (lane j blocks.now) (t + j) 64 flags }
 {
-    halves(&compress(starts(before, t, flags), blocks))
+    xor_halves(&compress(block_states(before, t, flags), blocks))
 }
 
 #[inline(always)]
-fn starts(before: &EightLanes, t: u64, flags: u32) -> Lanes
+fn block_states(before: &EightLanes, t: u64, flags: u32) -> Lanes
     requires { t + 4 ≤ 2 ^ 64 }
     ensures { (j : ℕ) → j < 4
-        → lane j result ≡ start (lane_of_eight j before.now) (t + j) 64 flags }
+        → lane j result ≡ block_state (lane_of_eight j before.now) (t + j) 64 flags }
 {
     [
         before[0],
@@ -87,8 +87,18 @@ fn starts(before: &EightLanes, t: u64, flags: u32) -> Lanes
         u32x4::splat(0xBB67AE85),
         u32x4::splat(0x3C6EF372),
         u32x4::splat(0xA54FF53A),
-        u32x4::from_array([low(t), low(t + 1), low(t + 2), low(t + 3)]),
-        u32x4::from_array([high(t), high(t + 1), high(t + 2), high(t + 3)]),
+        u32x4::from_array([
+            low_word(t),
+            low_word(t + 1),
+            low_word(t + 2),
+            low_word(t + 3),
+        ]),
+        u32x4::from_array([
+            high_word(t),
+            high_word(t + 1),
+            high_word(t + 2),
+            high_word(t + 3),
+        ]),
         u32x4::splat(64),
         u32x4::splat(flags),
     ]
@@ -129,9 +139,9 @@ fn blocks_at(a: &[u8], b: &[u8], c: &[u8], d: &[u8], n: usize) -> Lanes
 }
 
 #[inline(always)]
-#[tactic(auto, unfolding(crate::specs::Blake3::halves))]
-fn halves(v: &Lanes) -> EightLanes
-    ensures { (j : ℕ) → j < 4 → lane_of_eight j result ≡ halves (lane j v.now) }
+#[tactic(auto, unfolding(crate::specs::Blake3::xor_halves))]
+fn xor_halves(v: &Lanes) -> EightLanes
+    ensures { (j : ℕ) → j < 4 → lane_of_eight j result ≡ xor_halves (lane j v.now) }
 {
     [
         xor(v[0], v[8]),
@@ -152,7 +162,7 @@ fn xor(a: u32x4, b: u32x4) -> u32x4
     a ^ b
 }
 
-// The words of one lane.
+// The chaining value in one lane.
 #[inline(always)]
 fn lane_of_eight(words: &EightLanes, j: usize) -> Eight
     requires { j < 4 }

@@ -1,6 +1,6 @@
 use Rattle.std.proofs.Common.{◌++◌, arith}
 use Rattle.xet_base.proofs.Blake3.{are_eight}
-use Rattle.xet_base.proofs.keyed_hash.tree.together.Goals as goal
+use Rattle.xet_base.proofs.keyed_hash.tree.concat.Goals as goal
 
 pub returns : goal.returns
 returns c =

@@ -2,7 +2,7 @@ use Rattle.std.proofs.Common.{◌++◌, ℕ, List, slice_index, sym, ap, ◌∙�
 use Rattle.std.proofs.lemmas.List.{take_all}
 use Rattle.xet_base.specs.Bytes.{u32_bytes}
 use Rattle.xet_base.proofs.Blake3.{bytes_of_eight}
-use Rattle.xet_base.proofs.keyed_hash.tree.bytes_of.Goals as goal
+use Rattle.xet_base.proofs.keyed_hash.tree.words_as_bytes.Goals as goal
 
 pub returns : goal.returns
 returns c =
