@@ -2,7 +2,7 @@
 
 ghost use Rattle.std.specs.Prelude.{◌≡◌, List, All, map, length, None, ◌<◌, IfOk, IfErr, MatchResult};
 ghost use Rattle.std.specs.List.{AllZip};
-ghost use Rattle.xet_core_structures.specs.InARow.{Laid, laid_out, IsPartUnder, files_in, xorbs_in, options_under, AscendBoth, ArePartsInARow, AreBytesOf, AreInARow, RefusesRow};
+ghost use Rattle.xet_core_structures.specs.InARow.{ShardPart, bytes_of_part, IsPartUnder, files_in, xorbs_in, options_under, AscendBoth, ArePartsInARow, AreBytesOf, AreInARow, RefusesRow};
 ghost use Rattle.xet_core_structures.specs.Layout.{layout_of};
 ghost use Rattle.xet_core_structures.specs.Records.Ranges.{IsPartOf, is_within, ranges_between, AreCuts};
 ghost use Rattle.xet_core_structures.specs.Shard.{Shard, IsShard};
@@ -31,16 +31,16 @@ use xet_shards::shard_writer::shards_in_a_row;
 ///
 /// The errors are those of [`shards_in_a_row`], and `OutOfMemory` if an allocation fails.
 pub fn concatenate(alloc: Global, shards: &[&[u8]]) -> Result<Vec<u8>>
-    ensures parts { (key : DataHash) → (parts : List Laid) → All (IsPartUnder key) parts
-        → map laid_out parts ≡ map (λ x. x.now) shards.now
+    ensures parts { (key : DataHash) → (parts : List ShardPart) → All (IsPartUnder key) parts
+        → map bytes_of_part parts ≡ map (λ x. x.now) shards.now
         → IfOk result
         (λ bytes. bytes.items ≡ layout_of (files_in parts) (xorbs_in parts) (options_under key)) }
-    ensures order { (key : DataHash) → (parts : List Laid) → All (IsPartUnder key) parts
-        → map laid_out parts ≡ map (λ x. x.now) shards.now
+    ensures order { (key : DataHash) → (parts : List ShardPart) → All (IsPartUnder key) parts
+        → map bytes_of_part parts ≡ map (λ x. x.now) shards.now
         → All (λ part. AscendBoth part.files part.xorbs) parts
         → IfOk result (λ _. AscendBoth (files_in parts) (xorbs_in parts)) }
-    ensures succeeds { (key : DataHash) → (parts : List Laid) → ArePartsInARow key parts
-        → map laid_out parts ≡ map (λ x. x.now) shards.now
+    ensures succeeds { (key : DataHash) → (parts : List ShardPart) → ArePartsInARow key parts
+        → map bytes_of_part parts ≡ map (λ x. x.now) shards.now
         → IfErr result (λ e. e ≡ CoreError.OutOfMemory) }
     ensures shard { (written : List Shard) → AreBytesOf written (map (λ x. x.now) shards.now)
         → IfOk result (λ bytes. IsRowOf written bytes.items) }
@@ -60,16 +60,16 @@ pub fn concatenate(alloc: Global, shards: &[&[u8]]) -> Result<Vec<u8>>
 
 // The same, without the clause on ranges.
 fn concatenate_parts(alloc: Global, shards: &[&[u8]]) -> Result<Vec<u8>>
-    ensures parts { (key : DataHash) → (parts : List Laid) → All (IsPartUnder key) parts
-        → map laid_out parts ≡ map (λ x. x.now) shards.now
+    ensures parts { (key : DataHash) → (parts : List ShardPart) → All (IsPartUnder key) parts
+        → map bytes_of_part parts ≡ map (λ x. x.now) shards.now
         → IfOk result
         (λ bytes. bytes.items ≡ layout_of (files_in parts) (xorbs_in parts) (options_under key)) }
-    ensures order { (key : DataHash) → (parts : List Laid) → All (IsPartUnder key) parts
-        → map laid_out parts ≡ map (λ x. x.now) shards.now
+    ensures order { (key : DataHash) → (parts : List ShardPart) → All (IsPartUnder key) parts
+        → map bytes_of_part parts ≡ map (λ x. x.now) shards.now
         → All (λ part. AscendBoth part.files part.xorbs) parts
         → IfOk result (λ _. AscendBoth (files_in parts) (xorbs_in parts)) }
-    ensures succeeds { (key : DataHash) → (parts : List Laid) → ArePartsInARow key parts
-        → map laid_out parts ≡ map (λ x. x.now) shards.now
+    ensures succeeds { (key : DataHash) → (parts : List ShardPart) → ArePartsInARow key parts
+        → map bytes_of_part parts ≡ map (λ x. x.now) shards.now
         → IfErr result (λ e. e ≡ CoreError.OutOfMemory) }
     ensures shard { (written : List Shard) → AreBytesOf written (map (λ x. x.now) shards.now)
         → IfOk result (λ bytes. IsRowOf written bytes.items) }

@@ -11,7 +11,7 @@ use Rattle.xet_records.specs.FileRecord.{file_records}
 use Rattle.xet_records.specs.XorbRecord.{xorb_records}
 use Rattle.xet_shards.specs.Content.Shard.{Shard}
 use Rattle.xet_shards.specs.Ends.Ends.{FitsFooter}
-use Rattle.xet_shards.specs.Export.InARow.{Laid, laid_out, IsPartUnder, files_in, xorbs_in, AscendBoth, FitTogether, AreInARow}
+use Rattle.xet_shards.specs.Export.InARow.{ShardPart, bytes_of_part, IsPartUnder, files_in, xorbs_in, AscendBoth, FitTogether, AreInARow}
 use Rattle.xet_shards.specs.Write.Layout.{footer_value, layout_of}
 use Rattle.xet_shards.specs.Write.WithOptions.{Ascends}
 use Rattle.xet_shards.proofs.Export.InARow.{plain_widths, fit_together}
@@ -23,7 +23,7 @@ use Rattle.xet_core_structures.specs.TwoShards.ByteResults.{keyed_options}
 use Rattle.xet_core_structures.proofs.Records.RangesInARow.{ranges_in_a_row}
 
 -- the part that is laid out for a shard under a key
-abbrev laid : DataHash → Shard → Laid
+abbrev laid : DataHash → Shard → ShardPart
 laid key s = record { files = values s.files; xorbs = values s.xorbs; version = V3; key = key; creation = 0; expiry = 18446744073709551615 }
 
 -- what holds a shard under a key fits
@@ -46,9 +46,9 @@ part_under key s bytes is =
 
 -- those of many
 record AreLaid (key : DataHash) (shards : List Shard) (bytes : List (List ℕ)) : Type 0 where
-  pub parts : List Laid
+  pub parts : List ShardPart
   pub fit : All (IsPartUnder key) parts
-  pub are : map laid_out parts ≡ bytes
+  pub are : map bytes_of_part parts ≡ bytes
   pub files_are : files_in parts ≡ flat_map (λ s. values s.files) shards
   pub xorbs_are : xorbs_in parts ≡ flat_map (λ s. values s.xorbs) shards
   pub each : All (λ part. AscendBoth part.files part.xorbs) parts
@@ -61,7 +61,7 @@ all_laid key [] [] are = record {
   are = refl;
   files_are = refl;
   xorbs_are = refl;
-  each = All-nil (λ (part : Laid). AscendBoth part.files part.xorbs);
+  each = All-nil (λ (part : ShardPart). AscendBoth part.files part.xorbs);
   count = refl;
 }
 all_laid key [] (b ∷ bytes) are = absurd are
@@ -74,7 +74,7 @@ all_laid key (s ∷ shards) (b ∷ bytes) (here, others) =
       are = λ i. sym here.bytes_are i ∷ rest.are i;
       files_are = ap (λ fs. values s.files ++ fs) rest.files_are;
       xorbs_are = ap (λ xs. values s.xorbs ++ xs) rest.xorbs_are;
-      each = All-cons (λ (part : Laid). AscendBoth part.files part.xorbs) (laid key s) rest.parts
+      each = All-cons (λ (part : ShardPart). AscendBoth part.files part.xorbs) (laid key s) rest.parts
           (record { files_ascend = files_ascend s here.holds.shard; xorbs_ascend = xorbs_ascend s here.holds.shard }) rest.each;
       count = omega (arith, rest.count);
     }

@@ -8,7 +8,7 @@ use Rattle.xet_shards.specs.declared.shard_format.ends.info.MDBShardInfo.{MDBSha
 use Rattle.xet_shards.specs.Ends.Ends.{HasHeaderAndFooter}
 use Rattle.xet_shards.specs.Content.Joins.{IsJoinOf, AgreePairwise}
 use Rattle.xet_shards.specs.Content.Shard.{Shard, IsShard}
-use Rattle.xet_shards.specs.Export.InARow.{Laid, laid_out, IsPartUnder, files_in, xorbs_in, options_under, ArePartsInARow}
+use Rattle.xet_shards.specs.Export.InARow.{ShardPart, bytes_of_part, IsPartUnder, files_in, xorbs_in, options_under, ArePartsInARow}
 use Rattle.xet_shards.specs.Write.Layout.{layout_of}
 use Rattle.xet_core_structures.specs.declared.set_operations.MergePlan.{MergePlan}
 use Rattle.xet_core_structures.specs.declared.set_operations.MergePlan.TheVariants.{Leaf, Both'}
@@ -70,8 +70,8 @@ pub record IsHeldLayout (key : DataHash) (s : Shard) (bytes : List ℕ) : Type 0
 -- the byte strings are parts under a key, one after another, of which the layout of this shard is
 -- written; if it is a shard, they are in a row
 pub record AreRangesOf (key : DataHash) (whole : Shard) (bytes : List (List ℕ)) : Type 0 where
-  pub parts : List Laid
+  pub parts : List ShardPart
   pub fit : All (IsPartUnder key) parts
-  pub are : map laid_out parts ≡ bytes
+  pub are : map bytes_of_part parts ≡ bytes
   pub whole_is : layout_of (files_in parts) (xorbs_in parts) (options_under key) ≡ keyed_layout whole key
   pub row : IsShard whole → ArePartsInARow key parts

@@ -21,7 +21,7 @@ use Rattle.xet_shards.specs.declared.shard_format.export.chunk_merging.Cursor.{C
 use Rattle.xet_shards.specs.declared.shard_format.export.gathering.Totals.{Totals}
 use Rattle.xet_shards.specs.declared.shard_format.export.part_split.Split.{Split}
 use Rattle.xet_shards.specs.declared.shard_format.export.section_parts.SectionPart.{SectionPart}
-use Rattle.xet_shards.specs.Export.InARow.{Laid, laid_out, IsPartUnder, files_in, xorbs_in, FitTogether}
+use Rattle.xet_shards.specs.Export.InARow.{ShardPart, bytes_of_part, IsPartUnder, files_in, xorbs_in, FitTogether}
 use Rattle.xet_shards.specs.Steps.InARow.{HoldSections, IsSplitOf}
 use Rattle.xet_shards.specs.Steps.ChunkMerging.{HoldsRows, rows_held, FitsTableRow}
 use Rattle.xet_shards.specs.Steps.Gathering.{AddsPart, FitWith, HoldTables, HasGathered}
@@ -115,7 +115,7 @@ nothing_gathered totals is = subst (λ ts. HasGathered [] [] [] ts []) (sym is) 
   totals_are = record { files_are = refl; file_rows = refl; xorbs_are = refl; xorb_rows = refl; materialized_bytes = refl; stored_bytes = refl; stored_bytes_on_disk = refl };
 })
 
-pub one_gathered : (key : DataHash) (files xorbs : List SectionPart) (cursors : List Cursor) (totals more : Totals) (parts : List Laid) (part : Laid) (split : Split) (file_part xorb_part : SectionPart) (cursor : Cursor)
+pub one_gathered : (key : DataHash) (files xorbs : List SectionPart) (cursors : List Cursor) (totals more : Totals) (parts : List ShardPart) (part : ShardPart) (split : Split) (file_part xorb_part : SectionPart) (cursor : Cursor)
     → HasGathered files xorbs cursors totals parts → IsPartUnder key part → IsSplitOf part split → AddsPart totals split more
     → file_part.rows.now ≡ split.files.now → file_part.count ≡ more.file_rows - totals.file_rows → file_part.table.now ≡ split.file_table.now
     → xorb_part.rows.now ≡ split.xorbs.now → xorb_part.count ≡ more.xorb_rows - totals.xorb_rows → xorb_part.table.now ≡ split.xorb_table.now
@@ -127,15 +127,15 @@ one_gathered key files xorbs cursors totals more parts part split file_part xorb
     let xorb_widths : All FitsXorb part.xorbs = λ k r below. (fits.xorbs_fit.stored k r below).widths in
     let more_file_rows : more.file_rows ≡ totals.file_rows + total_rows file_records part.files = adds.file_rows ∙ ap (λ n. totals.file_rows + n) (ap (λ (bs : List ℕ). length bs / 48) is.files ∙ length-file_rows part.files file_widths) in
     let more_xorb_rows : more.xorb_rows ≡ totals.xorb_rows + total_rows xorb_records part.xorbs = adds.xorb_rows ∙ ap (λ n. totals.xorb_rows + n) (ap (λ (bs : List ℕ). length bs / 48) is.xorbs ∙ length-xorb_rows part.xorbs) in
-    let all_files : files_in (parts ++ part ∷ []) ≡ files_in parts ++ part.files = flat_map-push (λ (p : Laid). p.files) parts part in
-    let all_xorbs : xorbs_in (parts ++ part ∷ []) ≡ xorbs_in parts ++ part.xorbs = flat_map-push (λ (p : Laid). p.xorbs) parts part in
+    let all_files : files_in (parts ++ part ∷ []) ≡ files_in parts ++ part.files = flat_map-push (λ (p : ShardPart). p.files) parts part in
+    let all_xorbs : xorbs_in (parts ++ part ∷ []) ≡ xorbs_in parts ++ part.xorbs = flat_map-push (λ (p : ShardPart). p.xorbs) parts part in
     let footer = is.footer_is in
     let ts = before.totals_are in
     record {
-      files_held = subst (HoldSections file_records (files ++ file_part ∷ [])) (sym (map-push (λ (p : Laid). p.files) parts part))
+      files_held = subst (HoldSections file_records (files ++ file_part ∷ [])) (sym (map-push (λ (p : ShardPart). p.files) parts part))
           (hold_more file_records files (map (λ p. p.files) parts) file_part part.files before.files_held (file_rows ∙ is.files) (file_count ∙ omega (arith, more_file_rows)) (file_table ∙ is.file_table)
           (starts_fit file_records [] part.files (λ k r below. (file_widths k r below).metadata.file_hash.word0) (λ r. omega arith) (omega (arith, file_fits.rows))));
-      xorbs_held = subst (HoldSections xorb_records (xorbs ++ xorb_part ∷ [])) (sym (map-push (λ (p : Laid). p.xorbs) parts part))
+      xorbs_held = subst (HoldSections xorb_records (xorbs ++ xorb_part ∷ [])) (sym (map-push (λ (p : ShardPart). p.xorbs) parts part))
           (hold_more xorb_records xorbs (map (λ p. p.xorbs) parts) xorb_part part.xorbs before.xorbs_held (xorb_rows ∙ is.xorbs) (xorb_count ∙ omega (arith, more_xorb_rows)) (xorb_table ∙ is.xorb_table)
           (xorb_starts_fit part.xorbs xorb_widths fits.xorbs_fit.rows));
       tables_held = subst (HoldTables (cursors ++ cursor ∷ [])) (sym all_xorbs)
@@ -165,7 +165,7 @@ abbrev on_disk_of : MDBXorbInfo → ℕ
 on_disk_of x = x.metadata.num_bytes_on_disk
 
 -- where the sums over all parts fit, so do those with one part more
-fit_with : (key : DataHash) (parts : List Laid) (i : ℕ) (d part : Laid) (files xorbs : List SectionPart) (cursors : List Cursor) (totals : Totals) (split : Split) → i < length parts → get_or parts i d ≡ part
+fit_with : (key : DataHash) (parts : List ShardPart) (i : ℕ) (d part : ShardPart) (files xorbs : List SectionPart) (cursors : List Cursor) (totals : Totals) (split : Split) → i < length parts → get_or parts i d ≡ part
     → FitTogether (files_in parts) (xorbs_in parts) → IsPartUnder key part → HasGathered files xorbs cursors totals (take i parts) → IsSplitOf part split → FitWith totals split
 fit_with key parts i d part files xorbs cursors totals split below part_is fit fits before is =
     let file_fits = fits_ever file_records part.version part.files fits.files_fit in
@@ -175,15 +175,15 @@ fit_with key parts i d part files xorbs cursors totals split below part_is fit f
     let xorb_rows : length split.xorbs.now / 48 ≡ total_rows xorb_records part.xorbs = ap (λ (bs : List ℕ). length bs / 48) is.xorbs ∙ length-xorb_rows part.xorbs in
     let footer = is.footer_is in
     let all_file_rows : total_rows file_records (files_in (take i parts)) + total_rows file_records part.files ≤ total_rows file_records (files_in parts) =
-    subst (λ (p : Laid). total_rows file_records (files_in (take i parts)) + total_rows file_records p.files ≤ total_rows file_records (files_in parts)) part_is (sum_through (λ (p : Laid). p.files) file_records.row_count parts i d below) in
+    subst (λ (p : ShardPart). total_rows file_records (files_in (take i parts)) + total_rows file_records p.files ≤ total_rows file_records (files_in parts)) part_is (sum_through (λ (p : ShardPart). p.files) file_records.row_count parts i d below) in
     let all_xorb_rows : total_rows xorb_records (xorbs_in (take i parts)) + total_rows xorb_records part.xorbs ≤ total_rows xorb_records (xorbs_in parts) =
-    subst (λ (p : Laid). total_rows xorb_records (xorbs_in (take i parts)) + total_rows xorb_records p.xorbs ≤ total_rows xorb_records (xorbs_in parts)) part_is (sum_through (λ (p : Laid). p.xorbs) xorb_records.row_count parts i d below) in
+    subst (λ (p : ShardPart). total_rows xorb_records (xorbs_in (take i parts)) + total_rows xorb_records p.xorbs ≤ total_rows xorb_records (xorbs_in parts)) part_is (sum_through (λ (p : ShardPart). p.xorbs) xorb_records.row_count parts i d below) in
     let all_sizes : sum_by size_of_file (files_in (take i parts)) + sum_by size_of_file part.files ≤ sum_by size_of_file (files_in parts) =
-    subst (λ (p : Laid). sum_by size_of_file (files_in (take i parts)) + sum_by size_of_file p.files ≤ sum_by size_of_file (files_in parts)) part_is (sum_through (λ (p : Laid). p.files) size_of_file parts i d below) in
+    subst (λ (p : ShardPart). sum_by size_of_file (files_in (take i parts)) + sum_by size_of_file p.files ≤ sum_by size_of_file (files_in parts)) part_is (sum_through (λ (p : ShardPart). p.files) size_of_file parts i d below) in
     let all_stored : sum_by stored_of (xorbs_in (take i parts)) + sum_by stored_of part.xorbs ≤ sum_by stored_of (xorbs_in parts) =
-    subst (λ (p : Laid). sum_by stored_of (xorbs_in (take i parts)) + sum_by stored_of p.xorbs ≤ sum_by stored_of (xorbs_in parts)) part_is (sum_through (λ (p : Laid). p.xorbs) stored_of parts i d below) in
+    subst (λ (p : ShardPart). sum_by stored_of (xorbs_in (take i parts)) + sum_by stored_of p.xorbs ≤ sum_by stored_of (xorbs_in parts)) part_is (sum_through (λ (p : ShardPart). p.xorbs) stored_of parts i d below) in
     let all_on_disk : sum_by on_disk_of (xorbs_in (take i parts)) + sum_by on_disk_of part.xorbs ≤ sum_by on_disk_of (xorbs_in parts) =
-    subst (λ (p : Laid). sum_by on_disk_of (xorbs_in (take i parts)) + sum_by on_disk_of p.xorbs ≤ sum_by on_disk_of (xorbs_in parts)) part_is (sum_through (λ (p : Laid). p.xorbs) on_disk_of parts i d below) in
+    subst (λ (p : ShardPart). sum_by on_disk_of (xorbs_in (take i parts)) + sum_by on_disk_of p.xorbs ≤ sum_by on_disk_of (xorbs_in parts)) part_is (sum_through (λ (p : ShardPart). p.xorbs) on_disk_of parts i d below) in
     record {
       files = omega (
         arith,
@@ -212,48 +212,48 @@ fit_with key parts i d part files xorbs cursors totals split below part_is fit f
       stored_bytes_on_disk = omega (arith, fit.on_disk, ts.stored_bytes_on_disk, ap (λ (f : MDBShardFileFooter). f.stored_bytes_on_disk) footer, all_on_disk);
     }
 
-abbrev no_part : Laid
+abbrev no_part : ShardPart
 no_part = record { files = []; xorbs = []; version = V3; key = no_key; creation = 0; expiry = 0 }
 
-module _ (key : DataHash) (parts : List Laid) (shards : List (Bor (List ℕ))) (fit : All (IsPartUnder key) parts) (are : map laid_out parts ≡ map (λ x. x.now) shards) where
+module _ (key : DataHash) (parts : List ShardPart) (shards : List (Bor (List ℕ))) (fit : All (IsPartUnder key) parts) (are : map bytes_of_part parts ≡ map (λ x. x.now) shards) where
   lens : length parts ≡ length shards
-  lens = sym (length-map parts laid_out) ∙ ap length are ∙ length-map shards (λ (x : Bor (List ℕ)). x.now)
+  lens = sym (length-map parts bytes_of_part) ∙ ap length are ∙ length-map shards (λ (x : Bor (List ℕ)). x.now)
 
   module _ (i : ℕ) (d : Bor (List ℕ)) (below : i < length shards) where
     part_within : i < length parts
     part_within = omega (arith, below, lens)
 
-    abbrev part_here : Laid
+    abbrev part_here : ShardPart
     part_here = get_or parts i no_part
 
-    part_bytes : (get_or shards i d).now ≡ laid_out part_here
-    part_bytes = sym (get_or-map (λ (x : Bor (List ℕ)). x.now) shards i d [] below) ∙ ap (λ bs. get_or bs i []) (sym are) ∙ get_or-map laid_out parts i no_part [] part_within
+    part_bytes : (get_or shards i d).now ≡ bytes_of_part part_here
+    part_bytes = sym (get_or-map (λ (x : Bor (List ℕ)). x.now) shards i d [] below) ∙ ap (λ bs. get_or bs i []) (sym are) ∙ get_or-map bytes_of_part parts i no_part [] part_within
 
     -- a part is split
-    pub part_splits : (P : Type 0) → ((key : DataHash) (part : Laid) → IsPartUnder key part → (get_or shards i d).now ≡ laid_out part → P) → P
+    pub part_splits : (P : Type 0) → ((key : DataHash) (part : ShardPart) → IsPartUnder key part → (get_or shards i d).now ≡ bytes_of_part part → P) → P
     part_splits P from = from key part_here (fit i no_part part_within) part_bytes
 
     -- its key is that of all
-    pub same_key : (split : Split) → ((key : DataHash) (part : Laid) → IsPartUnder key part → (get_or shards i d).now ≡ laid_out part → IsSplitOf part split) → split.footer.chunk_hash_hmac_key ≡ key
+    pub same_key : (split : Split) → ((key : DataHash) (part : ShardPart) → IsPartUnder key part → (get_or shards i d).now ≡ bytes_of_part part → IsSplitOf part split) → split.footer.chunk_hash_hmac_key ≡ key
     same_key split splits =
         let here = fit i no_part part_within in
         ap (λ (f : MDBShardFileFooter). f.chunk_hash_hmac_key) (splits key part_here here part_bytes).footer_is ∙ here.key_is
 
     pub part_fits : (files xorbs : List SectionPart) (cursors : List Cursor) (totals : Totals) (split : Split) → HasGathered files xorbs cursors totals (take i parts)
-        → ((key : DataHash) (part : Laid) → IsPartUnder key part → (get_or shards i d).now ≡ laid_out part → IsSplitOf part split) → FitTogether (files_in parts) (xorbs_in parts) → FitWith totals split
+        → ((key : DataHash) (part : ShardPart) → IsPartUnder key part → (get_or shards i d).now ≡ bytes_of_part part → IsSplitOf part split) → FitTogether (files_in parts) (xorbs_in parts) → FitWith totals split
     part_fits files xorbs cursors totals split before splits together =
         let here = fit i no_part part_within in
         fit_with key parts i no_part part_here files xorbs cursors totals split part_within refl together here before (splits key part_here here part_bytes)
 
   pub gathered_next : (files xorbs : List SectionPart) (cursors : List Cursor) (totals more : Totals) (i : ℕ) (d : Bor (List ℕ)) (split : Split) → i < length shards → HasGathered files xorbs cursors totals (take i parts)
-      → ((key : DataHash) (part : Laid) → IsPartUnder key part → (get_or shards i d).now ≡ laid_out part → IsSplitOf part split) → AddsPart totals split more → more.xorb_rows < 2 ^ 32
+      → ((key : DataHash) (part : ShardPart) → IsPartUnder key part → (get_or shards i d).now ≡ bytes_of_part part → IsSplitOf part split) → AddsPart totals split more → more.xorb_rows < 2 ^ 32
       → HasGathered (files ++ record { rows = split.files; count = more.file_rows - totals.file_rows; table = split.file_table } ∷ []) (xorbs ++ record { rows = split.xorbs; count = more.xorb_rows - totals.xorb_rows; table = split.xorb_table } ∷ [])
       (cursors ++ record { rest = split.chunk_table; first = totals.xorb_rows } ∷ []) more (take (i + 1) parts)
   gathered_next files xorbs cursors totals more i d split below before splits adds rows_fit =
       let within : i < length parts = omega (arith, below, lens) in
-      let part : Laid = get_or parts i no_part in
-      let bytes : (get_or shards i d).now ≡ laid_out part =
-      sym (get_or-map (λ (x : Bor (List ℕ)). x.now) shards i d [] below) ∙ ap (λ bs. get_or bs i []) (sym are) ∙ get_or-map laid_out parts i no_part [] within in
+      let part : ShardPart = get_or parts i no_part in
+      let bytes : (get_or shards i d).now ≡ bytes_of_part part =
+      sym (get_or-map (λ (x : Bor (List ℕ)). x.now) shards i d [] below) ∙ ap (λ bs. get_or bs i []) (sym are) ∙ get_or-map bytes_of_part parts i no_part [] within in
       let here : IsPartUnder key part = fit i no_part within in
       subst (HasGathered _ _ _ more) (sym (take_more parts i no_part within))
       (one_gathered key files xorbs cursors totals more (take i parts) part split _ _ _ before here (splits key part here bytes) adds refl refl refl refl refl refl refl refl rows_fit)

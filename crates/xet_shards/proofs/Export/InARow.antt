@@ -21,7 +21,7 @@ use Rattle.xet_shards.specs.declared.shard_format.export.chunk_merging.Cursor.{C
 use Rattle.xet_shards.specs.declared.shard_format.export.gathering.Totals.{Totals}
 use Rattle.xet_shards.specs.declared.shard_format.export.part_split.Split.{Split}
 use Rattle.xet_shards.specs.declared.shard_format.export.section_parts.SectionPart.{SectionPart}
-use Rattle.xet_shards.specs.Export.InARow.{Laid, laid_out, IsPartUnder, files_in, xorbs_in, options_under, AscendBoth, HaveFewRows, FitTogether, ArePartsInARow, AreBytesOf, AreInARow, AppendsRow}
+use Rattle.xet_shards.specs.Export.InARow.{ShardPart, bytes_of_part, IsPartUnder, files_in, xorbs_in, options_under, AscendBoth, HaveFewRows, FitTogether, ArePartsInARow, AreBytesOf, AreInARow, AppendsRow}
 use Rattle.xet_shards.specs.Steps.Gathering.{HasTotals, HasGathered}
 use Rattle.xet_shards.specs.Steps.InARow.{HoldSections, all_of, IsSplitOf}
 use Rattle.xet_shards.specs.Steps.ChunkMerging.{HoldsRows, rows_held, Merges}
@@ -52,11 +52,11 @@ rows_of_parts : {R : Type 0} (bytes : R → List ℕ) (sections : List SectionPa
 rows_of_parts bytes sections records are =
     sym (flat_map-map (λ (bs : List ℕ). bs) (λ (s : SectionPart). s.rows.now) sections) ∙ ap (flat_map (λ bs. bs)) are ∙ flat_map-map (λ (bs : List ℕ). bs) (flat_map bytes) records ∙ rows_joined bytes records
 
-all_files : (parts : List Laid) → all_of (map (λ p. p.files) parts) ≡ files_in parts
-all_files parts = flat_map-map (λ (rs : List MDBFileInfo). rs) (λ (p : Laid). p.files) parts
+all_files : (parts : List ShardPart) → all_of (map (λ p. p.files) parts) ≡ files_in parts
+all_files parts = flat_map-map (λ (rs : List MDBFileInfo). rs) (λ (p : ShardPart). p.files) parts
 
-all_xorbs : (parts : List Laid) → all_of (map (λ p. p.xorbs) parts) ≡ xorbs_in parts
-all_xorbs parts = flat_map-map (λ (rs : List MDBXorbInfo). rs) (λ (p : Laid). p.xorbs) parts
+all_xorbs : (parts : List ShardPart) → all_of (map (λ p. p.xorbs) parts) ≡ xorbs_in parts
+all_xorbs parts = flat_map-map (λ (rs : List MDBXorbInfo). rs) (λ (p : ShardPart). p.xorbs) parts
 
 layout_from_parts : (files : List MDBFileInfo) (xorbs : List MDBXorbInfo) (key : DataHash) → (((((((shard_header_bytes (header_value V3) ++ flat_map file_records.record_bytes files) ++ file_records.header_bytes file_records.bookend)
     ++ flat_map xorb_records.record_bytes xorbs) ++ xorb_records.header_bytes xorb_records.bookend) ++ table_bytes file_records files) ++ table_bytes xorb_records xorbs) ++ chunk_table_bytes xorbs) ++ shard_footer_bytes (footer_value files xorbs (options_under key))
@@ -72,12 +72,12 @@ merged_table xorbs rows old new moved merges =
     (sym (sorted_is_table xorbs (chunk_table_rows xorbs) merges.sorted refl (IsPermutation-trans (chunk_table_rows xorbs) rows merges.sorted moved merges.moved) merges.in_order)) merges.written
 
 -- the chunks of all parts are as many as the rows of their tables
-pub count_is : (totals : Totals) (parts : List Laid) (chunks : ℕ) → HasTotals totals (files_in parts) (xorbs_in parts) → chunks + totals.xorbs ≡ totals.xorb_rows → (rows : List ChunkTableRow)
+pub count_is : (totals : Totals) (parts : List ShardPart) (chunks : ℕ) → HasTotals totals (files_in parts) (xorbs_in parts) → chunks + totals.xorbs ≡ totals.xorb_rows → (rows : List ChunkTableRow)
     → IsPermutation (chunk_table_rows (xorbs_in parts)) rows → chunks ≡ length rows
 count_is totals parts chunks are sum rows moved =
     omega (arith, sum, are.xorbs_are, are.xorb_rows, xorb_rows-chunks (xorbs_in parts), length-chunk_table_rows (xorbs_in parts), length_permutation (chunk_table_rows (xorbs_in parts)) rows moved)
 
-pub all_written : (files xorbs : List SectionPart) (cursors : List Cursor) (totals : Totals) (parts : List Laid) (key : DataHash) (footer : MDBShardFileFooter) (chunks : ℕ) (o a b c d e f g h i : Option (List ℕ)) → HasGathered files xorbs cursors totals parts
+pub all_written : (files xorbs : List SectionPart) (cursors : List Cursor) (totals : Totals) (parts : List ShardPart) (key : DataHash) (footer : MDBShardFileFooter) (chunks : ℕ) (o a b c d e f g h i : Option (List ℕ)) → HasGathered files xorbs cursors totals parts
     → chunks + totals.xorbs ≡ totals.xorb_rows
     → Appends o a (shard_header_bytes (header_value V3)) → Appends a b (flat_map (λ s. s.rows.now) files) → Appends b c (file_records.header_bytes file_records.bookend)
     → Appends c d (flat_map (λ s. s.rows.now) xorbs) → Appends d e (xorb_records.header_bytes xorb_records.bookend)
@@ -101,22 +101,22 @@ all_written files xorbs cursors totals parts key footer chunks o a b c d e f g h
     (Appends-trans o h i _ _ (Appends-trans o g h _ _ (Appends-trans o f g _ _ (Appends-trans o e f _ _ (Appends-trans o d e _ _ (Appends-trans o c d _ _ (Appends-trans o b c _ _ (Appends-trans o a b _ _ header one) file_end) two) xorb_end) three) four) five) six)
 
 -- the files of parts have their widths
-pub parts_fit : (key : DataHash) (parts : List Laid) → All (IsPartUnder key) parts → All FitsRecord (files_in parts)
+pub parts_fit : (key : DataHash) (parts : List ShardPart) → All (IsPartUnder key) parts → All FitsRecord (files_in parts)
 parts_fit key [] fit = All-nil FitsRecord
 parts_fit key (part ∷ parts) fit =
     let stored = (fits_ever file_records part.version part.files (fit 0 part (omega arith)).files_fit).stored in
     All-append FitsRecord part.files (files_in parts) (λ k r below. (stored k r below).widths) (parts_fit key parts (All-drop (IsPartUnder key) 1 (part ∷ parts) fit))
 
 -- the records of parts may be in a section
-files_stored : (key : DataHash) (parts : List Laid) → All (IsPartUnder key) parts → All (All file_records.IsStored) (map (λ p. p.files) parts)
+files_stored : (key : DataHash) (parts : List ShardPart) → All (IsPartUnder key) parts → All (All file_records.IsStored) (map (λ p. p.files) parts)
 files_stored key parts fit =
-    All-map (All file_records.IsStored) (λ (p : Laid). p.files) parts (λ k d below. (fits_ever file_records (get_or parts k d).version (get_or parts k d).files (fit k d below).files_fit).stored)
+    All-map (All file_records.IsStored) (λ (p : ShardPart). p.files) parts (λ k d below. (fits_ever file_records (get_or parts k d).version (get_or parts k d).files (fit k d below).files_fit).stored)
 
-xorbs_stored : (key : DataHash) (parts : List Laid) → All (IsPartUnder key) parts → All (All xorb_records.IsStored) (map (λ p. p.xorbs) parts)
-xorbs_stored key parts fit = All-map (All xorb_records.IsStored) (λ (p : Laid). p.xorbs) parts (λ k d below. (fit k d below).xorbs_fit.stored)
+xorbs_stored : (key : DataHash) (parts : List ShardPart) → All (IsPartUnder key) parts → All (All xorb_records.IsStored) (map (λ p. p.xorbs) parts)
+xorbs_stored key parts fit = All-map (All xorb_records.IsStored) (λ (p : ShardPart). p.xorbs) parts (λ k d below. (fit k d below).xorbs_fit.stored)
 
 -- what the order of gathered sections says of the parts
-pub in_order : (key : DataHash) (parts : List Laid) (files xorbs : List SectionPart) (cursors : List Cursor) (totals : Totals) → All (IsPartUnder key) parts → All (λ part. AscendBoth part.files part.xorbs) parts
+pub in_order : (key : DataHash) (parts : List ShardPart) (files xorbs : List SectionPart) (cursors : List Cursor) (totals : Totals) → All (IsPartUnder key) parts → All (λ part. AscendBoth part.files part.xorbs) parts
     → HasGathered files xorbs cursors totals parts
     → ((records : List (List MDBFileInfo)) → HoldSections file_records files records → All (All file_records.IsStored) records → All (Ascends file_records) records → Ascends file_records (all_of records))
     → ((records : List (List MDBXorbInfo)) → HoldSections xorb_records xorbs records → All (All xorb_records.IsStored) records → All (Ascends xorb_records) records → Ascends xorb_records (all_of records))
@@ -125,16 +125,16 @@ in_order key parts files xorbs cursors totals fit each held files_checked xorbs_
   files_ascend = subst (Ascends file_records) (all_files parts)
       (files_checked (map (λ p. p.files) parts) held.files_held
       (files_stored key parts fit)
-      (All-map (Ascends file_records) (λ (p : Laid). p.files) parts (λ k d below. (each k d below).files_ascend)));
+      (All-map (Ascends file_records) (λ (p : ShardPart). p.files) parts (λ k d below. (each k d below).files_ascend)));
   xorbs_ascend = subst (Ascends xorb_records) (all_xorbs parts)
       (xorbs_checked (map (λ p. p.xorbs) parts) held.xorbs_held
       (xorbs_stored key parts fit)
-      (All-map (Ascends xorb_records) (λ (p : Laid). p.xorbs) parts (λ k d below. (each k d below).xorbs_ascend)));
+      (All-map (Ascends xorb_records) (λ (p : ShardPart). p.xorbs) parts (λ k d below. (each k d below).xorbs_ascend)));
 }
 
 -- the key of the first part is that of all
-pub first_key : (key : DataHash) (parts : List Laid) (shards : List (Bor (List ℕ))) (d : Bor (List ℕ)) (split : Split) → All (IsPartUnder key) parts → map laid_out parts ≡ map (λ x. x.now) shards → 0 < length shards
-    → ((key : DataHash) (part : Laid) → IsPartUnder key part → (get_or shards 0 d).now ≡ laid_out part → IsSplitOf part split) → split.footer.chunk_hash_hmac_key ≡ key
+pub first_key : (key : DataHash) (parts : List ShardPart) (shards : List (Bor (List ℕ))) (d : Bor (List ℕ)) (split : Split) → All (IsPartUnder key) parts → map bytes_of_part parts ≡ map (λ x. x.now) shards → 0 < length shards
+    → ((key : DataHash) (part : ShardPart) → IsPartUnder key part → (get_or shards 0 d).now ≡ bytes_of_part part → IsSplitOf part split) → split.footer.chunk_hash_hmac_key ≡ key
 first_key key [] [] d split fit are some splits = absurd (omega (arith, some))
 first_key key [] (shard ∷ shards) d split fit are some splits = absurd (omega (arith, ap length are))
 first_key key (part ∷ parts) [] d split fit are some splits = absurd (omega (arith, some))
@@ -144,20 +144,20 @@ first_key key (part ∷ parts) (shard ∷ shards) d split fit are some splits =
 
 -- the bytes of shards are parts without a key
 pub record ArePartsOf (shards : List Shard) (bytes : List (List ℕ)) : Type 0 where
-  pub parts : List Laid
+  pub parts : List ShardPart
   pub fit : All (IsPartUnder no_key) parts
-  pub are : map laid_out parts ≡ bytes
+  pub are : map bytes_of_part parts ≡ bytes
   pub files_are : files_in parts ≡ flat_map (λ s. values s.files) shards
   pub xorbs_are : xorbs_in parts ≡ flat_map (λ s. values s.xorbs) shards
   pub ascend : All (λ part. AscendBoth part.files part.xorbs) parts
 
 pub parts_of : (shards : List Shard) (bytes : List (List ℕ)) → AreBytesOf shards bytes → ArePartsOf shards bytes
-parts_of [] [] is = record { parts = []; fit = All-nil (IsPartUnder no_key); are = refl; files_are = refl; xorbs_are = refl; ascend = All-nil (λ (part : Laid). AscendBoth part.files part.xorbs) }
+parts_of [] [] is = record { parts = []; fit = All-nil (IsPartUnder no_key); are = refl; files_are = refl; xorbs_are = refl; ascend = All-nil (λ (part : ShardPart). AscendBoth part.files part.xorbs) }
 parts_of [] (b ∷ bytes) is = absurd is
 parts_of (s ∷ shards) [] is = absurd is
 parts_of (s ∷ shards) (b ∷ bytes) (is, others) =
     let rest = parts_of shards bytes others in
-    let part : Laid = record { files = values s.files; xorbs = values s.xorbs; version = is.version; key = no_key; creation = 0; expiry = unwrap_or is.expiry 18446744073709551615 } in
+    let part : ShardPart = record { files = values s.files; xorbs = values s.xorbs; version = is.version; key = no_key; creation = 0; expiry = unwrap_or is.expiry 18446744073709551615 } in
     record {
       parts = part ∷ rest.parts;
       fit = All-cons (IsPartUnder no_key) part rest.parts (record {
@@ -169,7 +169,7 @@ parts_of (s ∷ shards) (b ∷ bytes) (is, others) =
       are = λ i. sym is.bytes_are i ∷ rest.are i;
       files_are = ap (λ fs. values s.files ++ fs) rest.files_are;
       xorbs_are = ap (λ xs. values s.xorbs ++ xs) rest.xorbs_are;
-      ascend = All-cons (λ (part : Laid). AscendBoth part.files part.xorbs) part rest.parts (record { files_ascend = files_ascend s is.shard; xorbs_ascend = xorbs_ascend s is.shard }) rest.ascend;
+      ascend = All-cons (λ (part : ShardPart). AscendBoth part.files part.xorbs) part rest.parts (record { files_ascend = files_ascend s is.shard; xorbs_ascend = xorbs_ascend s is.shard }) rest.ascend;
     }
 
 -- what was written of shards, whose records ascend, is the shard that has them all
@@ -206,7 +206,7 @@ parts_in_a_row shards bytes all shard row is are some =
     let files : values all.files ≡ files_in are.parts = row.files ∙ sym are.files_are in
     let xorbs : values all.xorbs ≡ xorbs_in are.parts = row.xorbs ∙ sym are.xorbs_are in
     record {
-      some = omega (arith, some, ap length are.are, length-map are.parts laid_out, length-map bytes (λ (x : Bor (List ℕ)). x.now));
+      some = omega (arith, some, ap length are.are, length-map are.parts bytes_of_part, length-map bytes (λ (x : Bor (List ℕ)). x.now));
       fit = are.fit;
       each = are.ascend;
       ascend = record { files_ascend = subst (Ascends file_records) files (files_ascend all shard); xorbs_ascend = subst (Ascends xorb_records) xorbs (xorbs_ascend all shard) };
@@ -214,20 +214,20 @@ parts_in_a_row shards bytes all shard row is are some =
     }
 
 -- the order of parts in a row is not refused
-module _ (key : DataHash) (parts : List Laid) (files xorbs : List SectionPart) (cursors : List Cursor) (totals : Totals) (row : ArePartsInARow key parts) (held : HasGathered files xorbs cursors totals parts) (P : Type 0) where
+module _ (key : DataHash) (parts : List ShardPart) (files xorbs : List SectionPart) (cursors : List Cursor) (totals : Totals) (row : ArePartsInARow key parts) (held : HasGathered files xorbs cursors totals parts) (P : Type 0) where
   pub files_not_refused : ((records : List (List MDBFileInfo)) → HoldSections file_records files records → All (All file_records.IsStored) records → All (Ascends file_records) records → P × (Ascends file_records (all_of records) → ⊥)) → ⊥
   files_not_refused refused =
-      (refused (map (λ p. p.files) parts) held.files_held (files_stored key parts row.fit) (All-map (Ascends file_records) (λ (p : Laid). p.files) parts (λ k d below. (row.each k d below).files_ascend))).1
+      (refused (map (λ p. p.files) parts) held.files_held (files_stored key parts row.fit) (All-map (Ascends file_records) (λ (p : ShardPart). p.files) parts (λ k d below. (row.each k d below).files_ascend))).1
       (subst (Ascends file_records) (sym (all_files parts)) row.ascend.files_ascend)
 
   pub xorbs_not_refused : ((records : List (List MDBXorbInfo)) → HoldSections xorb_records xorbs records → All (All xorb_records.IsStored) records → All (Ascends xorb_records) records → P × (Ascends xorb_records (all_of records) → ⊥)) → ⊥
   xorbs_not_refused refused =
-      (refused (map (λ p. p.xorbs) parts) held.xorbs_held (xorbs_stored key parts row.fit) (All-map (Ascends xorb_records) (λ (p : Laid). p.xorbs) parts (λ k d below. (row.each k d below).xorbs_ascend))).1
+      (refused (map (λ p. p.xorbs) parts) held.xorbs_held (xorbs_stored key parts row.fit) (All-map (Ascends xorb_records) (λ (p : ShardPart). p.xorbs) parts (λ k d below. (row.each k d below).xorbs_ascend))).1
       (subst (Ascends xorb_records) (sym (all_xorbs parts)) row.ascend.xorbs_ascend)
 
 -- the rows of all parts fit 32 bits
-pub file_rows_fit : (parts : List Laid) → FitTogether (files_in parts) (xorbs_in parts) → total_rows file_records (all_of (map (λ p. p.files) parts)) < 2 ^ 32
+pub file_rows_fit : (parts : List ShardPart) → FitTogether (files_in parts) (xorbs_in parts) → total_rows file_records (all_of (map (λ p. p.files) parts)) < 2 ^ 32
 file_rows_fit parts together = omega (arith, together.rows.file_rows, ap (total_rows file_records) (all_files parts))
 
-pub xorb_rows_fit : (parts : List Laid) → FitTogether (files_in parts) (xorbs_in parts) → total_rows xorb_records (all_of (map (λ p. p.xorbs) parts)) < 2 ^ 32
+pub xorb_rows_fit : (parts : List ShardPart) → FitTogether (files_in parts) (xorbs_in parts) → total_rows xorb_records (all_of (map (λ p. p.xorbs) parts)) < 2 ^ 32
 xorb_rows_fit parts together = omega (arith, together.rows.xorb_rows, ap (total_rows xorb_records) (all_xorbs parts))

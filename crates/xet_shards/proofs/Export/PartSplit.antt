@@ -13,7 +13,7 @@ use Rattle.xet_shards.specs.declared.shard_format.ends.footer.MDBShardFileFooter
 use Rattle.xet_shards.specs.declared.shard_format.ends.info.MDBShardInfo.{MDBShardInfo}
 use Rattle.xet_shards.specs.declared.shard_format.export.part_split.Split.{Split}
 use Rattle.xet_shards.specs.Ends.Ends.{HasHeaderAndFooter}
-use Rattle.xet_shards.specs.Export.InARow.{Laid, options_in, laid_out, IsPartUnder}
+use Rattle.xet_shards.specs.Export.InARow.{ShardPart, options_in, bytes_of_part, IsPartUnder}
 use Rattle.xet_shards.specs.Steps.InARow.{HasRanges, IsSplit, IsSplitOf}
 use Rattle.xet_shards.specs.Write.Layout.{LayoutOptions, footer_value, header_value, info_of, shard_header_bytes, shard_footer_bytes, layout_of}
 use Rattle.xet_shards.specs.Write.Section.{section_bytes}
@@ -26,7 +26,7 @@ pub piece : (xs front mid rest : List ℕ) (a b : ℕ) → xs ≡ front ++ (mid 
 piece xs front mid rest a b are begins ends =
     front_is (b - a) (drop a xs) mid rest (omega (arith, ends)) (rest_is a xs front (mid ++ rest) begins are)
 
-module _ (part : Laid) where
+module _ (part : ShardPart) where
   abbrev options : LayoutOptions
   options = options_in part
 
@@ -54,23 +54,23 @@ module _ (part : Laid) where
   abbrev end : List ℕ
   end = shard_footer_bytes footer
 
-  at_files : laid_out part ≡ header ++ (flat_map file_records.record_bytes part.files ++ (header_row file_bookend ++ (xorb_section ++ (file_table ++ (xorb_table ++ (chunk_table ++ end))))))
+  at_files : bytes_of_part part ≡ header ++ (flat_map file_records.record_bytes part.files ++ (header_row file_bookend ++ (xorb_section ++ (file_table ++ (xorb_table ++ (chunk_table ++ end))))))
   unfolding layout_of section_bytes
   at_files = simp (append_assoc)
 
-  at_xorbs : laid_out part ≡ (header ++ file_section) ++ (flat_map xorb_records.record_bytes part.xorbs ++ (xorb_header_row xorb_bookend ++ (file_table ++ (xorb_table ++ (chunk_table ++ end)))))
+  at_xorbs : bytes_of_part part ≡ (header ++ file_section) ++ (flat_map xorb_records.record_bytes part.xorbs ++ (xorb_header_row xorb_bookend ++ (file_table ++ (xorb_table ++ (chunk_table ++ end)))))
   unfolding layout_of section_bytes
   at_xorbs = simp (append_assoc)
 
-  at_file_table : laid_out part ≡ ((header ++ file_section) ++ xorb_section) ++ (file_table ++ (xorb_table ++ (chunk_table ++ end)))
+  at_file_table : bytes_of_part part ≡ ((header ++ file_section) ++ xorb_section) ++ (file_table ++ (xorb_table ++ (chunk_table ++ end)))
   unfolding layout_of
   at_file_table = simp (append_assoc)
 
-  at_xorb_table : laid_out part ≡ (((header ++ file_section) ++ xorb_section) ++ file_table) ++ (xorb_table ++ (chunk_table ++ end))
+  at_xorb_table : bytes_of_part part ≡ (((header ++ file_section) ++ xorb_section) ++ file_table) ++ (xorb_table ++ (chunk_table ++ end))
   unfolding layout_of
   at_xorb_table = simp (append_assoc)
 
-  at_chunk_table : laid_out part ≡ ((((header ++ file_section) ++ xorb_section) ++ file_table) ++ xorb_table) ++ (chunk_table ++ end)
+  at_chunk_table : bytes_of_part part ≡ ((((header ++ file_section) ++ xorb_section) ++ file_table) ++ xorb_table) ++ (chunk_table ++ end)
   unfolding layout_of
   at_chunk_table = simp (append_assoc)
 
@@ -97,18 +97,18 @@ module _ (part : Laid) where
   four : length ((((header ++ file_section) ++ xorb_section) ++ file_table) ++ xorb_table) ≡ footer.chunk_lookup_offset
   four = length-append (((header ++ file_section) ++ xorb_section) ++ file_table) xorb_table ∙ ap (λ n. n + length xorb_table) three
 
-  split_of_layout : (split : Split) → IsSplit (laid_out part) footer split → IsSplitOf part split
+  split_of_layout : (split : Split) → IsSplit (bytes_of_part part) footer split → IsSplitOf part split
   split_of_layout split is = record {
-    files = is.files ∙ piece (laid_out part) header (flat_map file_records.record_bytes part.files) _ 48 (footer.xorb_info_offset - 48) at_files head (omega (arith, length-files));
-    xorbs = is.xorbs ∙ piece (laid_out part) (header ++ file_section) (flat_map xorb_records.record_bytes part.xorbs) _ footer.xorb_info_offset (footer.file_lookup_offset - 48) at_xorbs one (omega (arith, length-xorbs));
-    file_table = is.file_table ∙ piece (laid_out part) ((header ++ file_section) ++ xorb_section) file_table _ footer.file_lookup_offset footer.xorb_lookup_offset at_file_table two refl;
-    xorb_table = is.xorb_table ∙ piece (laid_out part) (((header ++ file_section) ++ xorb_section) ++ file_table) xorb_table _ footer.xorb_lookup_offset footer.chunk_lookup_offset at_xorb_table three refl;
-    chunk_table = is.chunk_table ∙ piece (laid_out part) ((((header ++ file_section) ++ xorb_section) ++ file_table) ++ xorb_table) chunk_table end footer.chunk_lookup_offset footer.footer_offset at_chunk_table four refl;
+    files = is.files ∙ piece (bytes_of_part part) header (flat_map file_records.record_bytes part.files) _ 48 (footer.xorb_info_offset - 48) at_files head (omega (arith, length-files));
+    xorbs = is.xorbs ∙ piece (bytes_of_part part) (header ++ file_section) (flat_map xorb_records.record_bytes part.xorbs) _ footer.xorb_info_offset (footer.file_lookup_offset - 48) at_xorbs one (omega (arith, length-xorbs));
+    file_table = is.file_table ∙ piece (bytes_of_part part) ((header ++ file_section) ++ xorb_section) file_table _ footer.file_lookup_offset footer.xorb_lookup_offset at_file_table two refl;
+    xorb_table = is.xorb_table ∙ piece (bytes_of_part part) (((header ++ file_section) ++ xorb_section) ++ file_table) xorb_table _ footer.xorb_lookup_offset footer.chunk_lookup_offset at_xorb_table three refl;
+    chunk_table = is.chunk_table ∙ piece (bytes_of_part part) ((((header ++ file_section) ++ xorb_section) ++ file_table) ++ xorb_table) chunk_table end footer.chunk_lookup_offset footer.footer_offset at_chunk_table four refl;
     footer_is = is.footer_is;
   }
 
   -- its offsets are in order
-  ranges_of_layout : HasRanges (length (laid_out part)) footer
+  ranges_of_layout : HasRanges (length (bytes_of_part part)) footer
   ranges_of_layout = record {
     files = omega (arith, one, length-append header file_section, head, length-files);
     xorbs = omega (arith, two, length-append (header ++ file_section) xorb_section, one, length-xorbs);
@@ -119,17 +119,17 @@ module _ (part : Laid) where
   }
 
 -- a part has these ends
-pub ends_of_part : (key : DataHash) (part : Laid) (bytes : List ℕ) → IsPartUnder key part → bytes ≡ laid_out part → HasHeaderAndFooter bytes (info_of part.files part.xorbs (options_in part))
+pub ends_of_part : (key : DataHash) (part : ShardPart) (bytes : List ℕ) → IsPartUnder key part → bytes ≡ bytes_of_part part → HasHeaderAndFooter bytes (info_of part.files part.xorbs (options_in part))
 ends_of_part key part bytes fits are =
     subst (λ bs. HasHeaderAndFooter bs (info_of part.files part.xorbs (options_in part))) (sym are) (ends_of_layout part.files part.xorbs (options_in part) fits.widths)
 
-pub ranges_of_part : (key : DataHash) (part : Laid) (bytes : List ℕ) (info : MDBShardInfo) → IsPartUnder key part → bytes ≡ laid_out part → HasHeaderAndFooter bytes info → HasRanges (length bytes) info.metadata
+pub ranges_of_part : (key : DataHash) (part : ShardPart) (bytes : List ℕ) (info : MDBShardInfo) → IsPartUnder key part → bytes ≡ bytes_of_part part → HasHeaderAndFooter bytes info → HasRanges (length bytes) info.metadata
 ranges_of_part key part bytes info fits are ends =
     let same = only_info bytes info (info_of part.files part.xorbs (options_in part)) ends (ends_of_part key part bytes fits are) in
-    subst (λ bs. HasRanges (length bs) info.metadata) (sym are) (subst (λ (i : MDBShardInfo). HasRanges (length (laid_out part)) i.metadata) (sym same) (ranges_of_layout part))
+    subst (λ bs. HasRanges (length bs) info.metadata) (sym are) (subst (λ (i : MDBShardInfo). HasRanges (length (bytes_of_part part)) i.metadata) (sym same) (ranges_of_layout part))
 
 -- what was split is what is laid out there
-pub split_of_part : (key : DataHash) (part : Laid) (bytes : List ℕ) (info : MDBShardInfo) (split : Split) → IsPartUnder key part → bytes ≡ laid_out part → HasHeaderAndFooter bytes info
+pub split_of_part : (key : DataHash) (part : ShardPart) (bytes : List ℕ) (info : MDBShardInfo) (split : Split) → IsPartUnder key part → bytes ≡ bytes_of_part part → HasHeaderAndFooter bytes info
     → IsSplit bytes info.metadata split → IsSplitOf part split
 split_of_part key part bytes info split fits are ends is =
     let other = subst (λ bs. HasHeaderAndFooter bs (record { header = header_value part.version; metadata = footer_value part.files part.xorbs (options_in part) })) (sym are) (ends_of_layout part.files part.xorbs (options_in part) fits.widths) in

@@ -20,7 +20,7 @@ use Rattle.xet_base.specs.declared.error.CoreError.TheVariants.{InvalidArguments
 use Rattle.xet_shards.specs.Write.WithOptions.{FitsSection, Ascends}
 
 -- a part: files and xorbs, a version, the key of the chunk hashes, and two timestamps
-pub record Laid : Type 0 where
+pub record ShardPart : Type 0 where
   pub files : List MDBFileInfo
   pub xorbs : List MDBXorbInfo
   pub version : FormatVersion
@@ -29,7 +29,7 @@ pub record Laid : Type 0 where
   pub expiry : ℕ
 
 -- its layout options: all tables are in
-abbrev pub options_in : Laid → LayoutOptions
+abbrev pub options_in : ShardPart → LayoutOptions
 options_in part = record {
   version = part.version;
   file_table = true;
@@ -41,21 +41,21 @@ options_in part = record {
 }
 
 -- its bytes
-abbrev pub laid_out : Laid → List ℕ
-laid_out part = layout_of part.files part.xorbs (options_in part)
+abbrev pub bytes_of_part : ShardPart → List ℕ
+bytes_of_part part = layout_of part.files part.xorbs (options_in part)
 
 -- the key is this, and records and numbers fit their rows
-pub record IsPartUnder (key : DataHash) (part : Laid) : Type 0 where
+pub record IsPartUnder (key : DataHash) (part : ShardPart) : Type 0 where
   pub key_is : part.key ≡ key
   pub files_fit : FitsSection (file_records_in part.version) part.files
   pub xorbs_fit : FitsSection xorb_records part.xorbs
   pub widths : FitsFooter (footer_value part.files part.xorbs (options_in part))
 
 -- the files and the xorbs of all parts, part by part
-abbrev pub files_in : List Laid → List MDBFileInfo
+abbrev pub files_in : List ShardPart → List MDBFileInfo
 files_in parts = flat_map (λ part. part.files) parts
 
-abbrev pub xorbs_in : List Laid → List MDBXorbInfo
+abbrev pub xorbs_in : List ShardPart → List MDBXorbInfo
 xorbs_in parts = flat_map (λ part. part.xorbs) parts
 
 -- version 3, all tables, the key, no creation and no expiry
@@ -97,7 +97,7 @@ pub record AscendBoth (files : List MDBFileInfo) (xorbs : List MDBXorbInfo) : Ty
 
 -- there is a part, all are under the key, their hashes ascend within each and from each to the
 -- next, and together they are few enough for one shard
-pub record ArePartsInARow (key : DataHash) (parts : List Laid) : Type 0 where
+pub record ArePartsInARow (key : DataHash) (parts : List ShardPart) : Type 0 where
   pub some : 0 < length parts
   pub fit : All (IsPartUnder key) parts
   pub each : All (λ part. AscendBoth part.files part.xorbs) parts

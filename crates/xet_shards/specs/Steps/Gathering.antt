@@ -9,7 +9,7 @@ use Rattle.xet_shards.specs.declared.shard_format.export.chunk_merging.Cursor.{C
 use Rattle.xet_shards.specs.declared.shard_format.export.gathering.Totals.{Totals}
 use Rattle.xet_shards.specs.declared.shard_format.export.part_split.Split.{Split}
 use Rattle.xet_shards.specs.declared.shard_format.export.section_parts.SectionPart.{SectionPart}
-use Rattle.xet_shards.specs.Export.InARow.{Laid, files_in, xorbs_in}
+use Rattle.xet_shards.specs.Export.InARow.{ShardPart, files_in, xorbs_in}
 use Rattle.xet_shards.specs.Steps.InARow.{HoldSections}
 use Rattle.xet_shards.specs.Steps.ChunkMerging.{HoldsRows, rows_held}
 use Rattle.xet_shards.specs.Write.Section.{total_rows}
@@ -53,7 +53,7 @@ pub record HoldTables (cursors : List Cursor) (xorbs : List MDBXorbInfo) : Type 
   pub moved : IsPermutation (chunk_table_rows xorbs) (flat_map rows_held held)
 
 -- what was gathered of these parts
-pub record HasGathered (files xorbs : List SectionPart) (cursors : List Cursor) (totals : Totals) (parts : List Laid) : Type 0 where
+pub record HasGathered (files xorbs : List SectionPart) (cursors : List Cursor) (totals : Totals) (parts : List ShardPart) : Type 0 where
   pub files_held : HoldSections file_records files (map (λ part. part.files) parts)
   pub xorbs_held : HoldSections xorb_records xorbs (map (λ part. part.xorbs) parts)
   pub tables_held : HoldTables cursors (xorbs_in parts)

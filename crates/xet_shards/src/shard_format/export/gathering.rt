@@ -2,7 +2,7 @@
 
 ghost use Rattle.std.specs.Prelude.{◌≡◌, ◌+◌, ◌/◌, ◌^◌, ◌≤◌, List, All, IfOk, IfErr, MatchResult, map};
 ghost use Rattle.xet_base.specs.Errors.{IsInvalidShard};
-ghost use Rattle.xet_shards.specs.Export.InARow.{Laid, laid_out, IsPartUnder, files_in, xorbs_in, FitTogether, RefusesRow};
+ghost use Rattle.xet_shards.specs.Export.InARow.{ShardPart, bytes_of_part, IsPartUnder, files_in, xorbs_in, FitTogether, RefusesRow};
 ghost use Rattle.xet_shards.specs.Steps.Gathering.{AddsPart, FitWith, HasGathered};
 
 use super::chunk_merging::Cursor;
@@ -88,12 +88,12 @@ pub(in crate::shard_format) fn gather<'a>(
     shards: &[&'a [u8]],
     key: HMACKey,
 ) -> Result<Gathered<'a>>
-    ensures gathered { (parts : List Laid) → All (IsPartUnder key) parts
-        → map laid_out parts ≡ map (λ x. x.now) shards.now
+    ensures gathered { (parts : List ShardPart) → All (IsPartUnder key) parts
+        → map bytes_of_part parts ≡ map (λ x. x.now) shards.now
         → IfOk result
         (λ g. HasGathered g.files.items g.xorbs.items g.cursors.items g.totals parts) }
-    ensures succeeds { (parts : List Laid) → All (IsPartUnder key) parts
-        → map laid_out parts ≡ map (λ x. x.now) shards.now
+    ensures succeeds { (parts : List ShardPart) → All (IsPartUnder key) parts
+        → map bytes_of_part parts ≡ map (λ x. x.now) shards.now
         → FitTogether (files_in parts) (xorbs_in parts)
         → IfErr result (λ e. e ≡ CoreError.OutOfMemory) }
     ensures causes { IfErr result (RefusesRow (map (λ x. x.now) shards.now)) }

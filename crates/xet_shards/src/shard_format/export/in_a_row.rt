@@ -11,7 +11,7 @@ ghost use Rattle.xet_records.specs.declared.file_structs.MDBFileInfo.{MDBFileInf
 ghost use Rattle.xet_records.specs.declared.xorb_structs.MDBXorbInfo.{MDBXorbInfo};
 ghost use Rattle.xet_records.specs.FileRecord.{FitsRecord};
 ghost use Rattle.xet_shards.specs.Content.Shard.{Shard, IsShard};
-ghost use Rattle.xet_shards.specs.Export.InARow.{Laid, laid_out, IsPartUnder, files_in, xorbs_in, options_under, AscendBoth, HaveFewRows, FitTogether, ArePartsInARow, AreBytesOf, AreInARow, AppendsRow, IsBadPart, RefusesRow};
+ghost use Rattle.xet_shards.specs.Export.InARow.{ShardPart, bytes_of_part, IsPartUnder, files_in, xorbs_in, options_under, AscendBoth, HaveFewRows, FitTogether, ArePartsInARow, AreBytesOf, AreInARow, AppendsRow, IsBadPart, RefusesRow};
 ghost use Rattle.xet_shards.specs.Steps.Gathering.{HasTotals, HasGathered};
 ghost use Rattle.xet_base.specs.declared.merklehash.DataHash.{DataHash};
 ghost use Rattle.xet_shards.specs.Write.Layout.{layout_of, footer_value, info_of};
@@ -50,21 +50,21 @@ pub fn shards_in_a_row<W: Write>(
     shards: &[&[u8]],
     writer: &mut W,
 ) -> Result<MDBShardInfo>
-    ensures bytes { (key : DataHash) → (parts : List Laid) → All (IsPartUnder key) parts
-        → map laid_out parts ≡ map (λ x. x.now) shards.now
+    ensures bytes { (key : DataHash) → (parts : List ShardPart) → All (IsPartUnder key) parts
+        → map bytes_of_part parts ≡ map (λ x. x.now) shards.now
         → OnOk result
         (Appends (W.contents writer.old) (W.contents writer.new)
         (layout_of (files_in parts) (xorbs_in parts) (options_under key))) }
-    ensures order { (key : DataHash) → (parts : List Laid) → All (IsPartUnder key) parts
-        → map laid_out parts ≡ map (λ x. x.now) shards.now
+    ensures order { (key : DataHash) → (parts : List ShardPart) → All (IsPartUnder key) parts
+        → map bytes_of_part parts ≡ map (λ x. x.now) shards.now
         → All (λ part. AscendBoth part.files part.xorbs) parts
         → IfOk result (λ _. AscendBoth (files_in parts) (xorbs_in parts)) }
-    ensures info { (key : DataHash) → (parts : List Laid) → All (IsPartUnder key) parts
-        → map laid_out parts ≡ map (λ x. x.now) shards.now
+    ensures info { (key : DataHash) → (parts : List ShardPart) → All (IsPartUnder key) parts
+        → map bytes_of_part parts ≡ map (λ x. x.now) shards.now
         → IfOk result
         (λ info. info ≡ info_of (files_in parts) (xorbs_in parts) (options_under key)) }
-    ensures succeeds { (key : DataHash) → (parts : List Laid) → ArePartsInARow key parts
-        → map laid_out parts ≡ map (λ x. x.now) shards.now → IfErr result IsWriteError }
+    ensures succeeds { (key : DataHash) → (parts : List ShardPart) → ArePartsInARow key parts
+        → map bytes_of_part parts ≡ map (λ x. x.now) shards.now → IfErr result IsWriteError }
     ensures shard { (written : List Shard) → AreBytesOf written (map (λ x. x.now) shards.now)
         → OnOk result (AppendsRow written (W.contents writer.old) (W.contents writer.new)) }
     ensures shard_succeeds { (written : List Shard) → (all : Shard) → IsShard all
@@ -79,24 +79,24 @@ pub fn shards_in_a_row<W: Write>(
 
 // The same, without the clauses on bytes of shards.
 fn write_parts<W: Write>(alloc: Global, shards: &[&[u8]], writer: &mut W) -> Result<MDBShardInfo>
-    ensures bytes { (key : DataHash) → (parts : List Laid) → All (IsPartUnder key) parts
-        → map laid_out parts ≡ map (λ x. x.now) shards.now
+    ensures bytes { (key : DataHash) → (parts : List ShardPart) → All (IsPartUnder key) parts
+        → map bytes_of_part parts ≡ map (λ x. x.now) shards.now
         → OnOk result
         (Appends (W.contents writer.old) (W.contents writer.new)
         (layout_of (files_in parts) (xorbs_in parts) (options_under key))) }
-    ensures order { (key : DataHash) → (parts : List Laid) → All (IsPartUnder key) parts
-        → map laid_out parts ≡ map (λ x. x.now) shards.now
+    ensures order { (key : DataHash) → (parts : List ShardPart) → All (IsPartUnder key) parts
+        → map bytes_of_part parts ≡ map (λ x. x.now) shards.now
         → All (λ part. AscendBoth part.files part.xorbs) parts
         → IfOk result (λ _. AscendBoth (files_in parts) (xorbs_in parts)) }
-    ensures rows { (key : DataHash) → (parts : List Laid) → All (IsPartUnder key) parts
-        → map laid_out parts ≡ map (λ x. x.now) shards.now
+    ensures rows { (key : DataHash) → (parts : List ShardPart) → All (IsPartUnder key) parts
+        → map bytes_of_part parts ≡ map (λ x. x.now) shards.now
         → IfOk result (λ _. HaveFewRows (files_in parts) (xorbs_in parts)) }
-    ensures info { (key : DataHash) → (parts : List Laid) → All (IsPartUnder key) parts
-        → map laid_out parts ≡ map (λ x. x.now) shards.now
+    ensures info { (key : DataHash) → (parts : List ShardPart) → All (IsPartUnder key) parts
+        → map bytes_of_part parts ≡ map (λ x. x.now) shards.now
         → IfOk result
         (λ info. info ≡ info_of (files_in parts) (xorbs_in parts) (options_under key)) }
-    ensures succeeds { (key : DataHash) → (parts : List Laid) → ArePartsInARow key parts
-        → map laid_out parts ≡ map (λ x. x.now) shards.now → IfErr result IsWriteError }
+    ensures succeeds { (key : DataHash) → (parts : List ShardPart) → ArePartsInARow key parts
+        → map bytes_of_part parts ≡ map (λ x. x.now) shards.now → IfErr result IsWriteError }
     ensures causes { IfErr result (RefusesRow (map (λ x. x.now) shards.now)) }
     ensures untouched { IfErr result
         (λ e. e ≡ CoreError.InvalidArguments → W.contents writer.new ≡ W.contents writer.old) }
@@ -118,18 +118,18 @@ fn write_gathered<W: Write>(
     gathered: Gathered<'_>,
     key: HMACKey,
 ) -> Result<MDBShardInfo>
-    ensures bytes { (parts : List Laid)
+    ensures bytes { (parts : List ShardPart)
         → HasGathered gathered.entry.files.items gathered.entry.xorbs.items gathered.entry.cursors.items gathered.entry.totals parts
         → All FitsRecord (files_in parts)
         → OnOk result
         (Appends (W.contents writer.old) (W.contents writer.new)
         (layout_of (files_in parts) (xorbs_in parts) (options_under key))) }
-    ensures info { (parts : List Laid)
+    ensures info { (parts : List ShardPart)
         → HasGathered gathered.entry.files.items gathered.entry.xorbs.items gathered.entry.cursors.items gathered.entry.totals parts
         → All FitsRecord (files_in parts)
         → IfOk result
         (λ info. info ≡ info_of (files_in parts) (xorbs_in parts) (options_under key)) }
-    ensures succeeds { (parts : List Laid)
+    ensures succeeds { (parts : List ShardPart)
         → HasGathered gathered.entry.files.items gathered.entry.xorbs.items gathered.entry.cursors.items gathered.entry.totals parts
         → FitTogether (files_in parts) (xorbs_in parts) → IfErr result IsWriteError }
     ensures causes { IfErr result IsBadPart }

@@ -1,7 +1,7 @@
 //! The bytes of a shard, split into its parts.
 
 ghost use Rattle.std.specs.Prelude.{◌≡◌, ◌<◌, ◌⊎◌, length, IfErr, MatchOption, MatchResult, slice_range};
-ghost use Rattle.xet_shards.specs.Export.InARow.{Laid, laid_out, IsPartUnder, IsNoPart};
+ghost use Rattle.xet_shards.specs.Export.InARow.{ShardPart, bytes_of_part, IsPartUnder, IsNoPart};
 ghost use Rattle.xet_shards.specs.Steps.InARow.{HasRanges, IsSplit, IsSplitOf};
 ghost use Rattle.xet_base.specs.declared.merklehash.DataHash.{DataHash};
 
@@ -57,8 +57,8 @@ fn parts_at<'a>(bytes: &'a [u8], footer: &MDBShardFileFooter) -> Option<Split<'a
 /// The parts of a shard's bytes. `ShardVersion` or `UnexpectedEof` if header or footer are not
 /// those of a shard, `InvalidShard` if the offsets are not in order.
 pub(in crate::shard_format) fn split_shard(alloc: Global, bytes: &[u8]) -> Result<Split<'_>>
-    ensures split { (key : DataHash) → (part : Laid) → IsPartUnder key part
-        → bytes.now ≡ laid_out part → MatchResult result (IsSplitOf part) (λ e. ⊥) }
+    ensures split { (key : DataHash) → (part : ShardPart) → IsPartUnder key part
+        → bytes.now ≡ bytes_of_part part → MatchResult result (IsSplitOf part) (λ e. ⊥) }
     ensures causes { IfErr result (IsNoPart bytes.now) }
 {
     let mut source = MemorySource::new(bytes);

@@ -7,7 +7,7 @@ use Rattle.std.specs.Io.KnownBytes.{Appends}
 use Rattle.xet_base.specs.declared.merklehash.DataHash.{DataHash}
 use Rattle.xet_records.specs.FileRecord.{file_records}
 use Rattle.xet_records.specs.XorbRecord.{xorb_records}
-use Rattle.xet_shards.specs.Export.InARow.{Laid, laid_out, IsPartUnder, files_in, xorbs_in, options_under, AscendBoth}
+use Rattle.xet_shards.specs.Export.InARow.{ShardPart, bytes_of_part, IsPartUnder, files_in, xorbs_in, options_under, AscendBoth}
 use Rattle.xet_shards.specs.Steps.Gathering.{HasGathered}
 use Rattle.xet_shards.specs.Steps.InARow.{HoldSections}
 use Rattle.xet_shards.specs.Write.Layout.{layout_of, info_of}
@@ -31,14 +31,14 @@ returns-clause-info g c = λ key parts fit are.
     (c.write_gathered.ensures.info parts (c.in_ok-gathered.ensures.gathered parts (subst (λ k. All (IsPartUnder k) parts) (sym same) fit) are) (parts_fit key parts fit))
 
 -- what was gathered of parts under a key
-held : (g : given.Over) (c : goal.After-write_gathered g) (key : DataHash) (parts : List Laid) → All (IsPartUnder key) parts → map laid_out parts ≡ map (λ (x : Bor (List ℕ)). x.now) c.args.shards.now
+held : (g : given.Over) (c : goal.After-write_gathered g) (key : DataHash) (parts : List ShardPart) → All (IsPartUnder key) parts → map bytes_of_part parts ≡ map (λ (x : Bor (List ℕ)). x.now) c.args.shards.now
     → HasGathered c.in_ok-gathered.gathered.files.items c.in_ok-gathered.gathered.xorbs.items c.in_ok-gathered.gathered.cursors.items c.in_ok-gathered.gathered.totals parts
 held g c key parts fit are =
     let some : 0 < length c.args.shards.now = grind (arith, nat_tests, c.is_empty.ensures, c.if-is_empty.ensures, c.if-is_empty.false) in
     let same : c.in_ok-key.field-0.footer.chunk_hash_hmac_key ≡ key = first_key key parts c.args.shards.now _ c.in_ok-key.field-0 fit are some c.in_ok-key.ensures.split in
     c.in_ok-gathered.ensures.gathered parts (subst (λ k. All (IsPartUnder k) parts) (sym same) fit) are
 
-ascending : (g : given.Over) (c : goal.After-write_gathered g) (key : DataHash) (parts : List Laid) → All (IsPartUnder key) parts → map laid_out parts ≡ map (λ (x : Bor (List ℕ)). x.now) c.args.shards.now
+ascending : (g : given.Over) (c : goal.After-write_gathered g) (key : DataHash) (parts : List ShardPart) → All (IsPartUnder key) parts → map bytes_of_part parts ≡ map (λ (x : Bor (List ℕ)). x.now) c.args.shards.now
     → All (λ part. AscendBoth part.files part.xorbs) parts → AscendBoth (files_in parts) (xorbs_in parts)
 ascending g c key parts fit are each =
     in_order key parts _ _ _ _ fit each (held g c key parts fit are)
@@ -62,7 +62,7 @@ returns-clause-succeeds g c = λ key parts row are. c.write_gathered.ensures.suc
 pub returns-then-is_empty-clause-succeeds : goal.returns-then-is_empty-clause-succeeds
 returns-then-is_empty-clause-succeeds g c = λ key parts row are.
     let none : length c.args.shards.now ≡ 0 = grind (arith, nat_tests, c.is_empty.ensures, c.if-is_empty.true) in
-    absurd (omega (arith, none, row.some, ap length are, length-map parts laid_out, length-map c.args.shards.now (λ (x : Bor (List ℕ)). x.now)))
+    absurd (omega (arith, none, row.some, ap length are, length-map parts bytes_of_part, length-map c.args.shards.now (λ (x : Bor (List ℕ)). x.now)))
 
 pub returns-in_err-key-clause-succeeds : goal.returns-in_err-key-clause-succeeds
 returns-in_err-key-clause-succeeds g c = λ key parts row are.
