@@ -9,7 +9,7 @@
 //!
 //! Of shards in a row, `split_shard` cuts each into its sections and tables, `gather` adds up what
 //! they have, `check_order` compares the last hash of each with the first of the next, and then
-//! `write_rows` and `write_tables` copy, and `write_merged` merges the chunk tables by a heap. Each
+//! `write_rows` and `write_tables` copy, and `write_merged_rows` merges the chunk tables by a heap. Each
 //! row that it writes is compared with the last one: so its rows are in order, whatever the tables.
 
 pub(super) mod chunk_merging;

@@ -26,7 +26,7 @@ pub(in crate::shard_format) struct Totals {
 
 /// The sections of all parts, a cursor in each chunk table, and what the parts have in sum.
 #[derive(Drop)]
-pub(in crate::shard_format) struct Gathered<'a> {
+pub(in crate::shard_format) struct GatheredParts<'a> {
     pub files: Vec<SectionPart<'a>>,
     pub xorbs: Vec<SectionPart<'a>>,
     pub cursors: Vec<Cursor<'a>>,
@@ -87,7 +87,7 @@ pub(in crate::shard_format) fn gather<'a>(
     alloc: Global,
     shards: &[&'a [u8]],
     key: HMACKey,
-) -> Result<Gathered<'a>>
+) -> Result<GatheredParts<'a>>
     ensures gathered { (parts : List ShardPart) → All (IsPartUnder key) parts
         → map bytes_of_part parts ≡ map (λ x. x.now) shards.now
         → IfOk result
@@ -132,7 +132,7 @@ pub(in crate::shard_format) fn gather<'a>(
         })?;
         totals = more;
     }
-    Ok(Gathered {
+    Ok(GatheredParts {
         files,
         xorbs,
         cursors,

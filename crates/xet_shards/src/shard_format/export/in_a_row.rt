@@ -16,8 +16,8 @@ ghost use Rattle.xet_shards.specs.Steps.Gathering.{HasTotals, HasGathered};
 ghost use Rattle.xet_base.specs.declared.merklehash.DataHash.{DataHash};
 ghost use Rattle.xet_shards.specs.Write.Layout.{layout_of, footer_value, info_of};
 
-use super::chunk_merging::write_merged;
-use super::gathering::{Gathered, Totals, gather};
+use super::chunk_merging::write_merged_rows;
+use super::gathering::{GatheredParts, Totals, gather};
 use super::part_order::check_order;
 use super::part_split::split_shard;
 use super::section_parts::{write_rows, write_tables};
@@ -108,14 +108,14 @@ fn write_parts<W: Write>(alloc: Global, shards: &[&[u8]], writer: &mut W) -> Res
     let gathered = gather(alloc, shards, key)?;
     check_order::<MDBFileInfo>(alloc, gathered.files.as_slice())?;
     check_order::<MDBXorbInfo>(alloc, gathered.xorbs.as_slice())?;
-    write_gathered(alloc, writer, gathered, key)
+    write_gathered_parts(alloc, writer, gathered, key)
 }
 
 // Writes the shard of what was gathered of parts.
-fn write_gathered<W: Write>(
+fn write_gathered_parts<W: Write>(
     alloc: Global,
     writer: &mut W,
-    gathered: Gathered<'_>,
+    gathered: GatheredParts<'_>,
     key: HMACKey,
 ) -> Result<MDBShardInfo>
     ensures bytes { (parts : List ShardPart)
@@ -134,7 +134,7 @@ fn write_gathered<W: Write>(
         → FitTogether (files_in parts) (xorbs_in parts) → IfErr result IsWriteError }
     ensures causes { IfErr result IsBadPart }
 {
-    let Gathered {
+    let GatheredParts {
         files,
         xorbs,
         cursors,
@@ -152,7 +152,7 @@ fn write_gathered<W: Write>(
     WrittenXorbs::write_bookend(writer)?;
     write_tables::<MDBFileInfo, W>(alloc, writer, files.as_slice())?;
     write_tables::<MDBXorbInfo, W>(alloc, writer, xorbs.as_slice())?;
-    write_merged(alloc, writer, cursors.as_slice(), u64::from(chunks))?;
+    write_merged_rows(alloc, writer, cursors.as_slice(), u64::from(chunks))?;
     metadata.serialize(writer)?;
     Ok(MDBShardInfo { header, metadata })
 }

@@ -20,25 +20,25 @@ pub returns-clause-bytes : goal.returns-clause-bytes
 returns-clause-bytes g c = λ key parts fit are.
     let some : 0 < length c.args.shards.now = grind (arith, nat_tests, c.is_empty.ensures, c.if-is_empty.ensures, c.if-is_empty.false) in
     let same : c.in_ok-key.field-0.footer.chunk_hash_hmac_key ≡ key = first_key key parts c.args.shards.now _ c.in_ok-key.field-0 fit are some c.in_ok-key.ensures.split in
-    subst (λ k. OnOk c.write_gathered.result (Appends (g.W.Write.contents c.args.writer.now) (g.W.Write.contents c.write_gathered.new.writer) (layout_of (files_in parts) (xorbs_in parts) (options_under k)))) same
-    (c.write_gathered.ensures.bytes parts (c.in_ok-gathered.ensures.gathered parts (subst (λ k. All (IsPartUnder k) parts) (sym same) fit) are) (parts_fit key parts fit))
+    subst (λ k. OnOk c.write_gathered_parts.result (Appends (g.W.Write.contents c.args.writer.now) (g.W.Write.contents c.write_gathered_parts.new.writer) (layout_of (files_in parts) (xorbs_in parts) (options_under k)))) same
+    (c.write_gathered_parts.ensures.bytes parts (c.in_ok-gathered.ensures.gathered parts (subst (λ k. All (IsPartUnder k) parts) (sym same) fit) are) (parts_fit key parts fit))
 
 pub returns-clause-info : goal.returns-clause-info
 returns-clause-info g c = λ key parts fit are.
     let some : 0 < length c.args.shards.now = grind (arith, nat_tests, c.is_empty.ensures, c.if-is_empty.ensures, c.if-is_empty.false) in
     let same : c.in_ok-key.field-0.footer.chunk_hash_hmac_key ≡ key = first_key key parts c.args.shards.now _ c.in_ok-key.field-0 fit are some c.in_ok-key.ensures.split in
-    subst (λ k. IfOk c.write_gathered.result (λ info. info ≡ info_of (files_in parts) (xorbs_in parts) (options_under k))) same
-    (c.write_gathered.ensures.info parts (c.in_ok-gathered.ensures.gathered parts (subst (λ k. All (IsPartUnder k) parts) (sym same) fit) are) (parts_fit key parts fit))
+    subst (λ k. IfOk c.write_gathered_parts.result (λ info. info ≡ info_of (files_in parts) (xorbs_in parts) (options_under k))) same
+    (c.write_gathered_parts.ensures.info parts (c.in_ok-gathered.ensures.gathered parts (subst (λ k. All (IsPartUnder k) parts) (sym same) fit) are) (parts_fit key parts fit))
 
 -- what was gathered of parts under a key
-held : (g : given.Over) (c : goal.After-write_gathered g) (key : DataHash) (parts : List ShardPart) → All (IsPartUnder key) parts → map bytes_of_part parts ≡ map (λ (x : Bor (List ℕ)). x.now) c.args.shards.now
+held : (g : given.Over) (c : goal.After-write_gathered_parts g) (key : DataHash) (parts : List ShardPart) → All (IsPartUnder key) parts → map bytes_of_part parts ≡ map (λ (x : Bor (List ℕ)). x.now) c.args.shards.now
     → HasGathered c.in_ok-gathered.gathered.files.items c.in_ok-gathered.gathered.xorbs.items c.in_ok-gathered.gathered.cursors.items c.in_ok-gathered.gathered.totals parts
 held g c key parts fit are =
     let some : 0 < length c.args.shards.now = grind (arith, nat_tests, c.is_empty.ensures, c.if-is_empty.ensures, c.if-is_empty.false) in
     let same : c.in_ok-key.field-0.footer.chunk_hash_hmac_key ≡ key = first_key key parts c.args.shards.now _ c.in_ok-key.field-0 fit are some c.in_ok-key.ensures.split in
     c.in_ok-gathered.ensures.gathered parts (subst (λ k. All (IsPartUnder k) parts) (sym same) fit) are
 
-ascending : (g : given.Over) (c : goal.After-write_gathered g) (key : DataHash) (parts : List ShardPart) → All (IsPartUnder key) parts → map bytes_of_part parts ≡ map (λ (x : Bor (List ℕ)). x.now) c.args.shards.now
+ascending : (g : given.Over) (c : goal.After-write_gathered_parts g) (key : DataHash) (parts : List ShardPart) → All (IsPartUnder key) parts → map bytes_of_part parts ≡ map (λ (x : Bor (List ℕ)). x.now) c.args.shards.now
     → All (λ part. AscendBoth part.files part.xorbs) parts → AscendBoth (files_in parts) (xorbs_in parts)
 ascending g c key parts fit are each =
     in_order key parts _ _ _ _ fit each (held g c key parts fit are)
@@ -47,17 +47,17 @@ ascending g c key parts fit are each =
 
 pub returns-clause-order : goal.returns-clause-order
 returns-clause-order g c = λ key parts fit are each.
-    on_ok_weaker c.write_gathered.result (λ _. ascending g c key parts fit are each) (returns-clause-bytes g c key parts fit are)
+    on_ok_weaker c.write_gathered_parts.result (λ _. ascending g c key parts fit are each) (returns-clause-bytes g c key parts fit are)
 
 pub returns-clause-rows : goal.returns-clause-rows
 returns-clause-rows g c = λ key parts fit are.
     let totals = (held g c key parts fit are).totals_are in
     let file_rows : c.in_ok-gathered.gathered.totals.file_rows < 2 ^ 32 = search rules in
     let xorb_rows : c.in_ok-gathered.gathered.totals.xorb_rows < 2 ^ 32 = search rules in
-    on_ok_weaker c.write_gathered.result (λ _. record { file_rows = omega (arith, totals.file_rows); xorb_rows = omega (arith, totals.xorb_rows) }) (returns-clause-bytes g c key parts fit are)
+    on_ok_weaker c.write_gathered_parts.result (λ _. record { file_rows = omega (arith, totals.file_rows); xorb_rows = omega (arith, totals.xorb_rows) }) (returns-clause-bytes g c key parts fit are)
 
 pub returns-clause-succeeds : goal.returns-clause-succeeds
-returns-clause-succeeds g c = λ key parts row are. c.write_gathered.ensures.succeeds parts (held g c key parts row.fit are) row.together
+returns-clause-succeeds g c = λ key parts row are. c.write_gathered_parts.ensures.succeeds parts (held g c key parts row.fit are) row.together
 
 pub returns-then-is_empty-clause-succeeds : goal.returns-then-is_empty-clause-succeeds
 returns-then-is_empty-clause-succeeds g c = λ key parts row are.
@@ -92,4 +92,4 @@ returns-in_err-check_order-2-clause-succeeds g c = λ key parts row are.
     absurd (xorbs_not_refused key parts _ _ _ _ row gathered _ (λ records hold. c.in_err-check_order-2.ensures.order records (subst (λ ss. HoldSections xorb_records ss records) (sym c.as_slice-2.ensures.value) hold)))
 
 pub returns-clause-causes : goal.returns-clause-causes
-returns-clause-causes g c = MatchResult-weaker c.write_gathered.result c.write_gathered.ensures.causes (λ _ any. any) (λ e bad. inr (inr bad))
+returns-clause-causes g c = MatchResult-weaker c.write_gathered_parts.result c.write_gathered_parts.ensures.causes (λ _ any. any) (λ e bad. inr (inr bad))

@@ -11,7 +11,7 @@ use Rattle.xet_shards.specs.Write.Layout.{shard_header_bytes}
 use Rattle.std.proofs.lemmas.Result.{err_from_is_err_and}
 use Rattle.xet_base.specs.Errors.{IsWriteError}
 use Rattle.xet_shards.proofs.Export.InARow.{all_written, count_is, file_rows_fit, xorb_rows_fit}
-use Rattle.xet_shards.proofs.shard_format.export.in_a_row.write_gathered.Goals as goal
+use Rattle.xet_shards.proofs.shard_format.export.in_a_row.write_gathered_parts.Goals as goal
 
 pub returns-clause-bytes : goal.returns-clause-bytes
 returns-clause-bytes g c = λ parts held fit.
@@ -20,7 +20,7 @@ returns-clause-bytes g c = λ parts held fit.
     let sum : c.in-Some.chunks + all.totals.xorbs ≡ all.totals.xorb_rows = search rules in
     all_written all.files.items all.xorbs.items all.cursors.items all.totals parts c.args.key c.footer_of_parts-metadata.result c.in-Some.chunks
     (contents c.args.writer.now) (contents c.serialize.new.writer) (contents c.write_rows.new.writer) (contents c.write_bookend.new.writer) (contents c.write_rows-2.new.writer) (contents c.write_bookend-2.new.writer)
-    (contents c.write_tables.new.writer) (contents c.write_tables-2.new.writer) (contents c.write_merged.new.writer) (contents c.serialize-2.new.writer) held sum
+    (contents c.write_tables.new.writer) (contents c.write_tables-2.new.writer) (contents c.write_merged_rows.new.writer) (contents c.serialize-2.new.writer) held sum
     (subst (λ (h : MDBShardFileHeader). Appends (contents c.args.writer.now) (contents c.serialize.new.writer) (shard_header_bytes h)) c.of_version-header.ensures c.in_ok-serialize.ensures.bytes)
     (subst (λ (ss : List SectionPart). Appends (contents c.serialize.new.writer) (contents c.write_rows.new.writer) (flat_map (λ s. s.rows.now) ss)) c.as_slice.ensures.value c.in_ok-write_rows.ensures.bytes)
     c.in_ok-write_bookend.ensures.bytes
@@ -28,7 +28,7 @@ returns-clause-bytes g c = λ parts held fit.
     c.in_ok-write_bookend-2.ensures.bytes
     (λ records hold. c.in_ok-write_tables.ensures.bytes records (subst (λ ss. HoldSections file_records ss records) (sym c.as_slice-3.ensures.value) hold))
     (λ records hold. c.in_ok-write_tables-2.ensures.bytes records (subst (λ ss. HoldSections xorb_records ss records) (sym c.as_slice-4.ensures.value) hold))
-    (λ tables are hold count. c.in_ok-write_merged.ensures.held tables (are ∙ sym c.as_slice-5.ensures.value) hold (c.from.ensures ∙ count))
+    (λ tables are hold count. c.in_ok-write_merged_rows.ensures.held tables (are ∙ sym c.as_slice-5.ensures.value) hold (c.from.ensures ∙ count))
     c.in_ok-serialize-2.ensures.bytes
     (c.footer_of_parts-metadata.ensures (files_in parts) (xorbs_in parts) fit held.totals_are sum)
 
@@ -44,12 +44,12 @@ returns-in_err-write_tables-2-clause-succeeds g c = λ parts held together.
     let p = err_from_is_err_and c.from_residual-in_err-write_tables-2.result c.from_residual-in_err-write_tables-2.ensures.1 in
     rw (p.1) (subst IsWriteError (sym p.2) bad)
 
-pub returns-in_err-write_merged-clause-succeeds : goal.returns-in_err-write_merged-clause-succeeds
-returns-in_err-write_merged-clause-succeeds g c = λ parts held together.
+pub returns-in_err-write_merged_rows-clause-succeeds : goal.returns-in_err-write_merged_rows-clause-succeeds
+returns-in_err-write_merged_rows-clause-succeeds g c = λ parts held together.
     let tables = held.tables_held in
     let sum : c.in-Some.chunks + c.args.gathered.totals.xorbs ≡ c.args.gathered.totals.xorb_rows = search rules in
-    let bad = c.in_err-write_merged.ensures.held tables.held (tables.cursors_are ∙ sym c.as_slice-5.ensures.value) tables.hold (c.from.ensures ∙ count_is c.args.gathered.totals parts c.in-Some.chunks held.totals_are sum _ tables.moved) in
-    let p = err_from_is_err_and c.from_residual-in_err-write_merged.result c.from_residual-in_err-write_merged.ensures.1 in
+    let bad = c.in_err-write_merged_rows.ensures.held tables.held (tables.cursors_are ∙ sym c.as_slice-5.ensures.value) tables.hold (c.from.ensures ∙ count_is c.args.gathered.totals parts c.in-Some.chunks held.totals_are sum _ tables.moved) in
+    let p = err_from_is_err_and c.from_residual-in_err-write_merged_rows.result c.from_residual-in_err-write_merged_rows.ensures.1 in
     rw (p.1) (subst IsWriteError (sym p.2) bad)
 
 pub returns-in_default-clause-succeeds : goal.returns-in_default-clause-succeeds
