@@ -2,7 +2,7 @@
 
 ghost use Rattle.std.specs.Prelude.{◌≡◌, List, All, map, length, None, ◌<◌, IfOk, IfErr, MatchResult};
 ghost use Rattle.std.specs.List.{AllZip};
-ghost use Rattle.xet_core_structures.specs.InARow.{ShardPart, bytes_of_part, IsPartUnder, files_in, xorbs_in, options_under, AscendBoth, ArePartsInARow, AreBytesOf, AreInARow, RefusesRow};
+ghost use Rattle.xet_core_structures.specs.InARow.{ShardPart, bytes_of_part, IsPartUnder, files_in, xorbs_in, options_under, AscendBoth, ArePartsInARow, AreBytesOf, AreInARow, RefusesShardsInARow};
 ghost use Rattle.xet_core_structures.specs.Layout.{layout_of};
 ghost use Rattle.xet_core_structures.specs.Records.Ranges.{IsPartOf, is_within, ranges_between, AreCuts};
 ghost use Rattle.xet_core_structures.specs.Shard.{Shard, IsShard};
@@ -53,7 +53,7 @@ pub fn concatenate(alloc: Global, shards: &[&[u8]]) -> Result<Vec<u8>>
         parts → AllZip (IsHeldLayout key) parts (map (λ x. x.now) shards.now)
         → MatchResult result (λ bytes. bytes.items ≡ keyed_layout join key)
         (λ e. e ≡ CoreError.OutOfMemory) }
-    ensures causes { IfErr result (InMemory (RefusesRow (map (λ x. x.now) shards.now))) }
+    ensures causes { IfErr result (InMemory (RefusesShardsInARow (map (λ x. x.now) shards.now))) }
 {
     concatenate_parts(alloc, shards)
 }
@@ -76,7 +76,7 @@ fn concatenate_parts(alloc: Global, shards: &[&[u8]]) -> Result<Vec<u8>>
     ensures shard_succeeds { (written : List Shard) → (all : Shard) → IsShard all
         → AreInARow written all → AreBytesOf written (map (λ x. x.now) shards.now)
         → 0 < length shards.now → IfErr result (λ e. e ≡ CoreError.OutOfMemory) }
-    ensures causes { IfErr result (InMemory (RefusesRow (map (λ x. x.now) shards.now))) }
+    ensures causes { IfErr result (InMemory (RefusesShardsInARow (map (λ x. x.now) shards.now))) }
 {
     let mut bytes = with_room(alloc, total_length(shards))?;
     match shards_in_a_row(alloc, shards, &mut bytes) {

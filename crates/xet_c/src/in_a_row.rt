@@ -2,7 +2,7 @@
 
 ghost use Rattle.std.specs.Prelude.{◌≡◌, ◌<◌, ⊤, List, All, None, map, length};
 ghost use Rattle.std.specs.List.{AllZip};
-ghost use Rattle.xet_core_structures.specs.InARow.{ShardPart, bytes_of_part, IsPartUnder, files_in, xorbs_in, options_under, AscendBoth, ArePartsInARow, AreBytesOf, AreInARow, RefusesRow};
+ghost use Rattle.xet_core_structures.specs.InARow.{ShardPart, bytes_of_part, IsPartUnder, files_in, xorbs_in, options_under, AscendBoth, ArePartsInARow, AreBytesOf, AreInARow, RefusesShardsInARow};
 ghost use Rattle.xet_core_structures.specs.Layout.{layout_of};
 ghost use Rattle.xet_core_structures.specs.Records.Ranges.{IsPartOf, is_within, ranges_between, AreCuts};
 ghost use Rattle.xet_core_structures.specs.Shard.{Shard, IsShard};
@@ -30,18 +30,18 @@ pub extern "C" fn xet_concatenate(
     ensures parts { (key : DataHash) → (parts : List ShardPart) → All (IsPartUnder key) parts
         → map bytes_of_part parts ≡ map (λ x. x.now) shards.now
         → Outcome (λ bytes. bytes ≡ layout_of (files_in parts) (xorbs_in parts) (options_under key))
-        (InMemory (RefusesRow (map (λ x. x.now) shards.now))) out.old out.new written.new result }
+        (InMemory (RefusesShardsInARow (map (λ x. x.now) shards.now))) out.old out.new written.new result }
     ensures order { (key : DataHash) → (parts : List ShardPart) → All (IsPartUnder key) parts
         → map bytes_of_part parts ≡ map (λ x. x.now) shards.now
         → All (λ part. AscendBoth part.files part.xorbs) parts
         → Outcome (λ _. AscendBoth (files_in parts) (xorbs_in parts))
-        (InMemory (RefusesRow (map (λ x. x.now) shards.now))) out.old out.new written.new result }
+        (InMemory (RefusesShardsInARow (map (λ x. x.now) shards.now))) out.old out.new written.new result }
     ensures succeeds { (key : DataHash) → (parts : List ShardPart) → ArePartsInARow key parts
         → map bytes_of_part parts ≡ map (λ x. x.now) shards.now
         → Outcome (λ bytes. bytes ≡ layout_of (files_in parts) (xorbs_in parts) (options_under key))
         (λ e. e ≡ CoreError.OutOfMemory) out.old out.new written.new result }
     ensures shard { (written_of : List Shard) → AreBytesOf written_of (map (λ x. x.now) shards.now)
-        → Outcome (IsRowOf written_of) (InMemory (RefusesRow (map (λ x. x.now) shards.now))) out.old
+        → Outcome (IsRowOf written_of) (InMemory (RefusesShardsInARow (map (λ x. x.now) shards.now))) out.old
         out.new written.new result }
     ensures shard_succeeds { (written_of : List Shard) → (all : Shard) → IsShard all
         → AreInARow written_of all → AreBytesOf written_of (map (λ x. x.now) shards.now)

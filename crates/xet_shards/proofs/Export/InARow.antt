@@ -21,7 +21,7 @@ use Rattle.xet_shards.specs.declared.shard_format.export.chunk_merging.Cursor.{C
 use Rattle.xet_shards.specs.declared.shard_format.export.gathering.Totals.{Totals}
 use Rattle.xet_shards.specs.declared.shard_format.export.part_split.Split.{Split}
 use Rattle.xet_shards.specs.declared.shard_format.export.section_parts.SectionPart.{SectionPart}
-use Rattle.xet_shards.specs.Export.InARow.{ShardPart, bytes_of_part, IsPartUnder, files_in, xorbs_in, options_under, AscendBoth, HaveFewRows, FitTogether, ArePartsInARow, AreBytesOf, AreInARow, AppendsRow}
+use Rattle.xet_shards.specs.Export.InARow.{ShardPart, bytes_of_part, IsPartUnder, files_in, xorbs_in, options_under, AscendBoth, HaveFewRows, FitTogether, ArePartsInARow, AreBytesOf, AreInARow, AppendsShardsInARow}
 use Rattle.xet_shards.specs.Steps.Gathering.{HasTotals, HasGathered}
 use Rattle.xet_shards.specs.Steps.InARow.{HoldSections, all_of, IsSplitOf}
 use Rattle.xet_shards.specs.Steps.ChunkMerging.{HoldsRows, rows_held, Merges}
@@ -175,7 +175,7 @@ parts_of (s ∷ shards) (b ∷ bytes) (is, others) =
 -- what was written of shards, whose records ascend, is the shard that has them all
 pub row_written : {T E : Type 0} (shards : List Shard) (bytes : List (List ℕ)) (old new : Option (List ℕ)) → AreBytesOf shards bytes → (are : ArePartsOf shards bytes) (result : Result T E)
     → IfOk result (λ _. AscendBoth (files_in are.parts) (xorbs_in are.parts)) → IfOk result (λ _. HaveFewRows (files_in are.parts) (xorbs_in are.parts))
-    → OnOk result (Appends old new (layout_of (files_in are.parts) (xorbs_in are.parts) (options_under no_key))) → OnOk result (AppendsRow shards old new)
+    → OnOk result (Appends old new (layout_of (files_in are.parts) (xorbs_in are.parts) (options_under no_key))) → OnOk result (AppendsShardsInARow shards old new)
 row_written shards bytes old new is are (Err e) ascend rows written = tt
 row_written shards bytes old new is are (Ok value) ascend rows written =
     row_of shards bytes old new is (subst (λ fs. AscendBoth fs (flat_map (λ s. values s.xorbs) shards)) are.files_are (subst (AscendBoth (files_in are.parts)) are.xorbs_are ascend))

@@ -18,7 +18,7 @@ use Rattle.xet_records.specs.FileRecord.{file_records, IsWellFormed}
 use Rattle.xet_records.specs.XorbRecord.{xorb_records, IsXorb}
 use Rattle.xet_records.specs.Limits.{MAX_ROWS}
 use Rattle.xet_shards.specs.Content.Shard.{Shard, IsShard, AreFiles, AreXorbs, file_hash_of, xorb_hash_of}
-use Rattle.xet_shards.specs.Export.InARow.{AscendBoth, AreBytesOf, AppendsRow}
+use Rattle.xet_shards.specs.Export.InARow.{AscendBoth, AreBytesOf, AppendsShardsInARow}
 use Rattle.xet_shards.specs.Write.Layout.{layout_of, plain_options}
 use Rattle.xet_shards.specs.Write.Section.{total_rows}
 
@@ -78,7 +78,7 @@ xorbs_of shards = flat_map (λ s. values s.xorbs) shards
 
 -- shards whose records ascend, and are few enough, are those of one shard
 pub row_of : (shards : List Shard) (bytes : List (List ℕ)) (old new : Option (List ℕ)) → AreBytesOf shards bytes → AscendBoth (files_of shards) (xorbs_of shards) → total_rows file_records (files_of shards) ≤ MAX_ROWS
-    → total_rows xorb_records (xorbs_of shards) ≤ MAX_ROWS → Appends old new (layout_of (files_of shards) (xorbs_of shards) (plain_options None)) → AppendsRow shards old new
+    → total_rows xorb_records (xorbs_of shards) ≤ MAX_ROWS → Appends old new (layout_of (files_of shards) (xorbs_of shards) (plain_options None)) → AppendsShardsInARow shards old new
 row_of shards bytes old new is ascend file_rows xorb_rows appended =
     let each = are_shards shards bytes is in
     let files_keyed : All (λ s. All (λ e. e.0 ≡ file_hash_of e.1) (entries s.files)) shards = λ k s below. (each k s below).files.keyed in

@@ -85,8 +85,8 @@ IsBadPart e = IsInvalidShard e ⊎ IsWriteError e
 -- why parts are not written in a row: they are none, not under one key or their hashes do not
 -- ascend; one of them is no part; their sums are too great or a table does not ascend; or memory or
 -- the writer failed
-abbrev pub RefusesRow : List (List ℕ) → CoreError → Type 0
-RefusesRow shards e =
+abbrev pub RefusesShardsInARow : List (List ℕ) → CoreError → Type 0
+RefusesShardsInARow shards e =
     (e ≡ InvalidArguments) ⊎ ((bytes : List ℕ) × Contains shards bytes × IsNoPart bytes e)
     ⊎ IsBadPart e
 
@@ -118,7 +118,7 @@ pub record AreInARow (shards : List Shard) (all : Shard) : Type 0 where
   pub xorbs : values all.xorbs ≡ flat_map (λ s. values s.xorbs) shards
 
 -- the bytes of the shard that has the records of these, in their order, were appended
-pub record AppendsRow (shards : List Shard) (old new : Option (List ℕ)) : Type 0 where
+pub record AppendsShardsInARow (shards : List Shard) (old new : Option (List ℕ)) : Type 0 where
   pub all : Shard
   pub is_shard : IsShard all
   pub row : AreInARow shards all

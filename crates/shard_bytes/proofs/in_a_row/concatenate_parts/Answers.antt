@@ -1,5 +1,5 @@
 use Rattle.std.proofs.Common.{Bor, ℕ, List, map}
-use Rattle.xet_core_structures.specs.InARow.{RefusesRow}
+use Rattle.xet_core_structures.specs.InARow.{RefusesShardsInARow}
 use Rattle.shard_bytes.proofs.InARow.{appended_is, row_is, lacks_memory}
 use Rattle.shard_bytes.proofs.MemoryErrors.{from_memory}
 use Rattle.shard_bytes.proofs.in_a_row.concatenate_parts.Goals as goal
@@ -17,4 +17,4 @@ pub returns-in-Err-clause-shard_succeeds : goal.returns-in-Err-clause-shard_succ
 returns-in-Err-clause-shard_succeeds c = λ written all shard row is some. lacks_memory _ _ c.in_memory.ensures (c.in-Err.ensures.shard_succeeds written all shard row is some)
 
 pub returns-in-Err-clause-causes : goal.returns-in-Err-clause-causes
-returns-in-Err-clause-causes c = from_memory (RefusesRow (map (λ (x : Bor (List ℕ)). x.now) c.args.shards.now)) _ _ c.in_memory.ensures (λ none. c.in-Err.ensures.causes)
+returns-in-Err-clause-causes c = from_memory (RefusesShardsInARow (map (λ (x : Bor (List ℕ)). x.now) c.args.shards.now)) _ _ c.in_memory.ensures (λ none. c.in-Err.ensures.causes)

@@ -2,7 +2,7 @@
 
 ghost use Rattle.std.specs.Prelude.{◌≡◌, ◌+◌, ◌/◌, ◌^◌, ◌≤◌, List, All, IfOk, IfErr, MatchResult, map};
 ghost use Rattle.xet_base.specs.Errors.{IsInvalidShard};
-ghost use Rattle.xet_shards.specs.Export.InARow.{ShardPart, bytes_of_part, IsPartUnder, files_in, xorbs_in, FitTogether, RefusesRow};
+ghost use Rattle.xet_shards.specs.Export.InARow.{ShardPart, bytes_of_part, IsPartUnder, files_in, xorbs_in, FitTogether, RefusesShardsInARow};
 ghost use Rattle.xet_shards.specs.Steps.Gathering.{AddsPart, FitWith, HasGathered};
 
 use super::chunk_merging::Cursor;
@@ -96,7 +96,7 @@ pub(in crate::shard_format) fn gather<'a>(
         → map bytes_of_part parts ≡ map (λ x. x.now) shards.now
         → FitTogether (files_in parts) (xorbs_in parts)
         → IfErr result (λ e. e ≡ CoreError.OutOfMemory) }
-    ensures causes { IfErr result (RefusesRow (map (λ x. x.now) shards.now)) }
+    ensures causes { IfErr result (RefusesShardsInARow (map (λ x. x.now) shards.now)) }
 {
     let mut files = Vec::new(alloc);
     let mut xorbs = Vec::new(alloc);

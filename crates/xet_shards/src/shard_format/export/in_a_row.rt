@@ -11,7 +11,7 @@ ghost use Rattle.xet_records.specs.declared.file_structs.MDBFileInfo.{MDBFileInf
 ghost use Rattle.xet_records.specs.declared.xorb_structs.MDBXorbInfo.{MDBXorbInfo};
 ghost use Rattle.xet_records.specs.FileRecord.{FitsRecord};
 ghost use Rattle.xet_shards.specs.Content.Shard.{Shard, IsShard};
-ghost use Rattle.xet_shards.specs.Export.InARow.{ShardPart, bytes_of_part, IsPartUnder, files_in, xorbs_in, options_under, AscendBoth, HaveFewRows, FitTogether, ArePartsInARow, AreBytesOf, AreInARow, AppendsRow, IsBadPart, RefusesRow};
+ghost use Rattle.xet_shards.specs.Export.InARow.{ShardPart, bytes_of_part, IsPartUnder, files_in, xorbs_in, options_under, AscendBoth, HaveFewRows, FitTogether, ArePartsInARow, AreBytesOf, AreInARow, AppendsShardsInARow, IsBadPart, RefusesShardsInARow};
 ghost use Rattle.xet_shards.specs.Steps.Gathering.{HasTotals, HasGathered};
 ghost use Rattle.xet_base.specs.declared.merklehash.DataHash.{DataHash};
 ghost use Rattle.xet_shards.specs.Write.Layout.{layout_of, footer_value, info_of};
@@ -66,11 +66,11 @@ pub fn shards_in_a_row<W: Write>(
     ensures succeeds { (key : DataHash) → (parts : List ShardPart) → ArePartsInARow key parts
         → map bytes_of_part parts ≡ map (λ x. x.now) shards.now → IfErr result IsWriteError }
     ensures shard { (written : List Shard) → AreBytesOf written (map (λ x. x.now) shards.now)
-        → OnOk result (AppendsRow written (W.contents writer.old) (W.contents writer.new)) }
+        → OnOk result (AppendsShardsInARow written (W.contents writer.old) (W.contents writer.new)) }
     ensures shard_succeeds { (written : List Shard) → (all : Shard) → IsShard all
         → AreInARow written all → AreBytesOf written (map (λ x. x.now) shards.now)
         → 0 < length shards.now → IfErr result IsWriteError }
-    ensures causes { IfErr result (RefusesRow (map (λ x. x.now) shards.now)) }
+    ensures causes { IfErr result (RefusesShardsInARow (map (λ x. x.now) shards.now)) }
     ensures untouched { IfErr result
         (λ e. e ≡ CoreError.InvalidArguments → W.contents writer.new ≡ W.contents writer.old) }
 {
@@ -97,7 +97,7 @@ fn write_parts<W: Write>(alloc: Global, shards: &[&[u8]], writer: &mut W) -> Res
         (λ info. info ≡ info_of (files_in parts) (xorbs_in parts) (options_under key)) }
     ensures succeeds { (key : DataHash) → (parts : List ShardPart) → ArePartsInARow key parts
         → map bytes_of_part parts ≡ map (λ x. x.now) shards.now → IfErr result IsWriteError }
-    ensures causes { IfErr result (RefusesRow (map (λ x. x.now) shards.now)) }
+    ensures causes { IfErr result (RefusesShardsInARow (map (λ x. x.now) shards.now)) }
     ensures untouched { IfErr result
         (λ e. e ≡ CoreError.InvalidArguments → W.contents writer.new ≡ W.contents writer.old) }
 {
