@@ -7,7 +7,7 @@ ghost use Rattle.xet_shards.specs.Steps.Gathering.{AddsPart, FitWith, HasGathere
 
 use super::chunk_merging::Cursor;
 use super::part_split::{Split, split_shard};
-use super::section_parts::{SectionPart, later};
+use super::section_parts::{SectionPart, add_u32};
 use std::alloc::Global;
 use xet_base::error::{CoreError, Result};
 use xet_base::merklehash::HMACKey;
@@ -34,7 +34,7 @@ pub(in crate::shard_format) struct GatheredParts<'a> {
 }
 
 // The number, or `InvalidShard` if it passes `u32`.
-fn number(alloc: Global, n: u64) -> Result<u32>
+fn to_u32(alloc: Global, n: u64) -> Result<u32>
     ensures value { MatchResult result (λ m. m ≡ n) (λ _. 2 ^ 32 ≤ n) }
     ensures causes { IfErr result IsInvalidShard }
 {
@@ -45,7 +45,7 @@ fn number(alloc: Global, n: u64) -> Result<u32>
 }
 
 // The sum, or `InvalidShard` if it passes `u64`.
-fn sum(alloc: Global, a: u64, b: u64) -> Result<u64>
+fn add_u64(alloc: Global, a: u64, b: u64) -> Result<u64>
     ensures value { MatchResult result (λ n. n ≡ a + b) (λ _. 2 ^ 64 ≤ a + b) }
     ensures causes { IfErr result IsInvalidShard }
 {
@@ -62,18 +62,18 @@ fn with_part(alloc: Global, totals: &Totals, split: &Split<'_>) -> Result<Totals
     ensures causes { IfErr result IsInvalidShard }
 {
     let footer = &split.footer;
-    let file_rows = number(alloc, (split.files.len() / 48) as u64)?;
-    let xorb_rows = number(alloc, (split.xorbs.len() / 48) as u64)?;
-    let files = number(alloc, footer.file_lookup_num_entry)?;
-    let xorbs = number(alloc, footer.xorb_lookup_num_entry)?;
+    let file_rows = to_u32(alloc, (split.files.len() / 48) as u64)?;
+    let xorb_rows = to_u32(alloc, (split.xorbs.len() / 48) as u64)?;
+    let files = to_u32(alloc, footer.file_lookup_num_entry)?;
+    let xorbs = to_u32(alloc, footer.xorb_lookup_num_entry)?;
     Ok(Totals {
-        files: later(alloc, totals.files, files)?,
-        file_rows: later(alloc, totals.file_rows, file_rows)?,
-        xorbs: later(alloc, totals.xorbs, xorbs)?,
-        xorb_rows: later(alloc, totals.xorb_rows, xorb_rows)?,
-        materialized_bytes: sum(alloc, totals.materialized_bytes, footer.materialized_bytes)?,
-        stored_bytes: sum(alloc, totals.stored_bytes, footer.stored_bytes)?,
-        stored_bytes_on_disk: sum(
+        files: add_u32(alloc, totals.files, files)?,
+        file_rows: add_u32(alloc, totals.file_rows, file_rows)?,
+        xorbs: add_u32(alloc, totals.xorbs, xorbs)?,
+        xorb_rows: add_u32(alloc, totals.xorb_rows, xorb_rows)?,
+        materialized_bytes: add_u64(alloc, totals.materialized_bytes, footer.materialized_bytes)?,
+        stored_bytes: add_u64(alloc, totals.stored_bytes, footer.stored_bytes)?,
+        stored_bytes_on_disk: add_u64(
             alloc,
             totals.stored_bytes_on_disk,
             footer.stored_bytes_on_disk,

@@ -59,13 +59,13 @@ pub(in crate::shard_format) fn write_tables<R: SectionRecord, W: Write>(
     let mut first = 0;
     for section in sections {
         write_later(alloc, writer, section.table, first)?;
-        first = later(alloc, first, section.count)?;
+        first = add_u32(alloc, first, section.count)?;
     }
     Ok(())
 }
 
 // The sum, or `InvalidShard` if it passes `u32`.
-pub(in crate::shard_format) fn later(alloc: Global, first: u32, count: u32) -> Result<u32>
+pub(in crate::shard_format) fn add_u32(alloc: Global, first: u32, count: u32) -> Result<u32>
     ensures sum { IfOk result (λ n. n ≡ first + count) }
     ensures passes { IfErr result (λ _. 2 ^ 32 ≤ first + count) }
     ensures causes { IfErr result IsInvalidShard }
@@ -91,7 +91,7 @@ fn write_later<W: Write>(alloc: Global, writer: &mut W, table: &[u8], first: u32
     while rest.len() >= 12 {
         let (word, after) = split_u64(rest);
         let (row, after) = split_u32(after);
-        write_start(writer, word, later(alloc, row, first)?)?;
+        write_start(writer, word, add_u32(alloc, row, first)?)?;
         rest = after;
     }
     Ok(())
