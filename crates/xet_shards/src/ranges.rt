@@ -1,4 +1,5 @@
-//! Laws of sections whose records come one after another.
+//! Laws of sections and tables of records that follow one another, as in a merge by ranges of
+//! hashes.
 
 ghost use Rattle.std.specs.Prelude.{◌≡◌, List, ◌++◌, map, flat_map};
 ghost use Rattle.xet_records.specs.declared.file_structs.MDBFileInfo.{MDBFileInfo};
@@ -11,9 +12,11 @@ ghost use Rattle.std.specs.Ordering.{is_lt};
 ghost use Rattle.xet_shards.specs.Write.Tables.{ChunkTableRow, chunk_table_row_cmp, starts, chunk_table_rows, chunk_table};
 ghost use Rattle.xet_shards.specs.Write.Ranges.{start_later, chunk_row_later};
 
-/// A section of records of which some come after others is the bytes of these and the section of
-/// the rest; and the rows of its tables are those of the first, and those of the rest, as many rows
-/// later, which in the chunk table are in order.
+/// Does nothing. Its contract says what two lists of records make together, the second after the
+/// first. The section is the bytes of the first records, and then the section of the second ones.
+/// The rows of a table are those of the first records, and then those of the second, whose row
+/// numbers are raised by the rows of the first. In the chunk table these rows stand in ascending
+/// order.
 pub fn sections_follow_one_another()
     ensures files { (xs ys : List MDBFileInfo) → section_bytes file_records (xs ++ ys)
         ≡ flat_map file_records.record_bytes xs ++ section_bytes file_records ys }

@@ -1,5 +1,5 @@
-//! Copying a shard record by record: keyed exports, and rewriting with other layout options. And
-//! shards one after another, whose sections are copied as they are.
+//! Copying shards: record by record, for keyed exports and for other layout options, and by whole
+//! sections, for concatenation.
 //!
 //! The loop of an export, `export_section`, is over the trait `ExportedRecord`: of files it reads a
 //! view of each, and `write_file_view` writes its bytes and adds its row; of xorbs it reads each,
@@ -7,10 +7,11 @@
 //! the rows of the tables. The loop's invariant is `HasExported`: the records that were read, and
 //! what was made of them.
 //!
-//! Of shards in a row, `split_shard` cuts each into its sections and tables, `gather` adds up what
-//! they have, `check_order` compares the last hash of each with the first of the next, and then
-//! `write_rows` and `write_tables` copy, and `write_merged_rows` merges the chunk tables by a heap. Each
-//! row that it writes is compared with the last one: so its rows are in order, whatever the tables.
+//! Concatenation is `in_a_row`. `split_shard` cuts each shard into its sections and tables,
+//! `gather` adds up their sizes, and `check_order` compares the last hash of each with the first of
+//! the next. Then `write_rows` and `write_tables` copy, and `write_merged_rows` merges the chunk
+//! tables by a heap. It compares each row with the one before, so the rows that it writes ascend,
+//! whatever the tables.
 
 pub(super) mod chunk_merging;
 pub(super) mod gathering;

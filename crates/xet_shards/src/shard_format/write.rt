@@ -13,10 +13,9 @@
 //! export without a chunk table and `MDBMinimalShard` collect no rows of it
 //! (`WrittenXorbs::write_for`). `write_end` writes the tables that the `LayoutOptions` include, and
 //! the footer. It takes what was collected of the xorbs by value, and puts the rows of the chunk
-//! table in order (`row_order`), for which free places are added behind them and taken off again.
-//! That the rest of the sorted list is the chunk table is `sorted_with_free` in
-//! `proofs/Write/RowOrder.antt`: the table is the keys of a map, and has as many as there are rows,
-//! so no two rows tie.
+//! table in order (`row_order`). For that, free places are added behind the rows and taken off
+//! again. What is left is the chunk table by `sorted_with_free` in `proofs/Write/RowOrder.antt`:
+//! the table is the keys of a map, and has as many as there are rows, so no two rows tie.
 //!
 //! Header, sections and end are `layout_of` the records with these options (`whole_layout` in
 //! `proofs/Write/Written.antt`), and so `layout` where the options are plain. A writer that has no

@@ -136,8 +136,9 @@ impl FileStore {
         Ok(joined)
     }
 
-    // Joins each of these files with the one that has its hash, and inserts the others.
-    // `OutOfMemory` if an allocation fails; then some of them are joined.
+    // Joins the store's files with the other files of the same hashes, and inserts the other files
+    // whose hashes the store does not have. `OutOfMemory` if an allocation fails; then only some of
+    // them are joined.
     fn join_all(&mut self, alloc: Global, others: &BTreeMap<MerkleHash, MDBFileInfo>) -> Result<()>
         requires sorted { T (is_sorted hash_cmp others.now.entries) }
         requires files { AreFiles others.now.entries }
@@ -154,8 +155,8 @@ impl FileStore {
         Ok(())
     }
 
-    // The file joined with this store's that has its hash, if any; `None` if that is this store's
-    // as it is. `OutOfMemory` if an allocation fails.
+    // The file to be stored under the hash: a copy of `file_info`, or the store's file joined with
+    // it. `None` if the store's file has all parts already. `OutOfMemory` if an allocation fails.
     fn joined_with(
         &self,
         alloc: Global,
@@ -238,7 +239,7 @@ pub fn joined_rows(file_info: &MDBFileInfo, twin: &MDBFileInfo) -> u64
     1 + file_info.metadata.mixed(&twin.metadata).rows_after()
 }
 
-// Whether the first of two records has each optional part that the second has.
+// Whether the first of two records of a file has each optional part that the second has.
 fn has_its_parts(file_info: &MDBFileInfo, twin: &MDBFileInfo) -> bool
     ensures { IsTrue result → merged file_info.now twin.now ≡ file_info.now }
 {

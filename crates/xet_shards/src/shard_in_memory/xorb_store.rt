@@ -151,8 +151,7 @@ impl XorbStore {
         Ok(())
     }
 
-    // How many chunks those of these xorbs have whose hashes are neither in this store nor in
-    // `except`.
+    // The number of chunks of the xorbs whose hashes are neither in this store nor in `except`.
     fn missing_chunks(
         &self,
         others: &BTreeMap<MerkleHash, Rc<MDBXorbInfo>>,
@@ -167,7 +166,7 @@ impl XorbStore {
         chunks
     }
 
-    // Reserves room in the lookup for so many chunks more.
+    // Reserves room in the lookup for so many chunks more. `OutOfMemory` if an allocation fails.
     fn reserve(&mut self, chunks: usize) -> Result<()>
         ensures same { self.new ≡ self.old }
         ensures causes { IfErr result (λ e. e ≡ CoreError.OutOfMemory) }

@@ -1,4 +1,4 @@
-//! The parts of shards, gathered for writing them one after another.
+//! The sections and tables of many shards, gathered to be written one after another.
 
 ghost use Rattle.std.specs.Prelude.{◌≡◌, ◌+◌, ◌/◌, ◌^◌, ◌≤◌, List, All, IfOk, IfErr, MatchResult, map};
 ghost use Rattle.xet_base.specs.Errors.{IsInvalidShard};
@@ -12,7 +12,8 @@ use std::alloc::Global;
 use xet_base::error::{CoreError, Result};
 use xet_base::merklehash::HMACKey;
 
-/// What parts have in sum: their records, the rows of their sections, and their bytes.
+/// Sums over parts: their records, the rows of their sections without bookends, and the sizes in
+/// bytes that their footers name.
 #[derive(Clone, Copy, Debug)]
 pub(in crate::shard_format) struct Totals {
     pub files: u32,
@@ -24,7 +25,8 @@ pub(in crate::shard_format) struct Totals {
     pub stored_bytes_on_disk: u64,
 }
 
-/// The sections of all parts, a cursor in each chunk table, and what the parts have in sum.
+/// The sections of all parts, a cursor at the start of each chunk table, and the sums over the
+/// parts.
 #[derive(Drop)]
 pub(in crate::shard_format) struct GatheredParts<'a> {
     pub files: Vec<SectionPart<'a>>,
@@ -33,7 +35,7 @@ pub(in crate::shard_format) struct GatheredParts<'a> {
     pub totals: Totals,
 }
 
-// The number, or `InvalidShard` if it passes `u32`.
+// The number as `u32`, or `InvalidShard` if it does not fit.
 fn to_u32(alloc: Global, n: u64) -> Result<u32>
     ensures value { MatchResult result (λ m. m ≡ n) (λ _. 2 ^ 32 ≤ n) }
     ensures causes { IfErr result IsInvalidShard }
@@ -55,7 +57,7 @@ fn add_u64(alloc: Global, a: u64, b: u64) -> Result<u64>
     }
 }
 
-// What parts have in sum with one part more. `InvalidShard` if a sum is too great.
+// The sums with one part more. `InvalidShard` if one of them does not fit its type.
 fn with_part(alloc: Global, totals: &Totals, split: &Split<'_>) -> Result<Totals>
     ensures sums { MatchResult result (AddsPart totals.now split.now)
         (λ _. FitWith totals.now split.now → ⊥) }
@@ -81,8 +83,11 @@ fn with_part(alloc: Global, totals: &Totals, split: &Split<'_>) -> Result<Totals
     })
 }
 
-/// The parts of shards whose chunk hashes are under the key. `InvalidArguments` if those of a shard
-/// are not.
+/// The parts of these shards, whose chunk hashes have to be under the key.
+///
+/// `InvalidArguments` if the chunk hashes of a shard are under another key; the errors of
+/// `split_shard` if a shard can't be split; `InvalidShard` if a sum does not fit; `OutOfMemory` if
+/// an allocation fails.
 pub(in crate::shard_format) fn gather<'a>(
     alloc: Global,
     shards: &[&'a [u8]],

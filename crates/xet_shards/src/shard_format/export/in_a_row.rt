@@ -1,8 +1,7 @@
-//! Shards whose records come one after another, written as the shard that has them all.
+//! Concatenation: shards whose records follow one another, written as one shard that has them all.
 //!
-//! Sections are copied without their bookends, row numbers in the tables are put later by the rows
-//! of the parts before, and chunk tables are merged. Beside 40 bytes a part and section, no memory
-//! is needed.
+//! Sections are copied without their bookends. Row numbers in the tables are raised by the rows of
+//! the shards before, and the chunk tables are merged. The memory is a few hundred bytes a shard.
 
 ghost use Rattle.std.specs.Prelude.{◌≡◌, ◌+◌, ◌<◌, List, All, OnOk, IfOk, IfErr, map, length, sum_by};
 ghost use Rattle.xet_base.specs.Errors.{IsWriteError};
@@ -34,17 +33,18 @@ use xet_records::record_reader::FormatVersion;
 use xet_records::rows::ROW_SIZE;
 use xet_records::xorb_structs::MDBXorbInfo;
 
-/// Writes the shard that has the records of all shards, in their order, with all tables, under the
-/// key of the first and without expiry, and returns its header and footer. Sections and tables are
-/// copied and not checked.
+/// Concatenates shards: writes the shard that has the records of all of them, in their order, and
+/// returns its header and footer. It is of version 3, with all tables, under the key of the first
+/// shard and without expiry. Sections and tables are copied, and only tested as the errors say.
 ///
-/// `InvalidArguments` if there is no shard, if their keys differ, or if the hashes of files or those
-/// of xorbs don't ascend from one shard to the next; then nothing is written. `InvalidShard` if the
-/// offsets of a footer are not in order, if a section does not have the last record that its table
-/// names, if the rows of a section pass 4294967295 or a sum of bytes 64 bits, or if a chunk table
-/// does not ascend; `ShardVersion` or `UnexpectedEof` if a shard has no header or no footer that is
-/// read. Any other error is the writer's, or `OutOfMemory` if an allocation fails; of shards that
-/// are one after another and together few enough rows for one, no error is possible but these.
+/// `InvalidArguments` if there is no shard, if the keys differ, or if the hashes of files, or of
+/// xorbs, don't ascend from one shard to the next. Then nothing is written. `InvalidShard` if the
+/// offsets of a footer are not in order, or if a section does not have the last record that its
+/// table names. Also if the rows of a section pass 4294967295, if a sum of sizes in bytes passes 64
+/// bits, if a chunk table does not ascend, or if the chunk tables together do not have a row for
+/// each chunk. `ShardVersion` or `UnexpectedEof` if a shard has no supported header or footer. Any
+/// other error is the writer's, or `OutOfMemory` if an allocation fails. Only these two can occur
+/// if the shards are under one key, if all hashes ascend, and if the rows and sizes fit one shard.
 pub fn shards_in_a_row<W: Write>(
     alloc: Global,
     shards: &[&[u8]],
@@ -77,7 +77,7 @@ pub fn shards_in_a_row<W: Write>(
     write_parts(alloc, shards, writer)
 }
 
-// The same, without the clauses on bytes of shards.
+// `shards_in_a_row` without the clauses on bytes of shards, which follow from these here.
 fn write_parts<W: Write>(alloc: Global, shards: &[&[u8]], writer: &mut W) -> Result<MDBShardInfo>
     ensures bytes { (key : DataHash) → (parts : List ShardPart) → All (IsPartUnder key) parts
         → map bytes_of_part parts ≡ map (λ x. x.now) shards.now
@@ -111,7 +111,8 @@ fn write_parts<W: Write>(alloc: Global, shards: &[&[u8]], writer: &mut W) -> Res
     write_gathered_parts(alloc, writer, gathered, key)
 }
 
-// Writes the shard of what was gathered of parts.
+// Writes the shard that has the records of the gathered parts. `InvalidShard` if a table is
+// refused; else the error is the writer's, or `OutOfMemory` if an allocation fails.
 fn write_gathered_parts<W: Write>(
     alloc: Global,
     writer: &mut W,
@@ -157,7 +158,8 @@ fn write_gathered_parts<W: Write>(
     Ok(MDBShardInfo { header, metadata })
 }
 
-// The footer of parts with so many chunks, by what they have in sum.
+// The footer of the shard that has the records of all parts, from the sums over the parts and the
+// number of all chunks.
 fn footer_of_parts(totals: &Totals, chunks: u32, key: HMACKey) -> MDBShardFileFooter
     ensures { (files : List MDBFileInfo) → (xorbs : List MDBXorbInfo) → All FitsRecord files
         → HasTotals totals.now files xorbs → chunks + totals.now.xorbs ≡ totals.now.xorb_rows

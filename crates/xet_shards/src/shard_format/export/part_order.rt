@@ -1,4 +1,4 @@
-//! Whether the hashes of parts ascend from each part to the next.
+//! The test that the hashes of records ascend from each shard to the next.
 
 ghost use Rattle.std.specs.Prelude.{◌≡◌, ◌+◌, ◌-◌, ◌*◌, ◌<◌, ◌⊎◌, List, All, length, take, drop, MatchOption, MatchResult, IfErr};
 ghost use Rattle.xet_base.specs.Errors.{IsInvalidShard};
@@ -18,16 +18,18 @@ use xet_records::record_bytes::row;
 use xet_records::record_reader::SectionRecord;
 use xet_records::rows::{ROW_SIZE, Row};
 
-/// The hashes of the first record of a section and of the last.
+/// The hashes of the first and of the last record of a section.
 #[derive(Clone, Copy, Debug)]
 pub(in crate::shard_format) struct EndHashes {
     pub first: MerkleHash,
     pub last: MerkleHash,
 }
 
-/// Nothing, if the hashes of the records of all parts ascend, where those of each part do.
-/// `InvalidArguments` if they don't ascend from one part to the next, `InvalidShard` if a section
-/// does not have the last record that its table names.
+/// Tests that the first hash of each section is above the last hash of the section before it, where
+/// sections without records are passed. So the hashes of all sections ascend if those of each do.
+///
+/// `InvalidArguments` if a first hash is not above the last one, `InvalidShard` if a section does
+/// not have the last record that its table names.
 pub(in crate::shard_format) fn check_order<R: SectionRecord>(
     alloc: Global,
     sections: &[SectionPart<'_>],
@@ -55,7 +57,7 @@ pub(in crate::shard_format) fn check_order<R: SectionRecord>(
     Ok(())
 }
 
-// Whether a hash is above the last one, if there is one.
+// Whether a hash is above the last hash of the sections before it, if there is one.
 fn is_after(first: &MerkleHash, last: Option<MerkleHash>) -> bool
     ensures { result ≡ is_after last first.now }
 {
@@ -65,7 +67,7 @@ fn is_after(first: &MerkleHash, last: Option<MerkleHash>) -> bool
     }
 }
 
-// The hashes of the first and of the last record of a section, if they are there.
+// The hashes of the first and of the last record of a section, or `None` if one of them is missing.
 fn end_hashes<R: SectionRecord>(section: &SectionPart<'_>) -> Option<EndHashes>
     ensures { (records : List R) → HoldsRecords R.kind section.now records → 0 < length records
         → MatchOption result ⊥ (HasEnds R.kind records) }
@@ -79,7 +81,7 @@ fn end_hashes<R: SectionRecord>(section: &SectionPart<'_>) -> Option<EndHashes>
     })
 }
 
-// The row at which the last record of a table starts.
+// The row at which the last record of a table starts: the number at the table's end.
 fn last_row(table: &[u8]) -> Option<u32>
     ensures { MatchOption result (length table.now < 4)
         (λ row. drop (length table.now - 4) table.now ≡ u32_bytes row) }
@@ -88,7 +90,7 @@ fn last_row(table: &[u8]) -> Option<u32>
     Some(split_u32(&table[at..]).0)
 }
 
-// The header at a row of a section, if it is there.
+// The header at a row of a section, or `None` past its end.
 fn header_at<R: SectionRecord>(rows: &[u8], index: u32) -> Option<R::Header>
     ensures { MatchOption result (length rows.now < 48 * index + 48)
         (ReadsRow R.Header.row_bytes R.Header.Fits R.Header.as_read

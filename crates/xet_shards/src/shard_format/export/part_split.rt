@@ -1,4 +1,4 @@
-//! The bytes of a shard, split into its parts.
+//! The bytes of a shard, split into sections, tables and footer.
 
 ghost use Rattle.std.specs.Prelude.{◌≡◌, ◌<◌, ◌⊎◌, length, IfErr, MatchOption, MatchResult, slice_range};
 ghost use Rattle.xet_shards.specs.Export.InARow.{ShardPart, bytes_of_part, IsPartUnder, IsNoPart};
@@ -13,7 +13,7 @@ use xet_base::error::{CoreError, Result};
 use xet_base::source::MemorySource;
 use xet_records::rows::ROW_SIZE;
 
-/// The parts of a shard's bytes: the rows of both sections without their bookends, the three
+/// The pieces of a shard's bytes: the rows of both sections without their bookends, the three
 /// tables, and the footer.
 #[derive(Clone, Copy, Debug)]
 pub(in crate::shard_format) struct Split<'a> {
@@ -25,7 +25,8 @@ pub(in crate::shard_format) struct Split<'a> {
     pub footer: MDBShardFileFooter,
 }
 
-// The bytes from one offset up to another, if they are there.
+// The bytes from one offset up to another, or `None` if the offsets are not in order or past the
+// end.
 fn range_of(bytes: &[u8], from: u64, to: u64) -> Option<&[u8]>
     ensures { MatchOption result ((to < from) ⊎ (length bytes.now < to))
         (λ part. part.now ≡ slice_range bytes.now from to) }
@@ -36,7 +37,7 @@ fn range_of(bytes: &[u8], from: u64, to: u64) -> Option<&[u8]>
     Some(&bytes[from as usize..to as usize])
 }
 
-// The parts between the offsets that the footer names.
+// The pieces between the offsets that the footer names, or `None` if these are not in order.
 fn parts_at<'a>(bytes: &'a [u8], footer: &MDBShardFileFooter) -> Option<Split<'a>>
     ensures { MatchOption result (HasRanges (length bytes.now) footer.now → ⊥)
         (IsSplit bytes.now footer.now) }
@@ -54,8 +55,8 @@ fn parts_at<'a>(bytes: &'a [u8], footer: &MDBShardFileFooter) -> Option<Split<'a
     })
 }
 
-/// The parts of a shard's bytes. `ShardVersion` or `UnexpectedEof` if header or footer are not
-/// those of a shard, `InvalidShard` if the offsets are not in order.
+/// The pieces of a shard's bytes. `ShardVersion` or `UnexpectedEof` if header or footer are not
+/// those of a shard, `InvalidShard` if the footer's offsets are not in order or are past the bytes.
 pub(in crate::shard_format) fn split_shard(alloc: Global, bytes: &[u8]) -> Result<Split<'_>>
     ensures split { (key : DataHash) → (part : ShardPart) → IsPartUnder key part
         → bytes.now ≡ bytes_of_part part → MatchResult result (IsSplitOf part) (λ e. ⊥) }

@@ -1,4 +1,4 @@
-//! Sections of parts, and their tables, written one after another.
+//! Sections of many shards, and their tables, written one after another.
 
 ghost use Rattle.std.specs.Prelude.{◌≡◌, ◌+◌, ◌^◌, ◌<◌, ◌≤◌, ◌⊎◌, ℕ, List, All, OnOk, IfOk, IfErr, map, flat_map};
 ghost use Rattle.std.specs.Io.KnownBytes.{Appends};
@@ -17,7 +17,8 @@ use xet_base::fields::{put_u32, put_u64, split_u32, split_u64};
 use xet_base::serialization_utils::write_bytes;
 use xet_records::record_reader::SectionRecord;
 
-/// The rows of a section without its bookend, their number, and the table of its records.
+/// A section of one shard: its rows without the bookend, their number, and the table of its
+/// records.
 #[derive(Clone, Copy, Debug)]
 pub(in crate::shard_format) struct SectionPart<'a> {
     pub rows: &'a [u8],
@@ -25,7 +26,7 @@ pub(in crate::shard_format) struct SectionPart<'a> {
     pub table: &'a [u8],
 }
 
-/// Writes the rows of all parts. The error is the writer's.
+/// Writes the rows of all sections, one after another. The error is the writer's.
 pub(in crate::shard_format) fn write_rows<W: Write>(
     writer: &mut W,
     sections: &[SectionPart<'_>],
@@ -41,8 +42,8 @@ pub(in crate::shard_format) fn write_rows<W: Write>(
     Ok(())
 }
 
-/// Writes the table of the records of all parts. `InvalidShard` if a row number passes `u32`; else
-/// the error is the writer's.
+/// Writes the table of the records of all sections, whose rows follow one another. `InvalidShard`
+/// if a row number passes `u32`; else the error is the writer's.
 pub(in crate::shard_format) fn write_tables<R: SectionRecord, W: Write>(
     alloc: Global,
     writer: &mut W,
@@ -64,7 +65,7 @@ pub(in crate::shard_format) fn write_tables<R: SectionRecord, W: Write>(
     Ok(())
 }
 
-// The sum, or `InvalidShard` if it passes `u32`.
+/// The sum, or `InvalidShard` if it passes `u32`.
 pub(in crate::shard_format) fn add_u32(alloc: Global, first: u32, count: u32) -> Result<u32>
     ensures sum { IfOk result (λ n. n ≡ first + count) }
     ensures passes { IfErr result (λ _. 2 ^ 32 ≤ first + count) }
@@ -76,7 +77,8 @@ pub(in crate::shard_format) fn add_u32(alloc: Global, first: u32, count: u32) ->
     }
 }
 
-// Writes the rows of a table, each row number so many later.
+// Writes the rows of a table, with `first` added to each row number. Bytes after the last whole row
+// are left out. `InvalidShard` if a row number passes `u32`; else the error is the writer's.
 fn write_later<W: Write>(alloc: Global, writer: &mut W, table: &[u8], first: u32) -> Result<()>
     ensures bytes { (rows : List (ℕ × ℕ)) → table.now ≡ flat_map start_row rows → All FitsStart rows
         → OnOk result
@@ -97,7 +99,7 @@ fn write_later<W: Write>(alloc: Global, writer: &mut W, table: &[u8], first: u32
     Ok(())
 }
 
-// Writes a row of a table.
+// Writes a row of a table: the first word of a hash, and the row at which its record starts.
 fn write_start<W: Write>(writer: &mut W, word: u64, row: u32) -> Result<()>
     ensures bytes { OnOk result
         (Appends (W.contents writer.old) (W.contents writer.new) (start_row (word, row))) }

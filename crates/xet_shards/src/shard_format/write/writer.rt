@@ -35,7 +35,7 @@ use xet_records::file_structs::MDBFileInfo;
 use xet_records::rows::ROW_SIZE;
 use xet_records::xorb_structs::MDBXorbInfo;
 
-// The rows of the chunk table that are written at once.
+// The number of rows of the chunk table that go to the writer at once.
 const BLOCK_ROWS: usize = 64;
 
 impl MDBInMemoryShard {
@@ -105,8 +105,9 @@ pub fn write_values<S: WrittenSection + Drop, V: HoldsRecord<S::Record>, W: Writ
 }
 
 /// Writes the end of a shard, after its sections: the tables that are in, and the footer, which it
-/// returns. The rows of the chunk table are put in order here, if it is in, for which some more are
-/// allocated if they are many. The error is the writer's, or `OutOfMemory` if an allocation fails.
+/// returns. If the chunk table is in, its rows are put in order here; many rows are sorted by means
+/// of free places that are allocated behind them. The error is the writer's, or `OutOfMemory` if an
+/// allocation fails.
 pub fn write_end<W: Write>(
     writer: &mut W,
     files: &WrittenFiles,
@@ -186,7 +187,7 @@ fn write_chunk_rows<W: Write>(writer: &mut W, rows: &[ChunkTableRow]) -> Result<
     Ok(())
 }
 
-// Writes so many rows of the chunk table at once.
+// Writes at most `BLOCK_ROWS` rows of the chunk table by one call of the writer.
 fn write_block<W: Write>(writer: &mut W, rows: &[ChunkTableRow]) -> Result<()>
     requires { length rows.now ≤ 64 }
     ensures bytes { OnOk result
