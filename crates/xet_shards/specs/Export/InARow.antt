@@ -1,4 +1,4 @@
--- Shards whose records come one after another, and the shard that has the records of all.
+-- Concatenation: shards whose records follow one another, and the shard that has the records of all.
 use Rattle.std.specs.Prelude.{◌≡◌, ◌⊎◌, ⊤, ℕ, ◌≤◌, ◌<◌, ◌^◌, sum_by, Contains, true, All, length, List, [], ◌∷◌, flat_map, Option, None}
 use Rattle.std.specs.Io.KnownBytes.{Appends}
 use Rattle.xet_base.specs.declared.error.CoreError.{CoreError}
@@ -19,7 +19,8 @@ use Rattle.xet_shards.specs.Write.Section.{total_rows}
 use Rattle.xet_base.specs.declared.error.CoreError.TheVariants.{InvalidArguments}
 use Rattle.xet_shards.specs.Write.WithOptions.{FitsSection, Ascends}
 
--- a part: files and xorbs, a version, the key of the chunk hashes, and two timestamps
+-- the content of a shard that is concatenated: files and xorbs, a version, the key of the chunk
+-- hashes, and the times of creation and expiry
 pub record ShardPart : Type 0 where
   pub files : List MDBFileInfo
   pub xorbs : List MDBXorbInfo
@@ -28,7 +29,7 @@ pub record ShardPart : Type 0 where
   pub creation : ℕ
   pub expiry : ℕ
 
--- its layout options: all tables are in
+-- the layout options of a part: all tables are in
 abbrev pub options_in : ShardPart → LayoutOptions
 options_in part = record {
   version = part.version;
@@ -40,63 +41,64 @@ options_in part = record {
   expiry = part.expiry;
 }
 
--- its bytes
+-- the bytes of a part: the layout of its records
 abbrev pub bytes_of_part : ShardPart → List ℕ
 bytes_of_part part = layout_of part.files part.xorbs (options_in part)
 
--- the key is this, and records and numbers fit their rows
+-- a part is under this key, and its records and its footer's numbers fit their widths
 pub record IsPartUnder (key : DataHash) (part : ShardPart) : Type 0 where
   pub key_is : part.key ≡ key
   pub files_fit : FitsSection (file_records_in part.version) part.files
   pub xorbs_fit : FitsSection xorb_records part.xorbs
   pub widths : FitsFooter (footer_value part.files part.xorbs (options_in part))
 
--- the files and the xorbs of all parts, part by part
+-- the files of all parts, part by part
 abbrev pub files_in : List ShardPart → List MDBFileInfo
 files_in parts = flat_map (λ part. part.files) parts
 
+-- the xorbs of all parts, part by part
 abbrev pub xorbs_in : List ShardPart → List MDBXorbInfo
 xorbs_in parts = flat_map (λ part. part.xorbs) parts
 
--- version 3, all tables, the key, no creation and no expiry
+-- the layout options of a concatenation: version 3, all tables, the key, no creation and no expiry
 abbrev pub options_under : DataHash → LayoutOptions
 options_under key = record (plain_options None) { key = key }
 
--- the bytes have no header or no footer that is read, or the footer's offsets are not in order
+-- why bytes can't be split: they have no supported header or footer, or its offsets are not in order
 abbrev pub IsNoPart : List ℕ → CoreError → Type 0
 IsNoPart bytes e = FormatCase IsUnsupported IsTooShort bytes e ⊎ IsInvalidShard e
 
--- the rows of each section fit `u32`
+-- the number of rows of each section fits `u32`
 pub record HaveFewRows (files : List MDBFileInfo) (xorbs : List MDBXorbInfo) : Type 0 where
   pub file_rows : total_rows file_records files ≤ MAX_ROWS
   pub xorb_rows : total_rows xorb_records xorbs ≤ MAX_ROWS
 
--- rows and bytes of all parts are few enough for one shard
+-- the rows and the sizes in bytes are few enough for one shard
 pub record FitTogether (files : List MDBFileInfo) (xorbs : List MDBXorbInfo) : Type 0 where
   pub rows : HaveFewRows files xorbs
   pub materialized : sum_by size_of_file files < 2 ^ 64
   pub stored : sum_by (λ (x : MDBXorbInfo). x.metadata.num_bytes_in_xorb) xorbs < 2 ^ 64
   pub on_disk : sum_by (λ (x : MDBXorbInfo). x.metadata.num_bytes_on_disk) xorbs < 2 ^ 64
 
--- the bytes of a part are not a shard's as far as they were looked at, or writing failed
+-- why writing fails after the parts were split: a part is no shard, or the writer or memory failed
 abbrev pub IsBadPart : CoreError → Type 0
 IsBadPart e = IsInvalidShard e ⊎ IsWriteError e
 
--- why parts are not written in a row: they are none, not under one key or their hashes do not
--- ascend; one of them is no part; their sums are too great or a table does not ascend; or memory or
--- the writer failed
+-- why shards are not concatenated: there is none, their keys differ or their hashes do not ascend;
+-- or the bytes of one can't be split; or a sum does not fit, a table is refused, or the writer or
+-- memory failed
 abbrev pub RefusesShardsInARow : List (List ℕ) → CoreError → Type 0
 RefusesShardsInARow shards e =
     (e ≡ InvalidArguments) ⊎ ((bytes : List ℕ) × Contains shards bytes × IsNoPart bytes e)
     ⊎ IsBadPart e
 
--- the hashes of files ascend, and those of xorbs
+-- the hashes of the files ascend, and so do the hashes of the xorbs
 pub record AscendBoth (files : List MDBFileInfo) (xorbs : List MDBXorbInfo) : Type 0 where
   pub files_ascend : Ascends file_records files
   pub xorbs_ascend : Ascends xorb_records xorbs
 
--- there is a part, all are under the key, their hashes ascend within each and from each to the
--- next, and together they are few enough for one shard
+-- parts that can be concatenated: there is one, all are under the key, hashes ascend within each
+-- part and from each to the next, and one shard has room for them all
 pub record ArePartsInARow (key : DataHash) (parts : List ShardPart) : Type 0 where
   pub some : 0 < length parts
   pub fit : All (IsPartUnder key) parts
@@ -104,20 +106,20 @@ pub record ArePartsInARow (key : DataHash) (parts : List ShardPart) : Type 0 whe
   pub ascend : AscendBoth (files_in parts) (xorbs_in parts)
   pub together : FitTogether (files_in parts) (xorbs_in parts)
 
--- each of the byte strings is that of the shard at its place
+-- each byte string is a layout of the shard at the same place
 abbrev pub AreBytesOf : List Shard → List (List ℕ) → Type 0
 AreBytesOf [] [] = ⊤
 AreBytesOf [] (bytes ∷ all) = ⊥
 AreBytesOf (s ∷ shards) [] = ⊥
 AreBytesOf (s ∷ shards) (bytes ∷ all) = IsBytesOf s bytes × AreBytesOf shards all
 
--- a shard has the records of these shards, in their order: so the hashes of each come after those
--- of the shards before it
+-- a shard has the records of these shards, in their order, so the hashes of each are above the
+-- hashes of the shards before it
 pub record AreInARow (shards : List Shard) (all : Shard) : Type 0 where
   pub files : values all.files ≡ flat_map (λ s. values s.files) shards
   pub xorbs : values all.xorbs ≡ flat_map (λ s. values s.xorbs) shards
 
--- the bytes of the shard that has the records of these, in their order, were appended
+-- the layout of a shard that has the records of these shards, in their order, was appended
 pub record AppendsShardsInARow (shards : List Shard) (old new : Option (List ℕ)) : Type 0 where
   pub all : Shard
   pub is_shard : IsShard all

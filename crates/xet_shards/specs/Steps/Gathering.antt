@@ -1,4 +1,4 @@
--- What is gathered of parts that are written one after another.
+-- Steps towards gathering the parts of shards, which only contracts inside the crate speak of.
 use Rattle.std.specs.Prelude.{◌≡◌, ◌+◌, ◌/◌, ◌<◌, ◌^◌, List, map, flat_map, length, sum_by, All}
 use Rattle.std.specs.List.Sorted.{IsPermutation}
 use Rattle.xet_records.specs.declared.file_structs.MDBFileInfo.{MDBFileInfo}
@@ -15,7 +15,7 @@ use Rattle.xet_shards.specs.Steps.ChunkMerging.{HoldsRows, rows_held}
 use Rattle.xet_shards.specs.Write.Section.{total_rows}
 use Rattle.xet_shards.specs.Write.Tables.{ChunkTableRow, chunk_table_rows}
 
--- the sums with one part more
+-- the new sums are the old ones and the numbers of one part more
 pub record AddsPart (old : Totals) (split : Split) (new : Totals) : Type 0 where
   pub files : new.files ≡ old.files + split.footer.file_lookup_num_entry
   pub file_rows : new.file_rows ≡ old.file_rows + length split.files.now / 48
@@ -25,7 +25,7 @@ pub record AddsPart (old : Totals) (split : Split) (new : Totals) : Type 0 where
   pub stored_bytes : new.stored_bytes ≡ old.stored_bytes + split.footer.stored_bytes
   pub stored_bytes_on_disk : new.stored_bytes_on_disk ≡ old.stored_bytes_on_disk + split.footer.stored_bytes_on_disk
 
--- the sums with one part more fit
+-- the sums with one part more fit their widths
 pub record FitWith (totals : Totals) (split : Split) : Type 0 where
   pub files : totals.files + split.footer.file_lookup_num_entry < 2 ^ 32
   pub file_rows : totals.file_rows + length split.files.now / 48 < 2 ^ 32
@@ -35,7 +35,7 @@ pub record FitWith (totals : Totals) (split : Split) : Type 0 where
   pub stored_bytes : totals.stored_bytes + split.footer.stored_bytes < 2 ^ 64
   pub stored_bytes_on_disk : totals.stored_bytes_on_disk + split.footer.stored_bytes_on_disk < 2 ^ 64
 
--- the numbers of these records, of their rows and of their bytes
+-- the sums are the numbers of these records and of their rows, and their sizes in bytes
 pub record HasTotals (totals : Totals) (files : List MDBFileInfo) (xorbs : List MDBXorbInfo) : Type 0 where
   pub files_are : totals.files ≡ length files
   pub file_rows : totals.file_rows ≡ total_rows file_records files
@@ -45,14 +45,14 @@ pub record HasTotals (totals : Totals) (files : List MDBFileInfo) (xorbs : List 
   pub stored_bytes : totals.stored_bytes ≡ sum_by (λ (x : MDBXorbInfo). x.metadata.num_bytes_in_xorb) xorbs
   pub stored_bytes_on_disk : totals.stored_bytes_on_disk ≡ sum_by (λ (x : MDBXorbInfo). x.metadata.num_bytes_on_disk) xorbs
 
--- cursors in tables that have the rows of the chunk table of these xorbs
+-- the cursors have before them, in some order, the rows of the chunk table of these xorbs
 pub record HoldTables (cursors : List Cursor) (xorbs : List MDBXorbInfo) : Type 0 where
   pub held : List (Cursor × List ChunkTableRow)
   pub cursors_are : map (λ h. h.0) held ≡ cursors
   pub hold : All HoldsRows held
   pub moved : IsPermutation (chunk_table_rows xorbs) (flat_map rows_held held)
 
--- what was gathered of these parts
+-- sections, cursors and sums are those of these parts
 pub record HasGathered (files xorbs : List SectionPart) (cursors : List Cursor) (totals : Totals) (parts : List ShardPart) : Type 0 where
   pub files_held : HoldSections file_records files (map (λ part. part.files) parts)
   pub xorbs_held : HoldSections xorb_records xorbs (map (λ part. part.xorbs) parts)

@@ -19,8 +19,8 @@ abbrev pub CanJoinFiles : FileMap → FileMap → Type 0
 CanJoinFiles a b =
     (q : DataHash) → (r s : MDBFileInfo) → get a q ≡ Some r → get b q ≡ Some s → CanJoinFile r s
 
--- a well-formed record under the hash of the second file: that file, or the first with the parts that
--- only the second has
+-- a file joined with the stored one, if there is one: the stored file with each part that only the
+-- other has, or a copy; it is well-formed and has the other's hash
 pub record IsJoinedFile (own : Option MDBFileInfo) (twin joined : MDBFileInfo) : Type 0 where
   pub file : Some joined ≡ either_file own (Some twin)
   pub hash : file_hash_of joined ≡ file_hash_of twin

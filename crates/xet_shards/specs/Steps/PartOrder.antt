@@ -9,20 +9,20 @@ use Rattle.xet_shards.specs.declared.shard_format.export.section_parts.SectionPa
 use Rattle.xet_shards.specs.Read.TableReading.{FitsStart}
 use Rattle.xet_shards.specs.Write.Tables.{hash_in, starts, table_bytes}
 
--- a part holds the rows of these stored records and their table
+-- a section holds the rows of these stored records, and their table
 pub record HoldsRecords {H R : Type 0} (K : RecordKind H R) (section : SectionPart) (records : List R) : Type 0 where
   pub rows : section.rows.now ≡ flat_map K.record_bytes records
   pub table : section.table.now ≡ table_bytes K records
   pub fits : All FitsStart (starts K records)
   pub stored : All K.IsStored records
 
--- the hash of the last record of a list, if it has one
+-- this is the hash of the last record of a list, or none if the list is empty
 abbrev pub IsLastHash : {H R : Type 0} → RecordKind H R → List R → Option DataHash → Type 0
 IsLastHash K records None = records ≡ []
 IsLastHash {H} {R} K records (Some last) =
     (front : List R) × (r : R) × (records ≡ front ++ r ∷ []) × (hash_in K r ≡ last)
 
--- the hashes of the first and of the last of these records
+-- these are the hashes of the first and of the last record of a list
 pub record HasEnds {H R : Type 0} (K : RecordKind H R) (records : List R) (ends : EndHashes) : Type 0 where
   pub first_record : R
   pub rest : List R
@@ -30,7 +30,7 @@ pub record HasEnds {H R : Type 0} (K : RecordKind H R) (records : List R) (ends 
   pub first_is : hash_in K first_record ≡ ends.first
   pub last_is : IsLastHash K records (Some ends.last)
 
--- whether a hash is above the last one, if there is one
+-- whether a hash is above the last hash, if there is one
 abbrev pub is_after : Option DataHash → DataHash → Bool
 is_after None first = true
 is_after (Some last) first = is_lt (hash_cmp last first)
