@@ -41,7 +41,7 @@ use Rattle.xet_shards.proofs.Write.Sections.{fits_ever}
 use Rattle.xet_shards.proofs.Write.Tables.{length-starts}
 use Rattle.xet_shards.proofs.Write.WrittenTables.{starts_fit, xorb_starts_fit, chunk_table_fits}
 
--- a section more
+-- sections with one section more
 hold_more : {H R : Type 0} (K : RecordKind H R) (sections : List SectionPart) (records : List (List R)) (section : SectionPart) (rs : List R) → HoldSections K sections records
     → section.rows.now ≡ flat_map K.record_bytes rs → section.count ≡ total_rows K rs → section.table.now ≡ table_bytes K rs → All FitsStart (starts K rs)
     → HoldSections K (sections ++ section ∷ []) (records ++ rs ∷ [])
@@ -58,7 +58,7 @@ all_fit rows fit = All-unmap rows fit
     All-unmap : (rows : List ChunkTableRow) → All FitsTriple (map triple_of rows) → All FitsTableRow rows
     All-unmap rows fit k d below = subst FitsTriple (get_or-map triple_of rows k d (triple_of d) below) (fit k (triple_of d) (omega (arith, below, length-map rows triple_of)))
 
--- the row of each row of the chunk table is one of the section
+-- each row of the chunk table names a row of the section
 rows_of_chunks : (row n : ℕ) (cs : List XorbChunkSequenceEntry) (bound : ℕ) → row < bound → All (λ (r : ChunkTableRow). r.row < bound) (map (λ (c : ℕ × XorbChunkSequenceEntry). record { word = c.1.chunk_hash.word0; row = row; index = c.0 }) (enumerate_from n cs))
 rows_of_chunks row n [] bound below = All-nil (λ (r : ChunkTableRow). r.row < bound)
 rows_of_chunks row n (c ∷ cs) bound below =
@@ -72,7 +72,7 @@ rows_within front (x ∷ xorbs) bound few =
     All-append (λ (r : ChunkTableRow). r.row < bound) (chunk_table_rows_from (total_rows xorb_records front) x.chunks) _
     (rows_of_chunks (total_rows xorb_records front) 0 x.chunks bound (omega (arith, few, sum_by-cons xorb_row_count x xorbs))) (rows_within (front ++ x ∷ []) xorbs bound rest)
 
--- what a cursor at the front of a chunk table holds
+-- a cursor at the start of a chunk table has the rows of this table before it
 holds_table : (xorbs : List MDBXorbInfo) (cursor : Cursor) → cursor.rest.now ≡ chunk_table_bytes xorbs → All FitsXorb xorbs → total_rows xorb_records xorbs ≤ 4294967295 → cursor.first + total_rows xorb_records xorbs < 2 ^ 32
     → HoldsRows (cursor, chunk_table xorbs)
 unfolding chunk_table_bytes
@@ -84,7 +84,7 @@ holds_table xorbs cursor bytes fit few fits = record {
       (All-permutation (λ (r : ChunkTableRow). r.row < total_rows xorb_records xorbs) (chunk_table_rows xorbs) (chunk_table xorbs) (table_moved xorbs) (rows_within [] xorbs (total_rows xorb_records xorbs) (omega arith)));
 }
 
--- a table more
+-- cursors with the cursor of one table more
 table_more : (cursors : List Cursor) (before xorbs : List MDBXorbInfo) (cursor : Cursor) → HoldTables cursors before → cursor.first ≡ total_rows xorb_records before
     → HoldsRows (cursor, chunk_table xorbs) → HoldTables (cursors ++ cursor ∷ []) (before ++ xorbs)
 table_more cursors before xorbs cursor hold first holds = record {
@@ -229,11 +229,11 @@ module _ (key : DataHash) (parts : List ShardPart) (shards : List (Bor (List ℕ
     part_bytes : (get_or shards i d).now ≡ bytes_of_part part_here
     part_bytes = sym (get_or-map (λ (x : Bor (List ℕ)). x.now) shards i d [] below) ∙ ap (λ bs. get_or bs i []) (sym are) ∙ get_or-map bytes_of_part parts i no_part [] part_within
 
-    -- a part is split
+    -- the bytes at a place are those of the part there
     pub part_splits : (P : Type 0) → ((key : DataHash) (part : ShardPart) → IsPartUnder key part → (get_or shards i d).now ≡ bytes_of_part part → P) → P
     part_splits P from = from key part_here (fit i no_part part_within) part_bytes
 
-    -- its key is that of all
+    -- the key of a part is the key of all
     pub same_key : (split : Split) → ((key : DataHash) (part : ShardPart) → IsPartUnder key part → (get_or shards i d).now ≡ bytes_of_part part → IsSplitOf part split) → split.footer.chunk_hash_hmac_key ≡ key
     same_key split splits =
         let here = fit i no_part part_within in

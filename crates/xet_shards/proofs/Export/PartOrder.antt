@@ -1,4 +1,4 @@
--- The hashes of parts ascend where those of each do and the first of each is above the last one before it.
+-- The hashes of all parts ascend if those of each do, and the first of each is above the last one before it.
 use Rattle.std.proofs.Common.{◌≡◌, ℕ, ◌+◌, ◌*◌, ◌-◌, ◌<◌, ◌≤◌, ◌^◌, true, false, List, [], ◌∷◌, ◌++◌, length, map, flat_map, take, drop, get_or, Option, None, Some, refl, sym, ap, ◌∙◌, subst, append_assoc, append-nil, arith, true≢false}
 use Rattle.std.specs.Prelude.{All, ◌==◌}
 use Rattle.std.proofs.lemmas.Bool.Decides.{nat_tests}
@@ -31,7 +31,7 @@ use Rattle.xet_shards.proofs.Export.Permutations.{all_at}
 use Rattle.xet_shards.proofs.ShardInMemory.Walks.{flat_map-push}
 use Rattle.xet_shards.proofs.Write.Ranges.{starts-append}
 
--- one list of ascending keys after another, where the first key of the second is above the last of the first
+-- two lists of ascending keys, of which the second begins above the last key of the first, ascend together
 module _ {X : Type 0} (key : X → DataHash) where
   abbrev Rises : List X → Type 0
   Rises xs = IsStrictlySortedBy hash_cmp (map key xs)
@@ -58,7 +58,7 @@ module _ {X : Type 0} (key : X → DataHash) where
   rises_on (x ∷ front) l f rest one other less =
       (all_both x (front ++ l ∷ []) (f ∷ rest) one.0 (last_below x l f front rest one.0 less other.0), rises_on front l f rest one.1 other less)
 
-  -- what ascends does so at the seam, and in front of it
+  -- keys that ascend do so where two lists meet, and in the first list
   pub rises_at : (front : List X) (l f : X) (rest : List X) → Rises ((front ++ l ∷ []) ++ f ∷ rest) → hash_cmp (key l) (key f) ≡ Less
   unfolding IsStrictlySortedBy
   rises_at [] l f rest rises = rises.0.0
@@ -73,12 +73,12 @@ module _ {X : Type 0} (key : X → DataHash) where
   rises_before [] ys rises = tt
   rises_before (x ∷ xs) ys rises = (all_front x xs ys rises.0, rises_before xs ys rises.1)
 
--- the last of some elements
+-- a list with elements has a last one
 last_of : {X : Type 0} (x : X) (xs : List X) → (front : List X) × (l : X) × (x ∷ xs ≡ front ++ l ∷ [])
 last_of x [] = ([], x, refl)
 last_of x (y ∷ ys) = let rest = last_of y ys in (x ∷ rest.0, rest.1, ap (λ zs. x ∷ zs) rest.2)
 
--- records ascend, and this is the hash of the last
+-- the hashes of records ascend, and this is the hash of the last record
 pub record AscendTo {H R : Type 0} (K : RecordKind H R) (records : List R) (last : Option DataHash) : Type 0 where
   pub ascend : Ascends K records
   pub last_is : IsLastHash K records last
@@ -138,7 +138,7 @@ module _ {H R : Type 0} (K : RecordKind H R) (laws : KindLaws K) where
         length-u32_bytes start.1,
       )
 
-  -- a section with records has the first and the last
+  -- a section with records has a first and a last record
   module _ (section : SectionPart) (records : List R) (holds : HoldsRecords K section records) (some : 0 < length records) where
     seam : (front : List R) × (r : R) × (records ≡ front ++ r ∷ [])
     seam = go records some where

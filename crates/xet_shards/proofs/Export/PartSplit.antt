@@ -107,7 +107,7 @@ module _ (part : ShardPart) where
     footer_is = is.footer_is;
   }
 
-  -- its offsets are in order
+  -- the offsets of its footer are in order
   ranges_of_layout : HasRanges (length (bytes_of_part part)) footer
   ranges_of_layout = record {
     files = omega (arith, one, length-append header file_section, head, length-files);
@@ -118,7 +118,7 @@ module _ (part : ShardPart) where
     end = omega (arith, ap length at_chunk_table, length-append ((((header ++ file_section) ++ xorb_section) ++ file_table) ++ xorb_table) (chunk_table ++ end), length-append chunk_table end, four);
   }
 
--- a part has these ends
+-- the bytes of a part have its header and footer
 pub ends_of_part : (key : DataHash) (part : ShardPart) (bytes : List ℕ) → IsPartUnder key part → bytes ≡ bytes_of_part part → HasHeaderAndFooter bytes (info_of part.files part.xorbs (options_in part))
 ends_of_part key part bytes fits are =
     subst (λ bs. HasHeaderAndFooter bs (info_of part.files part.xorbs (options_in part))) (sym are) (ends_of_layout part.files part.xorbs (options_in part) fits.widths)
@@ -128,7 +128,7 @@ ranges_of_part key part bytes info fits are ends =
     let same = only_info bytes info (info_of part.files part.xorbs (options_in part)) ends (ends_of_part key part bytes fits are) in
     subst (λ bs. HasRanges (length bs) info.metadata) (sym are) (subst (λ (i : MDBShardInfo). HasRanges (length (bytes_of_part part)) i.metadata) (sym same) (ranges_of_layout part))
 
--- what was split is what is laid out there
+-- the pieces of a part's bytes are its sections, tables and footer
 pub split_of_part : (key : DataHash) (part : ShardPart) (bytes : List ℕ) (info : MDBShardInfo) (split : Split) → IsPartUnder key part → bytes ≡ bytes_of_part part → HasHeaderAndFooter bytes info
     → IsSplit bytes info.metadata split → IsSplitOf part split
 split_of_part key part bytes info split fits are ends is =

@@ -64,7 +64,7 @@ module _ {X : Type 0} where
       values_are : values (from_sorted {R = hash_cmp} (entries_in shards)) ≡ flat_map (λ s. values (part s)) shards
       values_are = ap (map (λ (e : DataHash × X). e.1)) entries_are ∙ values_in shards
 
--- byte strings of shards are those of shards
+-- byte strings of shards are made of well-formed shards
 are_shards : (shards : List Shard) (bytes : List (List ℕ)) → AreBytesOf shards bytes → All IsShard shards
 are_shards [] bytes is = All-nil IsShard
 are_shards (s ∷ shards) [] is = absurd is

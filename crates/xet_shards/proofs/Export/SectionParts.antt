@@ -22,7 +22,7 @@ use Rattle.xet_shards.proofs.Write.Ranges.{starts-append}
 use Rattle.xet_shards.proofs.Write.Tables.{table_bytes-nil}
 use Rattle.xet_shards.proofs.Write.WrittenTables.{length-start}
 
--- rows of a table were written, so many rows later, and the others are left
+-- rows of a table were written, with row numbers raised, and the others are left
 pub record HasWrittenStarts (first : ℕ) (rows : List (ℕ × ℕ)) (rest : List ℕ) (old now : Option (List ℕ)) : Type 0 where
   pub done : List (ℕ × ℕ)
   pub left : List (ℕ × ℕ)
@@ -64,7 +64,7 @@ one_start_written first rows rest more after word row later old now new before w
               (Appends-trans old now new (flat_map start_row (map (start_later first) before.done)) (start_row (start_later first s)) before.written (subst (λ t. Appends now new (start_row t)) (sym same) wrote));
         }
 
--- what holds of all rows holds of the one that was read
+-- a bound of all row numbers is one of the row that was read
 pub row_read_fits : (first bound : ℕ) (rows : List (ℕ × ℕ)) (rest more after : List ℕ) (word row : ℕ) (old now : Option (List ℕ)) → HasWrittenStarts first rows rest old now
     → word < 2 ^ 64 → row < 2 ^ 32 → rest ≡ u64_bytes word ++ more → more ≡ u32_bytes row ++ after → All (λ s. s.1 + first < bound) rows → row + first < bound
 row_read_fits first bound rows rest more after word row old now before word_fits row_fits one two all = go before.left before.all before.fits before.rest_is
@@ -92,7 +92,7 @@ all_starts_written first rows rest old now before few = go before.left before.al
     go (s ∷ left) all fit is =
         absurd (omega (arith, few, ap length is, length-append (start_row s) (flat_map start_row left), length-start s (fit 0 s (omega arith))))
 
--- the tables of some parts were written, and their rows are so many
+-- the tables of some sections were written, and these have `first` rows
 pub record HasWrittenTables {H R : Type 0} (K : RecordKind H R) (first : ℕ) (records : List (List R)) (old now : Option (List ℕ)) : Type 0 where
   pub rows : first ≡ total_rows K (all_of records)
   pub written : Appends old now (table_bytes K (all_of records))

@@ -62,7 +62,7 @@ pub can_join_more : (es fs : List (DataHash × MDBFileInfo)) (e : DataHash × MD
     → ((s : MDBFileInfo) → get b e.0 ≡ Some s → CanJoinFile e.1 s) → CanJoinEntries fs b
 can_join_more es fs e b push before new = subst (λ gs. CanJoinEntries gs b) (sym push) (All-push (λ d. (s : MDBFileInfo) → get b d.0 ≡ Some s → CanJoinFile d.1 s) es e before new)
 
--- the record that is put where a store has one of this file, or none
+-- the record that is put where a store has the file
 pub joined_file : (o : Option MDBFileInfo) (own file joined : MDBFileInfo) → Some own ≡ o → joined ≡ merged own file → IsWellFormed own → IsWellFormed file → CanJoinFile own file → file_hash_of own ≡ file_hash_of file → IsJoinedFile o file joined
 joined_file o own file joined there is own_formed formed can hash =
     record {
@@ -78,7 +78,7 @@ if_some P (Some x) holds = holds x refl
 pub of_some : {X : Type 0} (P : X → Type 0) (o : Option X) (x : X) → Some x ≡ o → IfSome o P → P x
 of_some P o x is holds = subst (λ p. IfSome p P) (sym is) holds
 
--- the loop has joined these entries with the files of `a`, which makes `m`
+-- the files `m` are those of `a`, joined with the files of these entries
 abbrev pub IsJoined : FileMap → FileMap → List (DataHash × MDBFileInfo) → Type 0
 IsJoined a m es = (q : DataHash) → get m q ≡ either_file (get a q) (entry es q)
 

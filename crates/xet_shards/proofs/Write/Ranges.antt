@@ -66,7 +66,7 @@ chunk_table_rows-append xs ys =
     ap (flat_map rows_of) (with_fronts-append [] xs ys) ∙ flat_map-append rows_of (with_fronts [] xs) (with_fronts xs ys)
     ∙ ap (λ rows. chunk_table_rows xs ++ rows) (ap (λ (before : List MDBXorbInfo). flat_map rows_of (with_fronts before ys)) (sym (append-nil xs)) ∙ chunk_rows_later xs [] ys)
 
--- the rows of both tables, those of the second so many rows later, once they are in order, are the table of both
+-- the rows of two chunk tables, with the row numbers of the second raised, are in ascending order the table of both
 pub chunk_table-append : (xs ys : List MDBXorbInfo) (first second sorted : List ChunkTableRow) → IsPermutation (chunk_table_rows xs) first → IsPermutation (chunk_table_rows ys) second
     → IsPermutation (first ++ map (chunk_row_later (total_rows xorb_records xs)) second) sorted → IsSortedBy (λ x y. is_lt (chunk_table_row_cmp x y)) sorted → chunk_table (xs ++ ys) ≡ sorted
 chunk_table-append xs ys first second sorted one other moved in_order =
