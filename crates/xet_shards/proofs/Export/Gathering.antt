@@ -107,14 +107,6 @@ length-xorb_rows : (xorbs : List MDBXorbInfo) → length (flat_map xorb_records.
 length-xorb_rows xorbs =
     ap (λ n. n / 48) (length-all_record_bytes xorb_records.record_bytes xorb_records.row_count (λ r. Unit {0}) (λ r any. length-xorb_record_bytes r) xorbs (λ i r below. tt)) ∙ mul-div_cancel_left (total_rows xorb_records xorbs) (omega arith)
 
-pub nothing_gathered : (totals : Totals) → totals ≡ record { files = 0; file_rows = 0; xorbs = 0; xorb_rows = 0; materialized_bytes = 0; stored_bytes = 0; stored_bytes_on_disk = 0 } → HasGathered [] [] [] totals []
-nothing_gathered totals is = subst (λ ts. HasGathered [] [] [] ts []) (sym is) (record {
-  files_held = record { rows = refl; counts = refl; tables = refl; fits = All-nil _ };
-  xorbs_held = record { rows = refl; counts = refl; tables = refl; fits = All-nil _ };
-  tables_held = record { held = []; cursors_are = refl; hold = All-nil _; moved = IsPermutation-refl [] };
-  totals_are = record { files_are = refl; file_rows = refl; xorbs_are = refl; xorb_rows = refl; materialized_bytes = refl; stored_bytes = refl; stored_bytes_on_disk = refl };
-})
-
 pub one_gathered : (key : DataHash) (files xorbs : List SectionPart) (cursors : List Cursor) (totals more : Totals) (parts : List ShardPart) (part : ShardPart) (split : Split) (file_part xorb_part : SectionPart) (cursor : Cursor)
     → HasGathered files xorbs cursors totals parts → IsPartUnder key part → IsSplitOf part split → AddsPart totals split more
     → file_part.rows.now ≡ split.files.now → file_part.count ≡ more.file_rows - totals.file_rows → file_part.table.now ≡ split.file_table.now

@@ -31,9 +31,6 @@ pub record HasWrittenStarts (first : ℕ) (rows : List (ℕ × ℕ)) (rest : Lis
   pub rest_is : rest ≡ flat_map start_row left
   pub written : Appends old now (flat_map start_row (map (start_later first) done))
 
-pub no_starts_written : (first : ℕ) (rows : List (ℕ × ℕ)) (table : List ℕ) (old : Option (List ℕ)) → table ≡ flat_map start_row rows → All FitsStart rows → HasWrittenStarts first rows table old old
-no_starts_written first rows table old are fit = record { done = []; left = rows; all = refl; fits = fit; rest_is = are; written = Appends-nil old }
-
 pub map-push : {X Y : Type 0} (f : X → Y) (xs : List X) (x : X) → map f (xs ++ x ∷ []) ≡ map f xs ++ f x ∷ []
 map-push f [] x = refl
 map-push f (y ∷ xs) x = ap (λ ys. f y ∷ ys) (map-push f xs x)

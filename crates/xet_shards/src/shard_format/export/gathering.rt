@@ -11,6 +11,7 @@ use super::section_parts::{SectionPart, add_u32};
 use std::alloc::Global;
 use xet_base::error::{CoreError, Result};
 use xet_base::merklehash::HMACKey;
+use xet_records::rows::ROW_SIZE;
 
 /// Sums over parts: their records, the rows of their sections without bookends, and the sizes in
 /// bytes that their footers name.
@@ -64,8 +65,8 @@ fn with_part(alloc: Global, totals: &Totals, split: &Split<'_>) -> Result<Totals
     ensures causes { IfErr result IsInvalidShard }
 {
     let footer = &split.footer;
-    let file_rows = to_u32(alloc, (split.files.len() / 48) as u64)?;
-    let xorb_rows = to_u32(alloc, (split.xorbs.len() / 48) as u64)?;
+    let file_rows = to_u32(alloc, (split.files.len() / ROW_SIZE) as u64)?;
+    let xorb_rows = to_u32(alloc, (split.xorbs.len() / ROW_SIZE) as u64)?;
     let files = to_u32(alloc, footer.file_lookup_num_entry)?;
     let xorbs = to_u32(alloc, footer.xorb_lookup_num_entry)?;
     Ok(Totals {
