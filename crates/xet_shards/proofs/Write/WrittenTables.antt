@@ -30,6 +30,7 @@ use Rattle.xet_shards.specs.Write.Section.{total_rows, with_fronts, section_byte
 use Rattle.xet_shards.specs.Write.Tables.{ChunkTableRow, hash_in, chunk_table_rows_from, chunk_table_rows, chunk_table, start_of, starts, start_row, chunk_table_row_bytes, table_bytes, chunk_table_bytes}
 use Rattle.xet_shards.specs.Write.Layout.{LayoutOptions, if_included, shard_header_bytes, header_value, shard_footer_bytes, footer_value, layout_of, layout_in, info_value_in, plain_options_in}
 use Rattle.xet_shards.specs.Read.TableReading.{FitsStart, triple_of, triple_row, FitsTriple}
+use Rattle.xet_shards.specs.Steps.ChunkMerging.{FitsTableRow}
 use Rattle.xet_shards.proofs.Write.ChunkTableRows.{alone, keys-alone, chunk_table_row}
 use Rattle.xet_shards.proofs.Write.Layouts.{length-shard_header_bytes}
 use Rattle.xet_shards.proofs.Content.Maps.{All-keys-from_entries}
@@ -121,10 +122,7 @@ module _ (files : List MDBFileInfo) (xorbs : List MDBXorbInfo) (options : Layout
       (append_assoc (before_tables ++ if_included options.xorb_table (table_bytes xorb_records xorbs)) (if_included options.chunk_table (chunk_table_bytes xorbs)) after_tables)
       ∙ ap (λ bs. bs ++ after_tables) (rows_in options.chunk_table chunk_table_row_bytes (chunk_table xorbs) ∙ sym (flat_map-map triple_row triple_of (if_included options.chunk_table (chunk_table xorbs))))
 
--- the numbers of the rows are within their widths
-abbrev FitsTableRow : ChunkTableRow → Type 0
-FitsTableRow p = FitsTriple (triple_of p)
-
+-- the numbers of the rows of tables are within their widths
 pub starts_fit : {H R : Type 0} (K : RecordKind H R) (front records : List R) → All (λ r. (hash_in K r).word0 < 2 ^ 64) records → ((r : R) → 0 < K.row_count r)
     → total_rows K front + total_rows K records ≤ 4294967295 → All FitsStart (map (start_of K) (with_fronts front records))
 starts_fit K front [] fit some few = All-nil FitsStart
