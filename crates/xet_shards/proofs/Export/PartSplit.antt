@@ -1,10 +1,11 @@
 -- The parts of the bytes of a layout with all tables.
-use Rattle.std.proofs.Common.{◌≡◌, ℕ, ◌+◌, ◌-◌, List, ◌++◌, length, flat_map, drop, refl, sym, ap, ◌∙◌, subst, append_assoc, arith}
-use Rattle.std.specs.Prelude.{slice_range}
+use Rattle.std.proofs.Common.{◌≡◌, ℕ, ◌+◌, ◌-◌, ◌*◌, ◌%◌, List, ◌++◌, length, flat_map, drop, refl, sym, ap, ◌∙◌, subst, append_assoc, arith}
+use Rattle.std.specs.Prelude.{All, slice_range}
+use Rattle.std.proofs.Math.Nat.{mul-mod_right}
 use Rattle.std.proofs.lemmas.List.{length-append}
 use Rattle.xet_base.specs.declared.merklehash.DataHash.{DataHash}
 use Rattle.xet_base.proofs.Lists.{front_is, rest_is}
-use Rattle.xet_records.specs.FileRecord.{file_records, file_bookend}
+use Rattle.xet_records.specs.FileRecord.{FitsRecord, file_records, file_bookend}
 use Rattle.xet_records.specs.FileRow.{header_row}
 use Rattle.xet_records.specs.XorbRecord.{xorb_records, xorb_bookend}
 use Rattle.xet_records.specs.XorbRow.{xorb_header_row}
@@ -16,10 +17,12 @@ use Rattle.xet_shards.specs.Ends.Ends.{HasHeaderAndFooter}
 use Rattle.xet_shards.specs.Export.InARow.{ShardPart, options_in, bytes_of_part, IsPartUnder}
 use Rattle.xet_shards.specs.Steps.InARow.{HasRanges, IsSplit, IsSplitOf}
 use Rattle.xet_shards.specs.Write.Layout.{LayoutOptions, footer_value, header_value, info_of, shard_header_bytes, shard_footer_bytes, layout_of}
-use Rattle.xet_shards.specs.Write.Section.{section_bytes}
+use Rattle.xet_shards.specs.Write.Section.{total_rows, section_bytes}
 use Rattle.xet_shards.specs.Write.Tables.{table_bytes, chunk_table_bytes}
 use Rattle.xet_shards.proofs.Ends.EndsUnique.{only_info, ends_of_layout}
-use Rattle.xet_shards.proofs.Write.Layouts.{length-shard_header_bytes}
+use Rattle.xet_shards.proofs.Write.Layouts.{length-shard_header_bytes, length-file_section, length-xorb_section}
+use Rattle.xet_shards.proofs.Write.Sections.{fits_ever}
+use Rattle.xet_shards.proofs.Write.Tables.{length-starts, length-table_bytes}
 
 -- a part between two others
 pub piece : (xs front mid rest : List ℕ) (a b : ℕ) → xs ≡ front ++ (mid ++ rest) → length front ≡ a → a + length mid ≡ b → slice_range xs a b ≡ mid
@@ -108,12 +111,19 @@ module _ (part : ShardPart) where
   }
 
   -- the offsets of its footer are in order
-  ranges_of_layout : HasRanges (length (bytes_of_part part)) footer
-  ranges_of_layout = record {
+  ranges_of_layout : All FitsRecord part.files → HasRanges (length (bytes_of_part part)) footer
+  ranges_of_layout fit = record {
     files = omega (arith, one, length-append header file_section, head, length-files);
     xorbs = omega (arith, two, length-append (header ++ file_section) xorb_section, one, length-xorbs);
-    file_table = omega (arith, three, length-append ((header ++ file_section) ++ xorb_section) file_table, two);
-    xorb_table = omega (arith, four, length-append (((header ++ file_section) ++ xorb_section) ++ file_table) xorb_table, three);
+    file_rows =
+        let rows : footer.xorb_info_offset ≡ 48 * (total_rows file_records part.files + 2) = omega (arith, length-file_section part.files fit) in
+        ap (λ n. n % 48) rows ∙ mul-mod_right 48 (total_rows file_records part.files + 2);
+    xorb_rows =
+        let rows : footer.file_lookup_offset ≡ 48 * (total_rows file_records part.files + total_rows xorb_records part.xorbs + 3) =
+        omega (arith, length-file_section part.files fit, length-xorb_section part.xorbs) in
+        ap (λ n. n % 48) rows ∙ mul-mod_right 48 (total_rows file_records part.files + total_rows xorb_records part.xorbs + 3);
+    file_table = omega (arith, length-table_bytes file_records part.files, length-starts file_records part.files);
+    xorb_table = omega (arith, length-table_bytes xorb_records part.xorbs, length-starts xorb_records part.xorbs);
     chunk_table = omega arith;
     end = omega (arith, ap length at_chunk_table, length-append ((((header ++ file_section) ++ xorb_section) ++ file_table) ++ xorb_table) (chunk_table ++ end), length-append chunk_table end, four);
   }
@@ -126,7 +136,8 @@ ends_of_part key part bytes fits are =
 pub ranges_of_part : (key : DataHash) (part : ShardPart) (bytes : List ℕ) (info : MDBShardInfo) → IsPartUnder key part → bytes ≡ bytes_of_part part → HasHeaderAndFooter bytes info → HasRanges (length bytes) info.metadata
 ranges_of_part key part bytes info fits are ends =
     let same = only_info bytes info (info_of part.files part.xorbs (options_in part)) ends (ends_of_part key part bytes fits are) in
-    subst (λ bs. HasRanges (length bs) info.metadata) (sym are) (subst (λ (i : MDBShardInfo). HasRanges (length (bytes_of_part part)) i.metadata) (sym same) (ranges_of_layout part))
+    let widths : All FitsRecord part.files = λ k r below. ((fits_ever file_records part.version part.files fits.files_fit).stored k r below).widths in
+    subst (λ bs. HasRanges (length bs) info.metadata) (sym are) (subst (λ (i : MDBShardInfo). HasRanges (length (bytes_of_part part)) i.metadata) (sym same) (ranges_of_layout part widths))
 
 -- the pieces of a part's bytes are its sections, tables and footer
 pub split_of_part : (key : DataHash) (part : ShardPart) (bytes : List ℕ) (info : MDBShardInfo) (split : Split) → IsPartUnder key part → bytes ≡ bytes_of_part part → HasHeaderAndFooter bytes info

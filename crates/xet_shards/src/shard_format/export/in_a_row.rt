@@ -19,7 +19,7 @@ use super::chunk_merging::write_merged_rows;
 use super::gathering::{GatheredParts, Totals, gather};
 use super::part_order::check_order;
 use super::part_split::split_shard;
-use super::section_parts::{write_rows, write_tables};
+use super::section_parts::{TABLE_ROW_SIZE, write_rows, write_tables};
 use crate::shard_format::ends::footer::MDBShardFileFooter;
 use crate::shard_format::ends::header::{HEADER_SIZE, MDBShardFileHeader};
 use crate::shard_format::ends::info::MDBShardInfo;
@@ -39,12 +39,13 @@ use xet_records::xorb_structs::MDBXorbInfo;
 ///
 /// `InvalidArguments` if there is no shard, if the keys differ, or if the hashes of files, or of
 /// xorbs, don't ascend from one shard to the next. Then nothing is written. `InvalidShard` if the
-/// offsets of a footer are not in order, or if a section does not have the last record that its
-/// table names. Also if the rows of a section pass 4294967295, if a sum of sizes in bytes passes 64
-/// bits, if a chunk table does not ascend, or if the chunk tables together do not have a row for
-/// each chunk. `ShardVersion` or `UnexpectedEof` if a shard has no supported header or footer. Any
-/// other error is the writer's, or `OutOfMemory` if an allocation fails. Only these two can occur
-/// if the shards are under one key, if all hashes ascend, and if the rows and sizes fit one shard.
+/// offsets of a footer are not in order or don't fit the rows that it counts, or if a section does
+/// not have the last record that its table names. Also if the rows of a section pass 4294967295, if
+/// a sum of sizes in bytes passes 64 bits, if a chunk table does not ascend, or if the chunk tables
+/// together do not have a row for each chunk. `ShardVersion` or `UnexpectedEof` if a shard has no
+/// supported header or footer. Any other error is the writer's, or `OutOfMemory` if an allocation
+/// fails. Only these two can occur if the shards are under one key, if all hashes ascend, and if
+/// the rows and sizes fit one shard.
 pub fn shards_in_a_row<W: Write>(
     alloc: Global,
     shards: &[&[u8]],
@@ -166,10 +167,11 @@ fn footer_of_parts(totals: &Totals, chunks: u32, key: HMACKey) -> MDBShardFileFo
         → result ≡ footer_value files xorbs (options_under key) }
 {
     let row_size = ROW_SIZE as u64;
+    let table_row_size = TABLE_ROW_SIZE as u64;
     let xorb_info_offset = HEADER_SIZE + row_size * u64::from(totals.file_rows) + row_size;
     let file_lookup_offset = xorb_info_offset + row_size * u64::from(totals.xorb_rows) + row_size;
-    let xorb_lookup_offset = file_lookup_offset + 12 * u64::from(totals.files);
-    let chunk_lookup_offset = xorb_lookup_offset + 12 * u64::from(totals.xorbs);
+    let xorb_lookup_offset = file_lookup_offset + table_row_size * u64::from(totals.files);
+    let chunk_lookup_offset = xorb_lookup_offset + table_row_size * u64::from(totals.xorbs);
     MDBShardFileFooter {
         file_info_offset: HEADER_SIZE,
         xorb_info_offset,

@@ -1,10 +1,11 @@
 //! The bytes of a shard, split into sections, tables and footer.
 
-ghost use Rattle.std.specs.Prelude.{◌≡◌, ◌<◌, ◌⊎◌, length, IfErr, MatchOption, MatchResult, slice_range};
+ghost use Rattle.std.specs.Prelude.{◌≡◌, ◌+◌, ◌*◌, ◌<◌, ◌⊎◌, length, IfErr, MatchOption, MatchResult, slice_range};
 ghost use Rattle.xet_shards.specs.Export.InARow.{ShardPart, bytes_of_part, IsPartUnder, IsNoPart};
 ghost use Rattle.xet_shards.specs.Steps.InARow.{HasRanges, IsSplit, IsSplitOf};
 ghost use Rattle.xet_base.specs.declared.merklehash.DataHash.{DataHash};
 
+use super::section_parts::TABLE_ROW_SIZE;
 use crate::shard_format::ends::footer::MDBShardFileFooter;
 use crate::shard_format::ends::header::HEADER_SIZE;
 use crate::shard_format::ends::info::MDBShardInfo;
@@ -37,26 +38,55 @@ fn range_of(bytes: &[u8], from: u64, to: u64) -> Option<&[u8]>
     Some(&bytes[from as usize..to as usize])
 }
 
-// The pieces between the offsets that the footer names, or `None` if these are not in order.
+// The bytes of a table from one offset up to another, or `None` if it does not have so many rows or
+// is past the end.
+fn table_of(bytes: &[u8], from: u64, rows: u64, to: u64) -> Option<&[u8]>
+    ensures { MatchOption result (to ≡ from + 12 * rows → length bytes.now < to)
+        (λ part. part.now ≡ slice_range bytes.now from to) }
+{
+    let size = rows.checked_mul(TABLE_ROW_SIZE as u64)?;
+    if from.checked_add(size)? != to {
+        return None;
+    }
+    range_of(bytes, from, to)
+}
+
+// The pieces between the offsets that the footer names. `None` if these are not in order, if a
+// section does not have whole rows, or if the file table or the xorb table does not have the
+// footer's number of rows.
 fn parts_at<'a>(bytes: &'a [u8], footer: &MDBShardFileFooter) -> Option<Split<'a>>
     ensures { MatchOption result (HasRanges (length bytes.now) footer.now → ⊥)
         (IsSplit bytes.now footer.now) }
 {
     let row_size = ROW_SIZE as u64;
+    if footer.xorb_info_offset % row_size != 0 || footer.file_lookup_offset % row_size != 0 {
+        return None;
+    }
     let files_end = footer.xorb_info_offset.checked_sub(row_size)?;
     let xorbs_end = footer.file_lookup_offset.checked_sub(row_size)?;
     Some(Split {
         files: range_of(bytes, HEADER_SIZE, files_end)?,
         xorbs: range_of(bytes, footer.xorb_info_offset, xorbs_end)?,
-        file_table: range_of(bytes, footer.file_lookup_offset, footer.xorb_lookup_offset)?,
-        xorb_table: range_of(bytes, footer.xorb_lookup_offset, footer.chunk_lookup_offset)?,
+        file_table: table_of(
+            bytes,
+            footer.file_lookup_offset,
+            footer.file_lookup_num_entry,
+            footer.xorb_lookup_offset,
+        )?,
+        xorb_table: table_of(
+            bytes,
+            footer.xorb_lookup_offset,
+            footer.xorb_lookup_num_entry,
+            footer.chunk_lookup_offset,
+        )?,
         chunk_table: range_of(bytes, footer.chunk_lookup_offset, footer.footer_offset)?,
         footer: *footer,
     })
 }
 
 /// The pieces of a shard's bytes. `ShardVersion` or `UnexpectedEof` if header or footer are not
-/// those of a shard, `InvalidShard` if the footer's offsets are not in order or are past the bytes.
+/// those of a shard, `InvalidShard` if the footer's offsets are not in order, are past the bytes,
+/// or leave a section or table no room for its whole rows.
 pub(in crate::shard_format) fn split_shard(alloc: Global, bytes: &[u8]) -> Result<Split<'_>>
     ensures split { (key : DataHash) → (part : ShardPart) → IsPartUnder key part
         → bytes.now ≡ bytes_of_part part → MatchResult result (IsSplitOf part) (λ e. ⊥) }

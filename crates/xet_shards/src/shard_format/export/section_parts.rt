@@ -17,6 +17,9 @@ use xet_base::fields::{put_u32, put_u64, split_u32, split_u64};
 use xet_base::serialization_utils::write_bytes;
 use xet_records::record_reader::SectionRecord;
 
+/// The bytes of a row of the file table or of the xorb table.
+pub(in crate::shard_format) const TABLE_ROW_SIZE: usize = 12;
+
 /// A section of one shard: its rows without the bookend, their number, and the table of its
 /// records.
 #[derive(Clone, Copy, Debug)]
@@ -77,8 +80,8 @@ pub(in crate::shard_format) fn add_u32(alloc: Global, first: u32, count: u32) ->
     }
 }
 
-// Writes the rows of a table, with `first` added to each row number. Bytes after the last whole row
-// are left out. `InvalidShard` if a row number passes `u32`; else the error is the writer's.
+// Writes the whole rows of a table, with `first` added to each row number. `InvalidShard` if a row
+// number passes `u32`; else the error is the writer's.
 fn write_later<W: Write>(alloc: Global, writer: &mut W, table: &[u8], first: u32) -> Result<()>
     ensures bytes { (rows : List (ℕ × ℕ)) → table.now ≡ flat_map start_row rows → All FitsStart rows
         → OnOk result
@@ -90,7 +93,7 @@ fn write_later<W: Write>(alloc: Global, writer: &mut W, table: &[u8], first: u32
     ensures causes { IfErr result IsBadPart }
 {
     let mut rest = table;
-    while rest.len() >= 12 {
+    while rest.len() >= TABLE_ROW_SIZE {
         let (word, after) = split_u64(rest);
         let (row, after) = split_u32(after);
         write_start(writer, word, add_u32(alloc, row, first)?)?;
@@ -105,7 +108,7 @@ fn write_start<W: Write>(writer: &mut W, word: u64, row: u32) -> Result<()>
         (Appends (W.contents writer.old) (W.contents writer.new) (start_row (word, row))) }
     ensures causes { IfErr result IsWriteError }
 {
-    let mut bytes = [0u8; 12];
+    let mut bytes = [0u8; TABLE_ROW_SIZE];
     let at = put_u64(&mut bytes, 0, word);
     put_u32(&mut bytes, at, row);
     write_bytes(writer, &bytes)?;
