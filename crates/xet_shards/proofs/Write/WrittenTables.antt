@@ -27,7 +27,7 @@ use Rattle.xet_shards.specs.declared.shard_format.ends.footer.MDBShardFileFooter
 use Rattle.xet_shards.specs.declared.shard_format.ends.info.MDBShardInfo.{MDBShardInfo}
 use Rattle.xet_shards.specs.Content.Shard.{Shard, IsShard}
 use Rattle.xet_shards.specs.Write.Section.{total_rows, with_fronts, section_bytes}
-use Rattle.xet_shards.specs.Write.Tables.{ChunkTableRow, hash_in, chunk_table_rows_from, chunk_table_rows, chunk_table, start_of, starts, start_row, chunk_table_row_bytes, table_bytes, chunk_table_bytes}
+use Rattle.xet_shards.specs.Write.Tables.{hash_in, chunk_table_rows_from, chunk_table_rows, chunk_table, start_of, starts, start_row, chunk_table_row_bytes, table_bytes, chunk_table_bytes}
 use Rattle.xet_shards.specs.Write.Layout.{LayoutOptions, if_included, shard_header_bytes, header_value, shard_footer_bytes, footer_value, layout_of, layout_in, info_value_in, plain_options_in}
 use Rattle.xet_shards.specs.Read.TableReading.{FitsStart, triple_of, triple_row, FitsTriple}
 use Rattle.xet_shards.specs.Steps.ChunkMerging.{FitsTableRow}
