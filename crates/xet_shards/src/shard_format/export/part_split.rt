@@ -1,6 +1,6 @@
 //! The bytes of a shard, split into sections, tables and footer.
 
-ghost use Rattle.std.specs.Prelude.{◌≡◌, ◌+◌, ◌*◌, ◌<◌, ◌⊎◌, length, IfErr, MatchOption, MatchResult, slice_range};
+ghost use Rattle.std.specs.Prelude.{◌≡◌, ◌+◌, ◌*◌, ◌<◌, ◌≤◌, ◌⊎◌, length, IfOk, IfErr, MatchOption, MatchResult, slice_range};
 ghost use Rattle.xet_shards.specs.Export.InARow.{ShardPart, bytes_of_part, IsPartUnder, IsNoPart};
 ghost use Rattle.xet_shards.specs.Steps.InARow.{HasRanges, IsSplit, IsSplitOf};
 ghost use Rattle.xet_base.specs.declared.merklehash.DataHash.{DataHash};
@@ -30,7 +30,8 @@ pub(in crate::shard_format) struct Split<'a> {
 // end.
 fn range_of(bytes: &[u8], from: u64, to: u64) -> Option<&[u8]>
     ensures { MatchOption result ((to < from) ⊎ (length bytes.now < to))
-        (λ part. part.now ≡ slice_range bytes.now from to) }
+        (λ part. (from ≤ to) × (to ≤ length bytes.now)
+        × (part.now ≡ slice_range bytes.now from to)) }
 {
     if from > to || to > bytes.len() as u64 {
         return None;
@@ -42,7 +43,8 @@ fn range_of(bytes: &[u8], from: u64, to: u64) -> Option<&[u8]>
 // is past the end.
 fn table_of(bytes: &[u8], from: u64, rows: u64, to: u64) -> Option<&[u8]>
     ensures { MatchOption result (to ≡ from + 12 * rows → length bytes.now < to)
-        (λ part. part.now ≡ slice_range bytes.now from to) }
+        (λ part. (to ≡ from + 12 * rows) × (to ≤ length bytes.now)
+        × (part.now ≡ slice_range bytes.now from to)) }
 {
     let size = rows.checked_mul(TABLE_ROW_SIZE as u64)?;
     if from.checked_add(size)? != to {
@@ -56,7 +58,8 @@ fn table_of(bytes: &[u8], from: u64, rows: u64, to: u64) -> Option<&[u8]>
 // footer's number of rows.
 fn parts_at<'a>(bytes: &'a [u8], footer: &MDBShardFileFooter) -> Option<Split<'a>>
     ensures { MatchOption result (HasRanges (length bytes.now) footer.now → ⊥)
-        (IsSplit bytes.now footer.now) }
+        (λ split. HasRanges (length bytes.now) footer.now
+        × IsSplit bytes.now footer.now split) }
 {
     let row_size = ROW_SIZE as u64;
     if footer.xorb_info_offset % row_size != 0 || footer.file_lookup_offset % row_size != 0 {
@@ -90,6 +93,8 @@ fn parts_at<'a>(bytes: &'a [u8], footer: &MDBShardFileFooter) -> Option<Split<'a
 pub(in crate::shard_format) fn split_shard(alloc: Global, bytes: &[u8]) -> Result<Split<'_>>
     ensures split { (key : DataHash) → (part : ShardPart) → IsPartUnder key part
         → bytes.now ≡ bytes_of_part part → MatchResult result (IsSplitOf part) (λ e. ⊥) }
+    ensures ranges { IfOk result (λ split. HasRanges (length bytes.now) split.footer
+        × IsSplit bytes.now split.footer split) }
     ensures causes { IfErr result (IsNoPart bytes.now) }
 {
     let mut source = MemorySource::new(bytes);
