@@ -245,9 +245,9 @@ fn has_its_parts(file_info: &MDBFileInfo, twin: &MDBFileInfo) -> bool
 {
     let own = &file_info.metadata;
     let other = &twin.metadata;
-    (own.contains_verification() | !other.contains_verification())
-        & (own.contains_metadata_ext() | !other.contains_metadata_ext())
-        & (own.contains_aux_ext() | !other.contains_aux_ext())
+    (own.contains_verification() || !other.contains_verification())
+        && (own.contains_metadata_ext() || !other.contains_metadata_ext())
+        && (own.contains_aux_ext() || !other.contains_aux_ext())
 }
 
 /// Whether a record can be in a store.

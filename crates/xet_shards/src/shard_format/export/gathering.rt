@@ -15,7 +15,7 @@ use xet_records::rows::ROW_SIZE;
 
 /// Sums over parts: their records, the rows of their sections without bookends, and the sizes in
 /// bytes that their footers name.
-#[derive(Clone, Copy, Debug)]
+#[derive(Clone, Copy, Debug, Default)]
 pub(in crate::shard_format) struct Totals {
     pub files: u32,
     pub file_rows: u32,
@@ -107,15 +107,7 @@ pub(in crate::shard_format) fn gather<'a>(
     let mut files = Vec::new(alloc);
     let mut xorbs = Vec::new(alloc);
     let mut cursors = Vec::new(alloc);
-    let mut totals = Totals {
-        files: 0,
-        file_rows: 0,
-        xorbs: 0,
-        xorb_rows: 0,
-        materialized_bytes: 0,
-        stored_bytes: 0,
-        stored_bytes_on_disk: 0,
-    };
+    let mut totals = Totals::default();
     for shard in shards {
         let split = split_shard(alloc, *shard)?;
         if split.footer.chunk_hash_hmac_key != key {
