@@ -87,9 +87,11 @@ fn parts_at<'a>(bytes: &'a [u8], footer: &MDBShardFileFooter) -> Option<Split<'a
     })
 }
 
-/// The pieces of a shard's bytes. `ShardVersion` or `UnexpectedEof` if header or footer are not
-/// those of a shard, `InvalidShard` if the footer's offsets are not in order, are past the bytes,
-/// or leave a section or table no room for its whole rows.
+/// The pieces of a shard's bytes.
+///
+/// `ShardVersion` or `UnexpectedEof` if the bytes have no supported header or footer. `InvalidShard`
+/// if the footer's offsets are not in order or past the bytes, if a section does not have whole
+/// rows, or if its table does not have as many rows as the footer counts.
 pub(in crate::shard_format) fn split_shard(alloc: Global, bytes: &[u8]) -> Result<Split<'_>>
     ensures split { (key : DataHash) → (part : ShardPart) → IsPartUnder key part
         → bytes.now ≡ bytes_of_part part → MatchResult result (IsSplitOf part) (λ e. ⊥) }
