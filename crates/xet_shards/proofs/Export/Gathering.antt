@@ -19,7 +19,7 @@ use Rattle.xet_records.proofs.Lengths.{length-file_record_bytes, length-xorb_rec
 use Rattle.xet_shards.specs.declared.shard_format.ends.footer.MDBShardFileFooter.{MDBShardFileFooter}
 use Rattle.xet_shards.specs.declared.shard_format.export.chunk_merging.Cursor.{Cursor}
 use Rattle.xet_shards.specs.declared.shard_format.export.gathering.Totals.{Totals}
-use Rattle.xet_shards.specs.declared.shard_format.export.part_split.Split.{Split}
+use Rattle.xet_shards.specs.declared.shard_format.export.part_split.SplitShard.{SplitShard}
 use Rattle.xet_shards.specs.declared.shard_format.export.section_parts.SectionPart.{SectionPart}
 use Rattle.xet_shards.specs.Export.InARow.{ShardPart, bytes_of_part, IsPartUnder, files_in, xorbs_in, FitTogether}
 use Rattle.xet_shards.specs.Steps.InARow.{HoldSections, IsSplitOf}
@@ -107,7 +107,7 @@ length-xorb_rows : (xorbs : List MDBXorbInfo) → length (flat_map xorb_records.
 length-xorb_rows xorbs =
     ap (λ n. n / 48) (length-all_record_bytes xorb_records.record_bytes xorb_records.row_count (λ r. Unit {0}) (λ r any. length-xorb_record_bytes r) xorbs (λ i r below. tt)) ∙ mul-div_cancel_left (total_rows xorb_records xorbs) (omega arith)
 
-pub one_gathered : (key : DataHash) (files xorbs : List SectionPart) (cursors : List Cursor) (totals more : Totals) (parts : List ShardPart) (part : ShardPart) (split : Split) (file_part xorb_part : SectionPart) (cursor : Cursor)
+pub one_gathered : (key : DataHash) (files xorbs : List SectionPart) (cursors : List Cursor) (totals more : Totals) (parts : List ShardPart) (part : ShardPart) (split : SplitShard) (file_part xorb_part : SectionPart) (cursor : Cursor)
     → HasGathered files xorbs cursors totals parts → IsPartUnder key part → IsSplitOf part split → AddsPart totals split more
     → file_part.rows.now ≡ split.files.now → file_part.count ≡ more.file_rows - totals.file_rows → file_part.table.now ≡ split.file_table.now
     → xorb_part.rows.now ≡ split.xorbs.now → xorb_part.count ≡ more.xorb_rows - totals.xorb_rows → xorb_part.table.now ≡ split.xorb_table.now
@@ -157,7 +157,7 @@ abbrev on_disk_of : MDBXorbInfo → ℕ
 on_disk_of x = x.metadata.num_bytes_on_disk
 
 -- where the sums over all parts fit, so do those with one part more
-fit_with : (key : DataHash) (parts : List ShardPart) (i : ℕ) (d part : ShardPart) (files xorbs : List SectionPart) (cursors : List Cursor) (totals : Totals) (split : Split) → i < length parts → get_or parts i d ≡ part
+fit_with : (key : DataHash) (parts : List ShardPart) (i : ℕ) (d part : ShardPart) (files xorbs : List SectionPart) (cursors : List Cursor) (totals : Totals) (split : SplitShard) → i < length parts → get_or parts i d ≡ part
     → FitTogether (files_in parts) (xorbs_in parts) → IsPartUnder key part → HasGathered files xorbs cursors totals (take i parts) → IsSplitOf part split → FitWith totals split
 fit_with key parts i d part files xorbs cursors totals split below part_is fit fits before is =
     let file_fits = fits_ever file_records part.version part.files fits.files_fit in
@@ -226,18 +226,18 @@ module _ (key : DataHash) (parts : List ShardPart) (shards : List (Bor (List ℕ
     part_splits P from = from key part_here (fit i no_part part_within) part_bytes
 
     -- the key of a part is the key of all
-    pub same_key : (split : Split) → ((key : DataHash) (part : ShardPart) → IsPartUnder key part → (get_or shards i d).now ≡ bytes_of_part part → IsSplitOf part split) → split.footer.chunk_hash_hmac_key ≡ key
+    pub same_key : (split : SplitShard) → ((key : DataHash) (part : ShardPart) → IsPartUnder key part → (get_or shards i d).now ≡ bytes_of_part part → IsSplitOf part split) → split.footer.chunk_hash_hmac_key ≡ key
     same_key split splits =
         let here = fit i no_part part_within in
         ap (λ (f : MDBShardFileFooter). f.chunk_hash_hmac_key) (splits key part_here here part_bytes).footer_is ∙ here.key_is
 
-    pub part_fits : (files xorbs : List SectionPart) (cursors : List Cursor) (totals : Totals) (split : Split) → HasGathered files xorbs cursors totals (take i parts)
+    pub part_fits : (files xorbs : List SectionPart) (cursors : List Cursor) (totals : Totals) (split : SplitShard) → HasGathered files xorbs cursors totals (take i parts)
         → ((key : DataHash) (part : ShardPart) → IsPartUnder key part → (get_or shards i d).now ≡ bytes_of_part part → IsSplitOf part split) → FitTogether (files_in parts) (xorbs_in parts) → FitWith totals split
     part_fits files xorbs cursors totals split before splits together =
         let here = fit i no_part part_within in
         fit_with key parts i no_part part_here files xorbs cursors totals split part_within refl together here before (splits key part_here here part_bytes)
 
-  pub gathered_next : (files xorbs : List SectionPart) (cursors : List Cursor) (totals more : Totals) (i : ℕ) (d : Bor (List ℕ)) (split : Split) → i < length shards → HasGathered files xorbs cursors totals (take i parts)
+  pub gathered_next : (files xorbs : List SectionPart) (cursors : List Cursor) (totals more : Totals) (i : ℕ) (d : Bor (List ℕ)) (split : SplitShard) → i < length shards → HasGathered files xorbs cursors totals (take i parts)
       → ((key : DataHash) (part : ShardPart) → IsPartUnder key part → (get_or shards i d).now ≡ bytes_of_part part → IsSplitOf part split) → AddsPart totals split more → more.xorb_rows < 2 ^ 32
       → HasGathered (files ++ record { rows = split.files; count = more.file_rows - totals.file_rows; table = split.file_table } ∷ []) (xorbs ++ record { rows = split.xorbs; count = more.xorb_rows - totals.xorb_rows; table = split.xorb_table } ∷ [])
       (cursors ++ record { rest = split.chunk_table; first = totals.xorb_rows } ∷ []) more (take (i + 1) parts)

@@ -19,7 +19,7 @@ use Rattle.xet_records.specs.XorbRecord.{xorb_records}
 use Rattle.xet_shards.specs.declared.shard_format.ends.footer.MDBShardFileFooter.{MDBShardFileFooter}
 use Rattle.xet_shards.specs.declared.shard_format.export.chunk_merging.Cursor.{Cursor}
 use Rattle.xet_shards.specs.declared.shard_format.export.gathering.Totals.{Totals}
-use Rattle.xet_shards.specs.declared.shard_format.export.part_split.Split.{Split}
+use Rattle.xet_shards.specs.declared.shard_format.export.part_split.SplitShard.{SplitShard}
 use Rattle.xet_shards.specs.declared.shard_format.export.section_parts.SectionPart.{SectionPart}
 use Rattle.xet_shards.specs.Export.InARow.{ShardPart, bytes_of_part, IsPartUnder, files_in, xorbs_in, options_under, AscendBoth, HaveFewRows, FitTogether, ArePartsInARow, AreBytesOf, AreInARow, AppendsShardsInARow}
 use Rattle.xet_shards.specs.Steps.Gathering.{HasTotals, HasGathered}
@@ -133,7 +133,7 @@ in_order key parts files xorbs cursors totals fit each held files_checked xorbs_
 }
 
 -- the key of the first part is that of all
-pub first_key : (key : DataHash) (parts : List ShardPart) (shards : List (Bor (List ℕ))) (d : Bor (List ℕ)) (split : Split) → All (IsPartUnder key) parts → map bytes_of_part parts ≡ map (λ x. x.now) shards → 0 < length shards
+pub first_key : (key : DataHash) (parts : List ShardPart) (shards : List (Bor (List ℕ))) (d : Bor (List ℕ)) (split : SplitShard) → All (IsPartUnder key) parts → map bytes_of_part parts ≡ map (λ x. x.now) shards → 0 < length shards
     → ((key : DataHash) (part : ShardPart) → IsPartUnder key part → (get_or shards 0 d).now ≡ bytes_of_part part → IsSplitOf part split) → split.footer.chunk_hash_hmac_key ≡ key
 first_key key [] [] d split fit are some splits = absurd (omega (arith, some))
 first_key key [] (shard ∷ shards) d split fit are some splits = absurd (omega (arith, ap length are))

@@ -12,7 +12,7 @@ use Rattle.xet_records.specs.XorbRow.{xorb_header_row}
 use Rattle.xet_records.proofs.Lengths.{length-header_row, length-xorb_header_row}
 use Rattle.xet_shards.specs.declared.shard_format.ends.footer.MDBShardFileFooter.{MDBShardFileFooter}
 use Rattle.xet_shards.specs.declared.shard_format.ends.info.MDBShardInfo.{MDBShardInfo}
-use Rattle.xet_shards.specs.declared.shard_format.export.part_split.Split.{Split}
+use Rattle.xet_shards.specs.declared.shard_format.export.part_split.SplitShard.{SplitShard}
 use Rattle.xet_shards.specs.Ends.Ends.{HasHeaderAndFooter}
 use Rattle.xet_shards.specs.Export.InARow.{ShardPart, options_in, bytes_of_part, IsPartUnder}
 use Rattle.xet_shards.specs.Steps.InARow.{HasRanges, IsSplit, IsSplitOf}
@@ -100,7 +100,7 @@ module _ (part : ShardPart) where
   four : length ((((header ++ file_section) ++ xorb_section) ++ file_table) ++ xorb_table) ≡ footer.chunk_lookup_offset
   four = length-append (((header ++ file_section) ++ xorb_section) ++ file_table) xorb_table ∙ ap (λ n. n + length xorb_table) three
 
-  split_of_layout : (split : Split) → IsSplit (bytes_of_part part) footer split → IsSplitOf part split
+  split_of_layout : (split : SplitShard) → IsSplit (bytes_of_part part) footer split → IsSplitOf part split
   split_of_layout split is = record {
     files = is.files ∙ piece (bytes_of_part part) header (flat_map file_records.record_bytes part.files) _ 48 (footer.xorb_info_offset - 48) at_files head (omega (arith, length-files));
     xorbs = is.xorbs ∙ piece (bytes_of_part part) (header ++ file_section) (flat_map xorb_records.record_bytes part.xorbs) _ footer.xorb_info_offset (footer.file_lookup_offset - 48) at_xorbs one (omega (arith, length-xorbs));
@@ -140,7 +140,7 @@ ranges_of_part key part bytes info fits are ends =
     subst (λ bs. HasRanges (length bs) info.metadata) (sym are) (subst (λ (i : MDBShardInfo). HasRanges (length (bytes_of_part part)) i.metadata) (sym same) (ranges_of_layout part widths))
 
 -- the pieces of a part's bytes are its sections, tables and footer
-pub split_of_part : (key : DataHash) (part : ShardPart) (bytes : List ℕ) (info : MDBShardInfo) (split : Split) → IsPartUnder key part → bytes ≡ bytes_of_part part → HasHeaderAndFooter bytes info
+pub split_of_part : (key : DataHash) (part : ShardPart) (bytes : List ℕ) (info : MDBShardInfo) (split : SplitShard) → IsPartUnder key part → bytes ≡ bytes_of_part part → HasHeaderAndFooter bytes info
     → IsSplit bytes info.metadata split → IsSplitOf part split
 split_of_part key part bytes info split fits are ends is =
     let other = subst (λ bs. HasHeaderAndFooter bs (record { header = header_value part.version; metadata = footer_value part.files part.xorbs (options_in part) })) (sym are) (ends_of_layout part.files part.xorbs (options_in part) fits.widths) in

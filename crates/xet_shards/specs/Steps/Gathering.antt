@@ -7,7 +7,7 @@ use Rattle.xet_records.specs.FileRecord.{file_records, size_of_file}
 use Rattle.xet_records.specs.XorbRecord.{xorb_records}
 use Rattle.xet_shards.specs.declared.shard_format.export.chunk_merging.Cursor.{Cursor}
 use Rattle.xet_shards.specs.declared.shard_format.export.gathering.Totals.{Totals}
-use Rattle.xet_shards.specs.declared.shard_format.export.part_split.Split.{Split}
+use Rattle.xet_shards.specs.declared.shard_format.export.part_split.SplitShard.{SplitShard}
 use Rattle.xet_shards.specs.declared.shard_format.export.section_parts.SectionPart.{SectionPart}
 use Rattle.xet_shards.specs.Export.InARow.{ShardPart, files_in, xorbs_in}
 use Rattle.xet_shards.specs.Steps.InARow.{HoldSections}
@@ -16,7 +16,7 @@ use Rattle.xet_shards.specs.Write.Section.{total_rows}
 use Rattle.xet_shards.specs.Write.Tables.{ChunkTableRow, chunk_table_rows}
 
 -- the new sums are the old ones and the numbers of one part more
-pub record AddsPart (old : Totals) (split : Split) (new : Totals) : Type 0 where
+pub record AddsPart (old : Totals) (split : SplitShard) (new : Totals) : Type 0 where
   pub files : new.files ≡ old.files + split.footer.file_lookup_num_entry
   pub file_rows : new.file_rows ≡ old.file_rows + length split.files.now / 48
   pub xorbs : new.xorbs ≡ old.xorbs + split.footer.xorb_lookup_num_entry
@@ -26,7 +26,7 @@ pub record AddsPart (old : Totals) (split : Split) (new : Totals) : Type 0 where
   pub stored_bytes_on_disk : new.stored_bytes_on_disk ≡ old.stored_bytes_on_disk + split.footer.stored_bytes_on_disk
 
 -- the sums with one part more fit their widths
-pub record FitWith (totals : Totals) (split : Split) : Type 0 where
+pub record FitWith (totals : Totals) (split : SplitShard) : Type 0 where
   pub files : totals.files + split.footer.file_lookup_num_entry < 2 ^ 32
   pub file_rows : totals.file_rows + length split.files.now / 48 < 2 ^ 32
   pub xorbs : totals.xorbs + split.footer.xorb_lookup_num_entry < 2 ^ 32

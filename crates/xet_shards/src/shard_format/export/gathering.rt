@@ -6,7 +6,7 @@ ghost use Rattle.xet_shards.specs.Export.InARow.{ShardPart, bytes_of_part, IsPar
 ghost use Rattle.xet_shards.specs.Steps.Gathering.{AddsPart, FitWith, HasGathered};
 
 use super::chunk_merging::Cursor;
-use super::part_split::{Split, split_shard};
+use super::part_split::{SplitShard, split_shard};
 use super::section_parts::{SectionPart, add_u32};
 use std::alloc::Global;
 use xet_base::error::{CoreError, Result};
@@ -59,7 +59,7 @@ fn add_u64(alloc: Global, a: u64, b: u64) -> Result<u64>
 }
 
 // The sums with one part more. `InvalidShard` if one of them does not fit its type.
-fn with_part(alloc: Global, totals: &Totals, split: &Split<'_>) -> Result<Totals>
+fn with_part(alloc: Global, totals: &Totals, split: &SplitShard<'_>) -> Result<Totals>
     ensures sums { MatchResult result (AddsPart totals.now split.now)
         (λ _. FitWith totals.now split.now → ⊥) }
     ensures causes { IfErr result IsInvalidShard }

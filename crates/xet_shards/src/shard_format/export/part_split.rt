@@ -17,7 +17,7 @@ use xet_records::rows::ROW_SIZE;
 /// The pieces of a shard's bytes: the rows of both sections without their bookends, the three
 /// tables, and the footer.
 #[derive(Clone, Copy, Debug)]
-pub(in crate::shard_format) struct Split<'a> {
+pub(in crate::shard_format) struct SplitShard<'a> {
     pub files: &'a [u8],
     pub xorbs: &'a [u8],
     pub file_table: &'a [u8],
@@ -56,7 +56,7 @@ fn table_of(bytes: &[u8], from: u64, rows: u64, to: u64) -> Option<&[u8]>
 // The pieces between the offsets that the footer names. `None` if these are not in order, if a
 // section does not have whole rows, or if the file table or the xorb table does not have the
 // footer's number of rows.
-fn parts_at<'a>(bytes: &'a [u8], footer: &MDBShardFileFooter) -> Option<Split<'a>>
+fn parts_at<'a>(bytes: &'a [u8], footer: &MDBShardFileFooter) -> Option<SplitShard<'a>>
     ensures { MatchOption result (HasRanges (length bytes.now) footer.now → ⊥)
         (λ split. HasRanges (length bytes.now) footer.now
         × IsSplit bytes.now footer.now split) }
@@ -67,7 +67,7 @@ fn parts_at<'a>(bytes: &'a [u8], footer: &MDBShardFileFooter) -> Option<Split<'a
     }
     let files_end = footer.xorb_info_offset.checked_sub(row_size)?;
     let xorbs_end = footer.file_lookup_offset.checked_sub(row_size)?;
-    Some(Split {
+    Some(SplitShard {
         files: range_of(bytes, HEADER_SIZE, files_end)?,
         xorbs: range_of(bytes, footer.xorb_info_offset, xorbs_end)?,
         file_table: table_of(
@@ -92,7 +92,7 @@ fn parts_at<'a>(bytes: &'a [u8], footer: &MDBShardFileFooter) -> Option<Split<'a
 /// `ShardVersion` or `UnexpectedEof` if the bytes have no supported header or footer. `InvalidShard`
 /// if the footer's offsets are not in order or past the bytes, if a section does not have whole
 /// rows, or if its table does not have as many rows as the footer counts.
-pub(in crate::shard_format) fn split_shard(alloc: Global, bytes: &[u8]) -> Result<Split<'_>>
+pub(in crate::shard_format) fn split_shard(alloc: Global, bytes: &[u8]) -> Result<SplitShard<'_>>
     ensures split { (key : DataHash) → (part : ShardPart) → IsPartUnder key part
         → bytes.now ≡ bytes_of_part part → MatchResult result (IsSplitOf part) (λ e. ⊥) }
     ensures ranges { IfOk result (λ split. HasRanges (length bytes.now) split.footer
