@@ -138,6 +138,24 @@ def test_merge_into():
     assert refused("Io", xet_shards.merge_into, [shards[0], b""], out).index == 1
 
 
+def test_outputs_that_share_memory_with_a_shard():
+    # The second shard lies in the buffer, which is long enough for a merge before it, behind it and over it.
+    length, merged = len(XORB_AND_FILE), xet_shards.merge([ONE_FILE, XORB_AND_FILE])
+    at = len(merged)
+    buffer = bytearray(at) + XORB_AND_FILE + bytearray(at)
+    before, view = bytes(buffer), memoryview(buffer)
+    shards = [ONE_FILE, view[at : at + length]]
+    for out in (buffer, view[1 : at + 1], view[at + length - 1 :], view[at + 5 : at + 6]):
+        for named in ({}, {"strict": True}, {"start": hash_text("0")}, {"stop": hash_text("0"), "strict": True}):
+            raises(ValueError, xet_shards.merge_into, shards, out, **named)
+            assert buffer == before
+    # What lies beside a shard may be written to, and no byte shares no memory.
+    assert xet_shards.merge_into(shards, view[at + 5 : at + 5]) == len(merged)
+    assert xet_shards.merge_into(shards, view[at + length :]) == len(merged)
+    assert xet_shards.merge_into(shards, view[:at]) == len(merged)
+    assert buffer == merged + XORB_AND_FILE + merged + bytes(len(buffer) - 2 * len(merged) - length)
+
+
 def minimal_xorbs():
     """Returns a shard without tables, of one xorb of a hundred chunks."""
     return xet_shards.minimal(shards_of(({}, {"200": [str(it) for it in range(300, 400)]}))[0], 1000)

@@ -1045,6 +1045,8 @@ def merge_into(
 
     If the buffer is too small it stays as it is: then the number is greater than its length. With inputs and output in
     files that are mapped, a merge needs memory of its own only for tables and for where records lie.
+
+    The buffer shares no memory with a shard: that is a `ValueError`. Two maps of one file are not found out.
     """
     shards = list(shards)
     if not shards:
@@ -1052,7 +1054,7 @@ def merge_into(
     try:
         if start is not None or stop is not None:
             return _merge_range_to(shards, out, strict, start, stop)
-        return _merge_to(shards, out, strict)
+        return _merge_strictly_to(shards, out) if strict else _merge_to(_library.xet_merge, shards, out)
     except (DisagreementError, MalformedError):
         raise
     except XetError as error:
@@ -1064,7 +1066,7 @@ def _to_blame(shards: Sequence[Buffer], number: int) -> Optional[int]:
     key = None
     for index, shard in enumerate(shards):
         try:
-            _merge_to([shard], bytearray(0), False)
+            _merge_to(_library.xet_merge, [shard], bytearray(0))
             its_key = load(shard).key
         except XetError as error:
             if error.number == number:
@@ -1076,31 +1078,39 @@ def _to_blame(shards: Sequence[Buffer], number: int) -> Optional[int]:
     return None
 
 
-def _merge_to(shards: Sequence[Buffer], out: WritableBuffer, strict: bool) -> int:
-    room, written, differing, found = memoryview(out).nbytes, c_size_t(), c_size_t(), _Disagreement()
+def _merge_to(call: Callable[..., Any], shards: Sequence[Buffer], out: WritableBuffer) -> int:
+    """Makes a call that merges shards to the front of a buffer, and returns the number of the bytes of the merge."""
+    room, written = memoryview(out).nbytes, c_size_t()
     array = (c_char * room).from_buffer(out)
+    start = ctypes.addressof(array)
     with _Addresses(*shards) as data:
-        listed, count = _list(data), len(data)
-        if strict:
-            number = _library.xet_merge_agreeing(
-                listed, count, array, room, byref(written), byref(differing), byref(found)
-            )
-        else:
-            number = _library.xet_merge(listed, count, array, room, byref(written))
-    if number == _MALFORMED:
-        raise MalformedError(_malformed(found))
-    if number == _DISAGREE:
-        raise DisagreementError(_disagreement(found, differing.value))
+        if any(max(start, address) < min(start + room, address + length) for address, length in data):
+            raise ValueError("the output shares memory with a shard")
+        number = call(_list(data), len(data), array, room, byref(written))
     if number != _SHORT:
         _check(number)
     return written.value
+
+
+def _merge_strictly_to(shards: Sequence[Buffer], out: WritableBuffer) -> int:
+    differing, found = c_size_t(), _Disagreement()
+    try:
+        return _merge_to(
+            lambda *arguments: _library.xet_merge_agreeing(*arguments, byref(differing), byref(found)), shards, out
+        )
+    except XetError as error:
+        if error.number == _MALFORMED:
+            raise MalformedError(_malformed(found)) from None
+        if error.number == _DISAGREE:
+            raise DisagreementError(_disagreement(found, differing.value)) from None
+        raise
 
 
 def _merge_range_to(
     shards: Sequence[Buffer], out: WritableBuffer, strict: bool, start: Optional[str], stop: Optional[str]
 ) -> int:
     words = [_words(NO_KEY if it is None else it) for it in (start, stop)]
-    asked, room, written = _Range(*words, start is not None, stop is not None), memoryview(out).nbytes, c_size_t()
+    asked = _Range(*words, start is not None, stop is not None)
     if strict:
         malformed = find_malformed(shards)
         if malformed:
@@ -1108,12 +1118,9 @@ def _merge_range_to(
         differing = find_disagreement(shards)
         if differing:
             raise DisagreementError(differing)
-    array = (c_char * room).from_buffer(out)
-    with _Addresses(*shards) as data:
-        number = _library.xet_merge_range(_list(data), len(data), byref(asked), array, room, byref(written))
-    if number != _SHORT:
-        _check(number)
-    return written.value
+    return _merge_to(
+        lambda listed, count, *output: _library.xet_merge_range(listed, count, byref(asked), *output), shards, out
+    )
 
 
 def concatenate(shards: Iterable[Buffer]) -> bytes:
