@@ -522,6 +522,13 @@ def test_merge_names_the_input():
     keyed = xet_shards.export(ONE_FILE, hash_text("7"), 1000, 60)
     assert refused("Io", xet_shards.merge, [ONE_FILE, XORB_AND_FILE, ONE_FILE[:199], b""]).index == 2
     assert refused("InvalidArguments", xet_shards.merge, [ONE_FILE, ONE_FILE, keyed]).index == 2
+    for named in ({}, {"strict": True}, {"start": hash_text("0")}):
+        assert refused("InvalidArguments", xet_shards.merge, [keyed, keyed, ONE_FILE, keyed], **named).index == 2
+    # The first shard has a key, though its files do not ascend; of one without a footer no key is known.
+    two = shard_of("file 100 200:0:5:5", "file 101 200:0:5:5")
+    descending = two[:48] + two[144:240] + two[48:144] + two[240:]
+    assert refused("InvalidArguments", xet_shards.merge, [descending, keyed, ONE_FILE]).index == 1
+    assert refused("InvalidArguments", xet_shards.merge, [b"?" * 500, keyed, ONE_FILE]).index is None
     error = refused("ShardVersion", xet_shards.merge, [b"?" * 500, ONE_FILE], strict=True)
     assert error.index == 0
     text = "the shard at 0: the bytes are no shard of version 2 or 3 (ShardVersion)"

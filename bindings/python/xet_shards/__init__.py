@@ -1063,19 +1063,30 @@ def merge_into(
 
 def _to_blame(shards: Sequence[Buffer], number: int) -> Optional[int]:
     """Returns the place of the first shard by which a merge fails with this error, or None if it is no single one."""
-    key = None
+    if number == _INVALID_ARGUMENTS:
+        return _first_of_other_key(shards)
     for index, shard in enumerate(shards):
         try:
             _merge_to(_library.xet_merge, [shard], bytearray(0))
-            its_key = load(shard).key
         except XetError as error:
             if error.number == number:
                 return index
-            continue
-        key = its_key if key is None else key
-        if number == _INVALID_ARGUMENTS and its_key != key:
-            return index
     return None
+
+
+def _first_of_other_key(shards: Sequence[Buffer]) -> Optional[int]:
+    """Returns the place of the first shard whose key is not that of the first one, if both can be read."""
+    key = _key_of(shards[0])
+    if key is None:
+        return None
+    return next((index for index, shard in enumerate(shards) if _key_of(shard) not in (key, None)), None)
+
+
+def _key_of(shard: Buffer) -> Optional[str]:
+    try:
+        return load(shard).key
+    except XetError:
+        return None
 
 
 def _merge_to(call: Callable[..., Any], shards: Sequence[Buffer], out: WritableBuffer) -> int:
