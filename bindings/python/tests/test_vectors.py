@@ -223,6 +223,30 @@ def test_sentences():
     assert str(xet_shards.XetError(3)) == "the library returns 3 (Other)"
 
 
+def test_texts_of_refused_arguments():
+    keyed = xet_shards.export(ONE_FILE, hash_text("7"), 0, 0)
+    file = xet_shards.ListedFile.of("f" * 64, [])
+    other_keys, no_rows = "the keys of the shards differ", "the bytes are no whole rows of a table"
+    for text, call, *arguments in (
+        (other_keys, xet_shards.union, ONE_FILE, keyed),
+        (other_keys, xet_shards.difference, ONE_FILE, keyed),
+        (f"the shard at 1: {other_keys}", xet_shards.merge, [ONE_FILE, keyed]),
+        (f"{other_keys}, or hashes do not ascend from one shard to the next", xet_shards.concatenate, [ONE_FILE] * 2),
+        ("the chunk hashes are keyed already, or the times add up to 2^64 or more", xet_shards.export, keyed,
+         hash_text("7"), 0, 0),
+        ("a file has an auxiliary row, which version 2 does not have", xet_shards.write_v2,
+         shard_of("file 100 x=777 200:0:5:5")),
+        ("there is no chunk at this row and index", xet_shards.query_at, ONE_FILE, [hash_text("21")], 0, 0),
+        (no_rows, xet_shards.find_rows, b"?", hash_text("21")),
+        (no_rows, xet_shards.find_places, b"?", hash_text("21")),
+        ("the version is neither 2 nor 3", xet_shards.file_in, ONE_FILE[48:], 4),
+        ("no shard has these records, or their counts do not add up", xet_shards.write, [file], []),
+    ):
+        error = refused("InvalidArguments", call, *arguments)
+        assert str(error) == str(pickle.loads(pickle.dumps(error))) == f"{text} (InvalidArguments)"
+    assert refused("Io", xet_shards.union, ONE_FILE, b"").refused is None
+
+
 def test_missing_library():
     env = {**os.environ, "XET_LIBRARY": "/nowhere/libxet.so"}
     words = [sys.executable, "-c", "import xet_shards"]

@@ -65,6 +65,8 @@ _INVALID_ARGUMENTS = 13
 _SHORT = 19
 _DISAGREE = 20
 _MALFORMED = 21
+_OTHER_KEYS = "the keys of the shards differ"
+_NO_WHOLE_ROWS = "the bytes are no whole rows of a table"
 # Of the errors that calls raise.
 _SENTENCES = {
     "Io": "the bytes end too early, or verification rows are missing",
@@ -73,7 +75,7 @@ _SENTENCES = {
     "ShardVersion": "the bytes are no shard of version 2 or 3",
     "BadFilename": "the text is not the name of a shard file",
     "InvalidShard": "the bytes are not a valid shard, or two shards have no union",
-    "InvalidArguments": "the arguments do not fit the shard: keys that differ, say",
+    "InvalidArguments": "the call does not admit its arguments",
     "HashParsing": "the text is not the 64 hexadecimal digits of a hash",
     "OutOfMemory": "an allocation failed",
     "Disagree": "two shards that have to agree do not",
@@ -85,23 +87,26 @@ class XetError(Exception):
     """A call failed: `number` is that of enum xet_error in xet.h, and `name` its name, as `InvalidShard`.
 
     `index` is the place, in the list of a merge, of the first shard that is the cause by itself, or whose key is not
-    that of the first; it is None where several are the cause together, and of other calls.
+    that of the first; it is None where several are the cause together, and of other calls. `refused` says which
+    arguments the call does not admit, if the error is `InvalidArguments`.
 
     As text it is a sentence, with the name at its end.
     """
 
-    def __init__(self, number: int, index: Optional[int] = None) -> None:
+    def __init__(self, number: int, index: Optional[int] = None, refused: Optional[str] = None) -> None:
         self.number = number
         self.index = index
+        self.refused = refused if number == _INVALID_ARGUMENTS else None
         self.name = _NAMES[number - 1] if 1 <= number <= len(_NAMES) else "Unknown"
-        super().__init__(number, index)
+        super().__init__(number, index, self.refused)
 
     def __str__(self) -> str:
         place = "" if self.index is None else f"the shard at {self.index}: "
-        return f"{place}{_SENTENCES.get(self.name, f'the library returns {self.number}')} ({self.name})"
+        sentence = self.refused or _SENTENCES.get(self.name, f"the library returns {self.number}")
+        return f"{place}{sentence} ({self.name})"
 
     def __reduce__(self) -> Tuple[Any, ...]:
-        return XetError, (self.number, self.index)
+        return XetError, (self.number, self.index, self.refused)
 
 
 @dataclass(frozen=True)
@@ -467,9 +472,10 @@ def _open() -> ctypes.CDLL:
 _library = _open()
 
 
-def _check(number: int) -> None:
+def _check(number: int, refused: Optional[str] = None) -> None:
+    """Raises the error with this number, if it is one. `refused` says what `InvalidArguments` of the call means."""
     if number:
-        raise XetError(number)
+        raise XetError(number, refused=refused)
 
 
 class _Addresses:
@@ -532,7 +538,9 @@ def _array(item: Any, count: int) -> ctypes.Array[Any]:
     return array_of
 
 
-def _filled(item: Any, room: int, call: Callable[[ctypes.Array[Any], int, c_size_t], Any]) -> Any:
+def _filled(
+    item: Any, room: int, call: Callable[[ctypes.Array[Any], int, c_size_t], Any], refused: Optional[str] = None
+) -> Any:
     """Returns the items that a call writes into an array, which is made anew once if they don't fit."""
     written = c_size_t()
     out = _array(item, room)
@@ -540,13 +548,15 @@ def _filled(item: Any, room: int, call: Callable[[ctypes.Array[Any], int, c_size
     if number == _SHORT:
         out = _array(item, written.value)
         number = call(out, written.value, written)
-    _check(number)
+    _check(number, refused)
     return out[: written.value]
 
 
-def _made(room: int, call: Callable[[ctypes.Array[Any], int, c_size_t], Any]) -> bytes:
+def _made(
+    room: int, call: Callable[[ctypes.Array[Any], int, c_size_t], Any], refused: Optional[str] = None
+) -> bytes:
     """Returns the bytes that a call makes of inputs of so many bytes."""
-    made: bytes = _filled(c_char, room + 400, call)
+    made: bytes = _filled(c_char, room + 400, call, refused)
     return made
 
 
@@ -589,7 +599,7 @@ def _shown_file(file: _File, segments: Sequence[_FileSegment]) -> File:
 
 
 class _Step:
-    """Makes the call of a record, and again if its items do not fit. What it shows is used again by the next call."""
+    """Makes the call of a record, and again if its items do not fit. The next call uses the same room."""
 
     def __init__(self, record: Any, item: Any, counted: str) -> None:
         self.place, self.record, self._item, self._counted = _Place(), record, item, counted
@@ -602,7 +612,8 @@ class _Step:
             self._room = getattr(self.record, self._counted)
             self._items = _array(self._item, self._room)
             number = call(*arguments, byref(self.place), byref(self.record), self._items, self._room)
-        _check(number)
+        # Of these calls `xet_file_in` alone refuses an argument.
+        _check(number, "the version is neither 2 nor 3")
         return self._items[: getattr(self.record, self._counted)] if self.record.found else None
 
 
@@ -702,7 +713,10 @@ def find_rows(table: Buffer, wanted: str) -> List[int]:
     word = _words(wanted)[0]
     with _Addresses(table) as [data]:
         rows = _filled(
-            c_uint32, 7, lambda out, room, written: _library.xet_find_rows(*data, word, out, room, byref(written))
+            c_uint32,
+            7,
+            lambda out, room, written: _library.xet_find_rows(*data, word, out, room, byref(written)),
+            _NO_WHOLE_ROWS,
         )
     return list(rows)
 
@@ -716,7 +730,10 @@ def find_places(table: Buffer, wanted: str) -> List[Tuple[int, int]]:
     word = _words(wanted)[0]
     with _Addresses(table) as [data]:
         places = _filled(
-            _ChunkPlace, 8, lambda out, room, written: _library.xet_find_places(*data, word, out, room, byref(written))
+            _ChunkPlace,
+            8,
+            lambda out, room, written: _library.xet_find_places(*data, word, out, room, byref(written)),
+            _NO_WHOLE_ROWS,
         )
     return [(it.row, it.index) for it in places]
 
@@ -778,7 +795,11 @@ def _written(lists: Sequence[Tuple[Any, int]], expiry: Optional[int]) -> bytes:
     time = NO_EXPIRY if expiry is None else _seconds(expiry)
     # What xet_write_room of xet.h says, without the 344 bytes of every shard.
     room = 156 * files + 96 * segments + 60 * xorbs + 64 * chunks
-    return _made(room, lambda out, room, written: _library.xet_write(*arguments, time, out, room, byref(written)))
+    return _made(
+        room,
+        lambda out, room, written: _library.xet_write(*arguments, time, out, room, byref(written)),
+        "no shard has these records, or their counts do not add up",
+    )
 
 
 def _word(number: int) -> int:
@@ -961,9 +982,10 @@ def query_at(shard: Buffer, hashes: Sequence[str], row: int, index: int) -> Opti
     """
     wanted, count, run = _hashes(hashes), c_size_t(), _Segment()
     with _Addresses(shard) as [data]:
-        _check(_library.xet_query_at(
+        number = _library.xet_query_at(
             *data, wanted, len(hashes), _number(row), _number(index), byref(count), byref(run)
-        ))
+        )
+    _check(number, "there is no chunk at this row and index")
     return Run(count.value, _segment(run)) if count.value else None
 
 
@@ -1002,7 +1024,9 @@ def difference(first: Buffer, second: Buffer) -> bytes:
 def _combined(operation: Callable[..., Any], first: Buffer, second: Buffer) -> bytes:
     with _Addresses(first, second) as [one, other]:
         return _made(
-            one[1] + other[1], lambda out, room, written: operation(*one, *other, out, room, byref(written))
+            one[1] + other[1],
+            lambda out, room, written: operation(*one, *other, out, room, byref(written)),
+            _OTHER_KEYS,
         )
 
 
@@ -1058,7 +1082,7 @@ def merge_into(
     except (DisagreementError, MalformedError):
         raise
     except XetError as error:
-        raise XetError(error.number, _to_blame(shards, error.number)) from None
+        raise XetError(error.number, _to_blame(shards, error.number), _OTHER_KEYS) from None
 
 
 def _to_blame(shards: Sequence[Buffer], number: int) -> Optional[int]:
@@ -1148,7 +1172,9 @@ def concatenate(shards: Iterable[Buffer]) -> bytes:
     with _Addresses(*shards) as data:
         listed, room = _list(data), sum(length for _, length in data)
         return _made(
-            room, lambda out, room, written: _library.xet_concatenate(listed, len(data), out, room, byref(written))
+            room,
+            lambda out, room, written: _library.xet_concatenate(listed, len(data), out, room, byref(written)),
+            "the keys of the shards differ, or hashes do not ascend from one shard to the next",
         )
 
 
@@ -1200,7 +1226,9 @@ def export(
     )
     with _Addresses(shard) as [data]:
         return _made(
-            data[1], lambda out, room, written: _library.xet_export(*data, byref(options), out, room, byref(written))
+            data[1],
+            lambda out, room, written: _library.xet_export(*data, byref(options), out, room, byref(written)),
+            "the chunk hashes are keyed already, or the times add up to 2^64 or more",
         )
 
 
@@ -1237,9 +1265,16 @@ def subset(shard: Buffer, now: int, expiry: Optional[int] = None, xorbs: Optiona
 
 
 def write_v2(shard: Buffer) -> bytes:
-    """Returns the same shard in version 2, for readers that do not know version 3. No file may have an auxiliary row."""
+    """Returns the same shard in version 2, for readers that do not know version 3.
+
+    No file may have an auxiliary row.
+    """
     with _Addresses(shard) as [data]:
-        return _made(data[1], lambda out, room, written: _library.xet_write_v2(*data, out, room, byref(written)))
+        return _made(
+            data[1],
+            lambda out, room, written: _library.xet_write_v2(*data, out, room, byref(written)),
+            "a file has an auxiliary row, which version 2 does not have",
+        )
 
 
 def eligible(shard: Buffer) -> List[str]:

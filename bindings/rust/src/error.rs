@@ -25,7 +25,8 @@ pub enum Error {
     BadFilename,
     /// The bytes are not a valid shard, or two shards have no union.
     InvalidShard,
-    /// The call does not admit its arguments: keys that differ, say.
+    /// The call does not admit its arguments, as keys that differ or records that no shard has. Its documentation says
+    /// which.
     InvalidArguments,
     /// A text is not the 64 hexadecimal digits of a hash.
     HashParsing,
@@ -65,7 +66,7 @@ impl fmt::Display for Error {
             Error::ShardVersion => "not a shard of version 2 or 3",
             Error::BadFilename => "not the name of a shard file",
             Error::InvalidShard => "not a valid shard, or the shards have no union",
-            Error::InvalidArguments => "the arguments do not fit the shard",
+            Error::InvalidArguments => "the call does not admit its arguments",
             Error::HashParsing => "not the 64 hexadecimal digits of a hash",
             Error::OutOfMemory => "out of memory",
             Error::Disagree(disagreement) => return disagreement.fmt(f),
