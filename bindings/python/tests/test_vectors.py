@@ -24,6 +24,11 @@ import scripts  # noqa: E402
 import xet_shards  # noqa: E402
 from scripts import Shard, hash_text  # noqa: E402
 
+try:
+    import numpy
+except ImportError:
+    numpy = None
+
 THEMES = "write find query union diff merge export minimal subset eligible".split()
 # The scripts of shards, and not of how lines are read.
 SHARDTOOL = """all_parts counts_differ counts_differ_in_a_tree dropped eight_share_a_word expiry exported found
@@ -635,9 +640,7 @@ def test_records_that_no_shard_has():
 
 
 def test_tables():
-    try:
-        import numpy
-    except ImportError:
+    if numpy is None:
         return print("numpy is not there, so tables were not tested")
     for shard in (Shard(), records_shard()):
         written = shard.written()
@@ -666,6 +669,37 @@ def test_tables():
     # Neither reads a table, and a section that is cut short gives nothing.
     assert (xet_shards.table(xet_shards.minimal(written, 9)).xorbs == table.xorbs).all()
     refused("Io", xet_shards.table, written[: 48 + 48 * 7] + written[-200:])
+
+
+def test_columns():
+    if numpy is None:
+        return print("numpy is not there, so columns were not tested")
+    shard = shard_of("xorb 10", "xorb 11", "file 100")
+    table = xet_shards.table(shard)
+    columns = {name: table.xorbs[name].tolist() for name in table.xorbs.dtype.names}
+
+    def written(xorbs):
+        return xet_shards.from_table(dataclasses.replace(table, xorbs=xorbs))
+
+    assert written(columns) == shard
+    # Numbers of 64 bits: of a list with some below 2^63 and some not, numpy makes another type.
+    for words in ([1, 2**63], [2**63 - 1, 2**64 - 1], [numpy.uint64(1), 2**63], [2**63, 2**64 - 1]):
+        for column in (words, numpy.array(words, object), numpy.array(words, "u8")):
+            made = written({**columns, "hash3": column})
+            assert [it.hash[48:] for it in xet_shards.xorbs(made)] == [f"{int(word):016x}" for word in words]
+    for words in ([-1, 2**63], [0, 2**64], [0.0, 2**63], ["1", "2"], [None, 1], [True, False], [[1], [2, 3]]):
+        raises(ValueError, written, {**columns, "hash3": words})
+    # Columns of other shapes, which numpy would spread over all rows, or take for one of them.
+    for shape in (0, [], [0], [0, 0, 0], [[0, 0]], [[0], [0]], [[0, 0], [0, 0]]):
+        for name in ("hash0", "flags"):
+            raises(ValueError, written, {**columns, name: shape})
+        of_chunks = {name: [] for name in table.chunks.dtype.names}
+        if shape != []:
+            raises(ValueError, xet_shards.from_table,
+                   dataclasses.replace(table, chunks={**of_chunks, "reserved": shape}))
+    for array in (table.xorbs.reshape(1, 2), table.xorbs.reshape(2, 1), table.xorbs[0]):
+        raises(ValueError, written, array)
+    raises(KeyError, written, {"hash0": []})
 
 
 def test_outputs_of_records():

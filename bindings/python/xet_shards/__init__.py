@@ -786,18 +786,18 @@ def write(files: Iterable[ListedFile], xorbs: Iterable[Xorb], expiry: Optional[i
     lists: List[Tuple[Any, List[Any]]] = [
         (_ListedFile, listed), (_FileSegment, segments), (_ListedXorb, listed_xorbs), (_Chunk, chunks),
     ]
-    return _written([(_array_of(item, items), len(items)) for item, items in lists], expiry)
+    return _written([it for item, items in lists for it in (_array_of(item, items), len(items))], expiry)
 
 
-def _written(lists: Sequence[Tuple[Any, int]], expiry: Optional[int]) -> bytes:
-    files, segments, xorbs, chunks = (count for _, count in lists)
-    arguments = [it for both in lists for it in both]
+def _written(lists: Sequence[Any], expiry: Optional[int]) -> bytes:
+    """Returns the shard of four lists of records, each with its length behind it."""
+    files, segments, xorbs, chunks = lists[1::2]
     time = NO_EXPIRY if expiry is None else _seconds(expiry)
     # What xet_write_room of xet.h says, without the 344 bytes of every shard.
     room = 156 * files + 96 * segments + 60 * xorbs + 64 * chunks
     return _made(
         room,
-        lambda out, room, written: _library.xet_write(*arguments, time, out, room, byref(written)),
+        lambda out, room, written: _library.xet_write(*lists, time, out, room, byref(written)),
         "no shard has these records, or their counts do not add up",
     )
 
@@ -856,6 +856,7 @@ def _numpy() -> Any:
 def _types() -> Tuple[Any, ...]:
     """Returns the types of the four arrays: the structs of xet.h, a hash as four words."""
     numpy = _numpy()
+
     def type_of(*fields: Any, size: int) -> Any:
         names, formats, offsets, at = [], [], [], 0
         for name, is_hash in fields:
@@ -887,53 +888,80 @@ def table(shard: Buffer) -> Table:
     # The first call asks how many there are.
     with _Addresses(shard) as [data]:
         arrays = [numpy.empty(0, it) for it in types]
-        number = _library.xet_records(*data, *_places(arrays), byref(counts))
+        number = _library.xet_records(*data, *_addresses(arrays), byref(counts))
         if number == _SHORT:
             sizes = (counts.files, counts.segments, counts.xorbs, counts.chunks)
             arrays = [numpy.zeros(size, it) for size, it in zip(sizes, types)]
-            number = _library.xet_records(*data, *_places(arrays), byref(counts))
+            number = _library.xet_records(*data, *_addresses(arrays), byref(counts))
     _check(number)
     return Table(*arrays)
 
 
-def _places(arrays: Sequence[Any]) -> List[int]:
+def _addresses(arrays: Sequence[Any]) -> List[int]:
+    """Returns the address and the length of each array, one after another."""
     return [it for array in arrays for it in (array.ctypes.data, len(array))]
 
 
 def from_table(table: Table, expiry: Optional[int] = None) -> bytes:
     """Returns the shard that has these records, as `write` does. It needs numpy.
 
-    Each of the four may be anything that gives its columns by name, as a `pandas.DataFrame` does, too. An array of the
-    type that `table` returns is not copied. Counts that do not fit are refused (`InvalidArguments`): the files' counts
-    of segments add up to the number of segments, and the xorbs' counts of chunks to that of chunks.
+    Each of the four may be anything that gives its columns by name, as a `pandas.DataFrame` does, too. Columns of
+    different lengths, and numbers that do not fit, are a `ValueError`. An array of the type that `table` returns is not
+    copied. Counts that do not fit are refused (`InvalidArguments`): the files' counts of segments add up to the number
+    of segments, and the xorbs' counts of chunks to that of chunks.
     """
     arrays = [
         _as_type(it, wanted)
         for it, wanted in zip((table.files, table.segments, table.xorbs, table.chunks), _types())
     ]
-    return _written([(it.ctypes.data, len(it)) for it in arrays], expiry)
+    return _written(_addresses(arrays), expiry)
 
 
 def _as_type(columns: Any, wanted: Any) -> Any:
     """Returns an array of this type, with these columns."""
     numpy = _numpy()
     if getattr(columns, "dtype", None) == wanted:
+        if columns.ndim != 1:
+            raise ValueError(f"an array of records has one dimension, and not {columns.ndim}")
         return numpy.require(columns, requirements=["C", "A"])
-    made = numpy.zeros(len(columns[wanted.names[0]]), wanted)
-    for name in wanted.names:
-        try:
-            column = numpy.asarray(columns[name])
-        except (KeyError, ValueError):
-            # Of an array without this field the error is another than of a mapping.
-            if name != "reserved":
-                raise
+    found = {name: _column(columns, name, wanted[name]) for name in wanted.names}
+    made = numpy.zeros(len(found[wanted.names[0]]), wanted)
+    for name, column in found.items():
+        if column is None:
             continue
-        # A number that is out of range, or no number, is not to become another.
-        if column.size and not (column.dtype.kind in "iu" and int(column.min()) >= 0
-                                and int(column.max()) <= numpy.iinfo(wanted[name]).max):
-            raise ValueError(f"the column {name} has other numbers than {wanted[name]}")
+        if len(column) != len(made):
+            raise ValueError(f"the column {name} has {len(column)} numbers, and the first one {len(made)}")
         made[name] = column
     return made
+
+
+def _column(columns: Any, name: str, wanted: Any) -> Any:
+    """Returns a column, whose numbers are all of this type, or None if it may be left out and is."""
+    numpy = _numpy()
+    try:
+        values = columns[name]
+    except (KeyError, ValueError):
+        # Of an array without this field the error is another than of a mapping.
+        if name != "reserved":
+            raise
+        return None
+    column = numpy.asarray(values)
+    if column.dtype.kind in "fO":
+        # Of a list of whole numbers of which only some are below 2^63 numpy makes floating-point numbers.
+        column = numpy.asarray(values, object)
+    if column.ndim != 1:
+        raise ValueError(f"the column {name} has {column.ndim} dimensions, and not one")
+    # A number that is out of range, or no whole number, is not to become another.
+    if len(column) and not (_are_whole(column) and 0 <= column.min() and column.max() <= numpy.iinfo(wanted).max):
+        raise ValueError(f"the column {name} has other numbers than {wanted}")
+    return column
+
+
+def _are_whole(column: Any) -> bool:
+    numpy = _numpy()
+    if column.dtype == object:
+        return all(isinstance(it, (int, numpy.integer)) for it in column)
+    return column.dtype.kind in "iu"
 
 
 def hash_texts(array: Any, name: str = "hash") -> List[str]:
