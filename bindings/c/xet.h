@@ -200,12 +200,15 @@ typedef struct xet_range {
 } xet_range;
 
 /* Writes the records in a range of the union that xet_merge makes, each by its own hash, files by that of the file and
- * xorbs by that of the xorb, as a shard with all tables. If the sections of the inputs hold shards that agree pairwise,
- * under one key, it is the bytes, under this key, of the records of their join that are in the range, or fails for memory
- * or for too many rows. So a merge may be made by as many threads or machines as there are ranges, and ranges that follow
- * one another have together each record of the join once. Each call reads all sections of all inputs; beyond its output
- * it holds the places of the records in the range, and of one input more. A range without records gives a shard without
- * records.
+ * xorbs by that of the xorb, as a shard with all tables. A range without records gives a shard without records.
+ *
+ * If the sections of the inputs hold well-formed shards that agree pairwise, under one key, it is the bytes, under this
+ * key, of the records of their join that are in the range, or fails for memory or for too many rows. So each range may be
+ * made by a thread or a machine of its own, and ranges that follow one another have together each record of the join
+ * once. xet_find_malformed and xet_find_disagreement tell whether the inputs are so.
+ *
+ * Each call reads all sections of all inputs. Beyond its output it holds the places of the records in the range, and of
+ * one input more.
  *
  * The errors are those of xet_merge, but that records outside of the range are asked for no union. */
 uint32_t xet_merge_range(const xet_bytes *shards, size_t count, const xet_range *range, uint8_t *out, size_t capacity,
@@ -213,10 +216,10 @@ uint32_t xet_merge_range(const xet_bytes *shards, size_t count, const xet_range 
 
 /* Writes the shard that has the records of one shard or more, in their order, with all tables, under the key of all, in
  * version 3 and without timestamps. The hashes of files have to ascend from each shard to the next, and so have those
- * of xorbs; a shard may have none of either. Of what xet_merge_range writes of ranges that follow one another, the
- * first without `from` and the last without `to`, it is the bytes that the one xet_merge writes. Of shards as this
- * library writes them, whose hashes ascend so and which have together at most 4294967295 rows a section, it fails for
- * memory alone.
+ * of xorbs; a shard may have none of either. So it puts together what xet_merge_range writes of well-formed shards that
+ * agree, for ranges that follow one another, the first without `from` and the last without `to`: it is the bytes that
+ * the one xet_merge writes. Of shards as this library writes them with all tables, whose hashes ascend so and which have
+ * together at most 4294967295 rows a section, it fails for memory alone.
  *
  * Sections and tables are copied and not checked: of shards that are not trusted xet_check tells what is wrong with
  * what is made of them. `out` needs no more room than such shards have bytes in all. What is written is made first, and

@@ -1063,9 +1063,10 @@ def merge(
 ) -> bytes:
     """Returns the union of one shard or more, by a balanced tree of unions; a single one is united with itself.
 
-    With `start` or `stop`, hashes as text, it is a shard of those of its files and xorbs whose hash is not below `start`
-    and is below `stop`. So ranges that follow one another may be merged by threads or machines, and have together each
-    record once. All shards are read for each range, and with `strict` all their records have to agree.
+    With `start` or `stop`, hashes as text, it has only the files and the xorbs whose hash is not below `start` and is
+    below `stop`. Of well-formed shards that agree, ranges that follow one another have together each record of the join
+    once, so each may be merged by a thread or a machine of its own. All shards are read for each range, and with `strict`
+    all their records have to agree.
 
     If the sections of the inputs hold well-formed shards that agree pairwise, under one key, it is the bytes of their
     join, which has no order, and any other tree of unions gives the same. Shards agree if files with one hash have
@@ -1190,9 +1191,9 @@ def concatenate(shards: Iterable[Buffer]) -> bytes:
     """Returns the shard that has the records of one shard or more, in their order, with all tables and no timestamps.
 
     The hashes of files have to ascend from each shard to the next, and so have those of xorbs, and the shards have one
-    key. So it puts together what `merge` returns of ranges that follow one another, where `start` of the first and
-    `stop` of the last are left out: the result is that of the one merge. Sections and tables are copied and not
-    checked.
+    key. So it puts together what `merge` returns of well-formed shards that agree, for ranges that follow one another,
+    where `start` of the first and `stop` of the last are left out: the result is that of the one merge. Sections and
+    tables are copied and not checked.
     """
     shards = list(shards)
     if not shards:

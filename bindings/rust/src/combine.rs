@@ -160,9 +160,9 @@ pub fn merge<T: AsRef<[u8]>>(shards: &[T]) -> Result<Vec<u8>> {
     bytes_of(length, |out, written| calls::xet_merge(&list, out, written))
 }
 
-/// The records of a range of hashes of the union that [`merge`] makes, files and xorbs each by their own hash, as a
-/// shard. Of shards that agree pairwise, under one key, it is the same bytes in any order, and ranges that follow one
-/// another, each made by a thread or a machine of its own, have together each record once.
+/// The records in a range of hashes of the union that [`merge`] makes, files and xorbs each by their own hash, as a
+/// shard. Of well-formed shards that agree pairwise, under one key, it is the same bytes in any order. Ranges that follow
+/// one another then have together each record of the join once, so each may be made by a thread or a machine of its own.
 ///
 /// # Errors
 ///
@@ -219,10 +219,10 @@ fn next(mut hash: Hash) -> Option<Hash> {
 }
 
 /// The shard that has the records of one shard or more, in their order, with all tables, under the key of all, and
-/// without timestamps. The hashes of files have to ascend from each shard to the next, and so have those of xorbs. Of
-/// what [`merge_range`] gives of ranges that follow one another, from no bound to no bound, it is what the one
-/// [`merge`] gives. Sections and tables are copied and not checked: [`check`](crate::check) tells what is wrong with
-/// what is made of shards that are not trusted.
+/// without timestamps. The hashes of files have to ascend from each shard to the next, and so have those of xorbs. So it
+/// puts together what [`merge_range`] gives of well-formed shards that agree, for ranges that follow one another, from no
+/// bound to no bound: it is what the one [`merge`] gives. Sections and tables are copied and not checked:
+/// [`check`](crate::check) tells what is wrong with what is made of shards that are not trusted.
 ///
 /// # Errors
 ///
