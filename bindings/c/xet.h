@@ -539,8 +539,9 @@ uint32_t xet_records(const uint8_t *shard, size_t length, xet_listed_file *files
  * in any order. Of two files, or two xorbs, with one hash the later one counts. Reserved words of files are zeros; the
  * hashes of parts that a file's flags do not name are not read. `expiry` is in seconds, and UINT64_MAX means none.
  *
- * So the lists that xet_records makes of a shard without a key, in the form in which this library writes it and with
- * reserved words that are zeros, are written as the bytes of the same shard, in version 3 and with the expiry given.
+ * So take a shard without a key, as this library writes it with all tables and creation 0, in which reserved words of
+ * files are zeros. The lists that xet_records makes of it are written as the bytes of the same shard, in version 3 and
+ * with the expiry given.
  *
  * XET_INVALID_ARGUMENTS: the files' numbers of segments do not add up to the number of segments, or those of chunks to
  *     that of chunks; or there is no such shard: a hash is all ones, a file has flags of no known part, the chunks of a

@@ -618,6 +618,12 @@ def test_write():
     assert xet_shards.find_file(xet_shards.write([*files, other], []), hash_text("101")) == other.file
     for it in files:
         assert xet_shards.ListedFile.of(it.hash, it.file.segments, it.file.sha256, it.file.aux_hash) == it
+    # Other creations and expiries, and tables that are left out, are not kept.
+    options = {"files": True, "xorb_table": False, "chunk_table": False}
+    for it in (xet_shards.export(shard.written(), xet_shards.NO_KEY, 1000, 60), xet_shards.minimal(shard.written(), 0),
+               xet_shards.export(shard.written(), xet_shards.NO_KEY, 0, 2**64 - 1, **options)):
+        again = xet_shards.write(xet_shards.files(it), xet_shards.xorbs(it))
+        assert again != it and again == xet_shards.merge([it])
     # A shard under a key has its keyed hashes.
     keyed = list(xet_shards.xorbs(xet_shards.export(shard.written(), hash_text("7"), 0, 0)))
     assert list(xet_shards.xorbs(xet_shards.write([], keyed))) == keyed != xorbs

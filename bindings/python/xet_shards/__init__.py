@@ -754,9 +754,10 @@ def write(files: Iterable[ListedFile], xorbs: Iterable[Xorb], expiry: Optional[i
     They may be in any order; of two files, or two xorbs, with one hash the later one counts. A file whose flags do not
     say what it has is a `ValueError`; `ListedFile.of` makes them. It expires at `expiry`, in seconds.
 
-    So `write(files(shard), xorbs(shard))` is a shard without a key again, without expiry and in version 3. The library
-    refuses records that no shard has (`InvalidArguments`): with a hash of all ones, flags of no known part, a xorb whose
-    chunks have 2^32 bytes or more in all.
+    So `write(files(shard), xorbs(shard))` is the same bytes, if this library wrote them in version 3, with all tables,
+    without a key, with creation 0 and without expiry. The library refuses records that no shard has
+    (`InvalidArguments`): with a hash of all ones, flags of no known part, a xorb whose chunks have 2^32 bytes or more in
+    all.
     """
     listed, segments = [], []
     for it in files:
