@@ -267,6 +267,11 @@ uint32_t xet_find_malformed(const xet_bytes *shards, size_t count, bool *malform
  * of their join under the key that all have, without expiry, whatever the order of the list; nothing else need be known
  * of the inputs.
  *
+ * Refusals come in this order. The inputs are gone through one by one: the first that cannot be read, or that is not
+ * well-formed, decides between the errors of xet_find_malformed and XET_MALFORMED. Then records that do not agree are
+ * XET_DISAGREE, also if the keys differ. Then come the other errors of xet_merge, as of keys that differ or of no shard,
+ * and at last XET_SHORT. XET_OUT_OF_MEMORY may come at any time.
+ *
  * XET_MALFORMED: one of them has a record that no shard may have. `found` is as xet_find_malformed sets it, and
  *     `*written` and `*differing` are 0.
  * XET_DISAGREE: two of them do not agree. `*differing` and `found` are as xet_find_disagreement sets them, and

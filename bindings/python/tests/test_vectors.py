@@ -547,6 +547,21 @@ def test_concatenate_refuses():
     raises(ValueError, xet_shards.concatenate, [])
 
 
+def test_order_of_refusals():
+    keyed = xet_shards.export(ONE_FILE, hash_text("7"), 0, 0)
+    # The reserved word of the file's header, which is at 48, is in its bytes 40 to 47.
+    malformed, cut = ONE_FILE[:88] + b"\1" + ONE_FILE[89:], ONE_FILE[:199]
+    other = shard_of("file 100 200:0:6:5")
+    for named in ({}, {"start": hash_text("0")}):
+        # The first input decides that cannot be read or is not well-formed.
+        for name, shards in (("Io", [ONE_FILE, cut, malformed]), ("Malformed", [ONE_FILE, malformed, cut])):
+            assert refused(name, xet_shards.merge, shards, strict=True, **named).index == 1
+        # Then disagreements, then keys.
+        refused("Malformed", xet_shards.merge, [other, keyed, malformed], strict=True, **named)
+        refused("Disagree", xet_shards.merge, [other, keyed], strict=True, **named)
+        refused("InvalidArguments", xet_shards.merge, [ONE_FILE, keyed], strict=True, **named)
+
+
 def test_merge_names_the_input():
     keyed = xet_shards.export(ONE_FILE, hash_text("7"), 1000, 60)
     assert refused("Io", xet_shards.merge, [ONE_FILE, XORB_AND_FILE, ONE_FILE[:199], b""]).index == 2
