@@ -628,12 +628,12 @@ uint32_t xet_shard_name(const xet_hash *hash, uint8_t *out, size_t capacity, siz
  * XET_BAD_FILENAME: it is another text, such as a path. */
 uint32_t xet_parse_shard_name(const uint8_t *name, size_t length, xet_hash *hash);
 
-/* Writes the hash of some bytes under a key: BLAKE3's keyed mode. Of the bytes of a shard, under the key that the
- * storage has for this, it is the hash in the name of the shard's file. The result is XET_OK. */
+/* Writes the hash of some bytes under a key: BLAKE3's keyed mode. The storage is said to name the file of a shard by this
+ * hash of its bytes, under a key of its own. The result is XET_OK. */
 uint32_t xet_hash_bytes(const xet_hash *key, const uint8_t *bytes, size_t length, xet_hash *hash);
 
-/* Writes the hash of a hash under a key, which is that of its 32 bytes: what an export under the key has of a chunk with
- * this hash. The result is XET_OK. */
+/* Writes the hash of a hash under a key, which is that of its 32 bytes. An export under the key has it in place of the
+ * hash of a chunk. The result is XET_OK. */
 uint32_t xet_hmac(const xet_hash *key, const xet_hash *hash, xet_hash *keyed);
 
 /* The version of the library, XET_VERSION_NUMBER of the header that belongs to it. */

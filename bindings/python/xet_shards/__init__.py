@@ -1334,7 +1334,7 @@ def hash_of_name(name: str) -> str:
 def hash_bytes(key: str, data: Buffer) -> str:
     """Returns the hash of some bytes under a key: BLAKE3's keyed mode.
 
-    Of the bytes of a shard, under the key that the storage has for this, it is the hash in the name of the shard's file.
+    The storage is said to name the file of a shard by this hash of its bytes, under a key of its own.
     """
     under, found = _Hash(_words(key)), _Hash()
     with _Addresses(data) as [given]:
@@ -1343,7 +1343,7 @@ def hash_bytes(key: str, data: Buffer) -> str:
 
 
 def hmac(key: str, chunk_hash: str) -> str:
-    """Returns what an export under this key has of a chunk with this hash."""
+    """Returns the hash of a chunk's hash under a key: an export under this key has it in its place."""
     under, wanted, found = _Hash(_words(key)), _Hash(_words(chunk_hash)), _Hash()
     _check(_library.xet_hmac(byref(under), byref(wanted), byref(found)))
     return _text(found.words)

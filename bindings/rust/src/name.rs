@@ -32,8 +32,8 @@ pub fn hash_of_name(name: &str) -> Result<Hash> {
     Ok(hash)
 }
 
-/// The hash of some bytes under a key: BLAKE3's keyed mode. Of the bytes of a shard, under the key that the storage has
-/// for this, it is the hash in the name of the shard's file.
+/// The hash of some bytes under a key: BLAKE3's keyed mode. The storage is said to name the file of a shard by this hash
+/// of its bytes, under a key of its own.
 ///
 /// ```
 /// // b3sum --keyed, with the key of the bytes 0 to 31, of no byte.
@@ -48,7 +48,7 @@ pub fn hash_bytes(key: Hash, bytes: &[u8]) -> Hash {
     hash
 }
 
-/// What an export under this key has of a chunk with this hash: the hash of its 32 bytes under the key.
+/// The hash of the 32 bytes of a chunk's hash under a key: an export under this key has it in its place.
 ///
 /// ```
 /// let (key, hash) = ([7, 1, 0, 0].into(), [21, 1, 0, 0].into());
