@@ -4,9 +4,9 @@
  * between calls: there is no handle, and nothing to free. Shards of versions 2 and 3 of the format are read, and
  * version 3 is written, but by xet_write_v2. Any number of threads may call at once. This file is C99, and C++11.
  *
- * xet_export, xet_write_v2, xet_minimal, xet_subset, xet_eligible and xet_check find the two sections behind the header;
- * all other calls that read records by the offsets in the footer. So of bytes with a wrong footer one call may read other
- * records than another. xet_check finds such a footer.
+ * xet_export, xet_write_v2, xet_minimal, xet_subset, xet_eligible and xet_check find the two sections behind the
+ * header; all other calls that read a shard's records go by the offsets in the footer. So of bytes with a wrong footer
+ * one call may read other records than another. xet_check finds such a footer.
  *
  * A call returns 0 or the number of an error. If the result is not 0, every output but a count stays as it was: what
  * `out`, `info`, `run`, `file`, `segments` and `hash` point to is not touched, unless a call says otherwise below. A
@@ -143,8 +143,8 @@ typedef struct xet_export_options {
  * XET_IO: there are too few bytes for a header and a footer. */
 uint32_t xet_load(const uint8_t *shard, size_t length, xet_info *info);
 
-/* The room that is enough for xet_union, xet_merge, xet_merge_range and xet_merge_agreeing of shards of so many bytes in
- * all, whatever they hold, and for xet_difference where its second shard has so many: 344 bytes, and 8/3 of these. */
+/* The room that is enough for xet_union, xet_merge, xet_merge_range and xet_merge_agreeing of shards of so many bytes
+ * in all, whatever they hold, and for xet_difference if its second shard has so many: 344 bytes, and 8/3 of these. */
 static inline size_t xet_union_room(size_t bytes) {
     return bytes / 3 > (SIZE_MAX - 352) / 8 ? SIZE_MAX : 352 + bytes / 3 * 8;
 }
@@ -189,7 +189,7 @@ uint32_t xet_union(const uint8_t *first, size_t first_length, const uint8_t *sec
  * The other errors are those of xet_union. */
 uint32_t xet_merge(const xet_bytes *shards, size_t count, uint8_t *out, size_t capacity, size_t *written);
 
-/* A range of hashes: those that are not below `from`, if `has_from` is set, and are below `to`, if `has_to` is set. Hashes
+/* A range of hashes: each that is not below `from`, if `has_from` is set, and is below `to`, if `has_to` is set. Hashes
  * are ordered by their first word, then by the second, the third and the fourth, each as a number. A bound that is not
  * set is not looked at. */
 typedef struct xet_range {
@@ -203,8 +203,8 @@ typedef struct xet_range {
  * xorbs by that of the xorb, as a shard with all tables. A range without records gives a shard without records.
  *
  * If the sections of the inputs hold well-formed shards that agree pairwise, under one key, it is the bytes, under this
- * key, of the records of their join that are in the range, or fails for memory or for too many rows. So each range may be
- * made by a thread or a machine of its own, and ranges that follow one another have together each record of the join
+ * key, of the records of their join that are in the range, or fails for memory or for too many rows. So each range may
+ * be made by a thread or a machine of its own, and ranges that follow one another have together each record of the join
  * once. xet_find_malformed and xet_find_disagreement tell whether the inputs are so.
  *
  * Each call reads all sections of all inputs. Beyond its output it holds the places of the records in the range, and of
@@ -218,8 +218,8 @@ uint32_t xet_merge_range(const xet_bytes *shards, size_t count, const xet_range 
  * version 3 and without timestamps. The hashes of files have to ascend from each shard to the next, and so have those
  * of xorbs; a shard may have none of either. So it puts together what xet_merge_range writes of well-formed shards that
  * agree, for ranges that follow one another, the first without `from` and the last without `to`: it is the bytes that
- * the one xet_merge writes. Of shards as this library writes them with all tables, whose hashes ascend so and which have
- * together at most 4294967295 rows a section, it fails for memory alone.
+ * the one xet_merge writes. Of shards as this library writes them with all tables, whose hashes ascend so and which
+ * have together at most 4294967295 rows a section, it fails for memory alone.
  *
  * Sections and tables are copied and not checked: of shards that are not trusted xet_check tells what is wrong with
  * what is made of them. `out` needs no more room than such shards have bytes in all. What is written is made first, and
@@ -254,11 +254,13 @@ uint32_t xet_find_disagreement(const xet_bytes *shards, size_t count, size_t *di
 
 /* Looks for a record that no shard may have: a file whose header has a reserved word that is not 0, or flags but those
  * of verification rows, a metadata row and an auxiliary row (bits 31, 30 and 29), or a xorb whose chunks have more than
- * 4294967295 bytes together. Shards without such are well-formed. A union keeps these words and flags of one of its
- * inputs, and xet_find_disagreement does not compare them, so without this the order of a merge may count. `*malformed`
- * says whether one of the shards has such a record, and `found` is one of the first that does: its hash, and the place
- * of the shard in the list as `first` and as `second`. If there is none, `found` stays as it is. With an error
- * `*malformed` is false, and `found` stays.
+ * 4294967295 bytes together. A shard without such a record is well-formed. A union keeps the reserved word and the
+ * flags of one of its inputs, and xet_find_disagreement does not compare them, so with such a record the order of a
+ * merge may count.
+ *
+ * `*malformed` says whether one of the shards has such a record, and `found` shows one of the first shard that does:
+ * its hash, and the place of the shard in the list as `first` and as `second`. If there is none, `found` stays as it
+ * is. With an error `*malformed` is false, and `found` stays.
  *
  * The errors are those of xet_find_disagreement. */
 uint32_t xet_find_malformed(const xet_bytes *shards, size_t count, bool *malformed, xet_disagreement *found);
@@ -269,8 +271,8 @@ uint32_t xet_find_malformed(const xet_bytes *shards, size_t count, bool *malform
  *
  * Refusals come in this order. The inputs are gone through one by one: the first that cannot be read, or that is not
  * well-formed, decides between the errors of xet_find_malformed and XET_MALFORMED. Then records that do not agree are
- * XET_DISAGREE, also if the keys differ. Then come the other errors of xet_merge, as of keys that differ or of no shard,
- * and at last XET_SHORT. XET_OUT_OF_MEMORY may come at any time.
+ * XET_DISAGREE, also if the keys differ. Then come the other errors of xet_merge, as of keys that differ or of no
+ * shard, and at last XET_SHORT. XET_OUT_OF_MEMORY may come at any time.
  *
  * XET_MALFORMED: one of them has a record that no shard may have. `found` is as xet_find_malformed sets it, and
  *     `*written` and `*differing` are 0.
@@ -344,10 +346,11 @@ uint32_t xet_write_v2(const uint8_t *shard, size_t length, uint8_t *out, size_t 
 uint32_t xet_query_chunks(const uint8_t *shard, size_t length, const xet_hash *hashes, size_t hash_count, size_t *count,
                           xet_segment *run);
 
-/* Looks at the run of these hashes, which are not keyed, from the chunk at an index of the xorb at a row of the xorb
- * section: where an index over many shards has the first word of the first hash. `*count` is how many chunks have the
- * hashes, one by one, and `run` says where they are. If no hash is given, or that chunk has another hash than the
- * first, `*count` is 0 and `run` stays as it is. With an error `*count` is 0, and `run` stays.
+/* Looks for the run of these hashes, which are not keyed, that starts at one chunk: at an index of the xorb at a row of
+ * the xorb section. An index over many shards says where the first word of the first hash is. `*count` is how many
+ * chunks from there on have the hashes, one by one, and `run` says where they are. If no hash is given, or the chunk
+ * has another hash than the first, `*count` is 0 and `run` stays as it is. With an error `*count` is 0, and `run`
+ * stays.
  *
  * XET_SHARD_VERSION, XET_IO: the errors of xet_load; XET_IO also if a row that is read ends too early.
  * XET_INVALID_ARGUMENTS: there is no xorb at the row, since the section ends there, or it has no chunk at the index.
@@ -364,9 +367,9 @@ typedef struct xet_chunk_row {
     uint32_t index;
 } xet_chunk_row;
 
-/* Writes where the chunks of a shard are, which an index over many shards is made of: the rows of its chunk table; or,
- * if that is left out, those that it would have, in the order of the xorb section. Where the shard has a key, each word
- * is that of a hash under it, as xet_hmac makes it. `capacity` and `*written` count rows.
+/* Writes where the chunks of a shard are, for an index over many shards: the rows of its chunk table, or, if that is
+ * left out, the rows that it would have, in the order of the xorb section. Where the shard has a key, each word is that
+ * of a hash under it, as xet_hmac makes it. `capacity` and `*written` count rows.
  *
  * XET_SHARD_VERSION, XET_IO: the errors of xet_load; XET_IO also if the table or the section ends too early.
  * XET_INVALID_SHARD: there are more than 4294967295 rows.
@@ -389,9 +392,9 @@ typedef struct xet_file_segment {
     uint64_t verification[4];
 } xet_file_segment;
 
-/* What a file's record has: its flags, the number of its segments, whether these have verification hashes, its SHA-256
- * and its auxiliary hash, or zeros where it has none, and its reserved word. If there is no such file, `found` is false
- * and all else is zero. */
+/* A file's record: its flags, the number of its segments, whether these have verification hashes, its SHA-256 and its
+ * auxiliary hash, or zeros where it has none, and its reserved word. If there is no such file, `found` is false and all
+ * else is zero. */
 typedef struct xet_file {
     bool found;
     bool has_verification;
@@ -456,10 +459,11 @@ typedef struct xet_chunk {
 uint32_t xet_xorb_at(const uint8_t *shard, size_t length, uint32_t row, xet_place *place, xet_xorb *xorb,
                      xet_chunk *chunks, size_t capacity);
 
-/* Lookups in a shard of which only parts were read. xet_load reads both ends, and `info` says where the others are.
+/* Lookups in a shard of which only parts were read. xet_load reads both ends, and its `info` says where the other parts
+ * are.
  *
  * xet_find_rows looks in the bytes of a file table, or of a xorb table, for the first word of a hash, and writes the
- * rows of the section at which the records with such a hash start: 7 at most. A row is 48 bytes, so the file at row 5
+ * rows of the section at which records with such a hash start: 7 at most. A row is 48 bytes, so the file at row 5
  * starts at `info.file_section` + 5 * 48.
  *
  * XET_INVALID_ARGUMENTS: the bytes are no whole rows.
@@ -474,17 +478,17 @@ typedef struct xet_chunk_place {
     uint32_t index;
 } xet_chunk_place;
 
-/* The same of a chunk table, and of the first word of a chunk's hash, which is keyed if the shard has a key. Writes the
- * places of 8 rows at most, as many as a query looks at.
+/* The same of a chunk table, and of the first word of a chunk's hash, which is keyed if the shard has a key. Writes 8
+ * places at most, as many as a query looks at.
  *
  * XET_INVALID_ARGUMENTS: the bytes are no whole rows.
  * XET_OUT_OF_MEMORY, XET_SHORT. */
 uint32_t xet_find_places(const uint8_t *table, size_t length, uint64_t word, xet_chunk_place *places, size_t capacity,
                          size_t *written);
 
-/* Reads the file's record at the front of some bytes, as xet_file_at reads the one at a row: of the bytes from a row
- * on, and of any that are enough of them, it is the record there. `place->next` is how many rows it has, and its hash
- * is to be compared with the one that was looked for. `version` is that of the shard.
+/* Reads the file's record at the front of some bytes, as xet_file_at reads the one at a row: the bytes of a shard from
+ * that row on, as many as the record has or more. `place->next` is how many rows it has. Its hash is to be compared
+ * with the one that was looked for. `version` is that of the shard.
  *
  * XET_IO: the bytes end before the record does, so more are needed.
  * XET_INVALID_ARGUMENTS: the version is neither 2 nor 3.
@@ -498,9 +502,9 @@ uint32_t xet_file_in(const uint8_t *bytes, size_t length, uint64_t version, xet_
 uint32_t xet_xorb_in(const uint8_t *bytes, size_t length, xet_place *place, xet_xorb *xorb, xet_chunk *chunks,
                      size_t capacity);
 
-/* A file of a list: its hash, its SHA-256 and its auxiliary hash, or zeros where it has none, its flags, and how many of
- * the list of segments are its own. The flags say what it has: bit 31 verification hashes, 30 a SHA-256, 29 an auxiliary
- * hash. The first file has the first segments of the list, the second those behind them, and so on. */
+/* A file of a list: its hash, its SHA-256 and its auxiliary hash, or zeros where it has none, its flags, and how many
+ * items of the list of segments are its own. The flags say what it has: bit 31 verification hashes, 30 a SHA-256, 29 an
+ * auxiliary hash. The first file has the first segments of the list, the second the segments behind them, and so on. */
 typedef struct xet_listed_file {
     uint64_t hash[4];
     uint64_t sha256[4];
@@ -509,8 +513,8 @@ typedef struct xet_listed_file {
     uint32_t segments;
 } xet_listed_file;
 
-/* A xorb of a list: its hash, its flags, how many of the list of chunks are its own, and its bytes, unpacked and on disk.
- * Its chunks are where those of the xorb before end. */
+/* A xorb of a list: its hash, its flags, how many items of the list of chunks are its own, and its bytes, unpacked and
+ * on disk. Its chunks start where those of the xorb before it end. */
 typedef struct xet_listed_xorb {
     uint64_t hash[4];
     uint32_t flags;
@@ -529,9 +533,9 @@ typedef struct xet_counts {
 
 /* Reads all records of the sections to which the footer leads, also of a shard without tables, and writes them to the
  * fronts of four lists: files in the order of their section, their segments, xorbs, and their chunks. Where the shard
- * has a key, the chunk hashes are under it. Reserved words of files are not shown. `counts` says how many there are of
- * each. With XET_SHORT a list has no room for its own, and all lists stay as they are: with all capacities 0 a call asks
- * for the counts. With any other error the counts are 0.
+ * has a key, the chunk hashes are under it. Reserved words of files are not shown. `counts` says how many items each
+ * list has. With XET_SHORT a list has too little room, and all lists stay as they are, so a call with all capacities 0
+ * asks for the counts. With any other error the counts are 0.
  *
  * XET_SHARD_VERSION, XET_IO: the errors of xet_load; XET_IO also if a section ends too early.
  * XET_INVALID_SHARD: a file has a row that the version does not have, or a section more than 4294967295 rows.
@@ -574,13 +578,12 @@ enum xet_finding_kind {
     XET_TOO_SHORT,        /* there are too few bytes for a header and a footer */
     XET_CUT,              /* the bytes end before the section `part` does */
     XET_REFUSED,          /* the section has a header that the version does not have, or more than 4294967295 rows */
-    XET_OUT_OF_ORDER,     /* the hash of the record at `number` of the section, from 0 on, is not greater than the last */
+    XET_OUT_OF_ORDER,     /* the hash of record `number` of the section, from 0 on, is not above the one before */
     XET_DIFFERS,          /* the part is not the one that the records give; of a section this is its end */
     XET_OTHER_SIZE,       /* the size is not `number`, which the records give */
-    XET_MALFORMED_RECORD, /* the record at `number` of the section, from 0 on, is one that no shard may have: a file
-                           * with flags beside those of its parts, or with a reserved word that is not zero in its
-                           * header or in a row of an optional part, or a xorb whose chunks have more than 4294967295
-                           * bytes together */
+    XET_MALFORMED_RECORD, /* no shard may have the record `number` of the section, from 0 on: a file with flags beside
+                           * those of its parts, or with a reserved word that is not 0 in its header or in a row of an
+                           * optional part, or a xorb whose chunks have more than 4294967295 bytes together */
     XET_REORDERED         /* a note: rows of the chunk table that share a first word stand in another order than the
                            * library writes, and nothing is lost */
 };
@@ -602,9 +605,10 @@ typedef struct xet_finding {
     uint64_t number;
 } xet_finding;
 
-/* Writes all that is wrong with the bytes of a shard: nothing if they are, byte for byte, what the library writes of the
- * records in them, which a shard may have, with ascending hashes, in their version and with their key, their times and
- * the tables of which the footer says that they have rows. If the bytes can't be read, nothing else is looked for.
+/* Writes all that is wrong with the bytes of a shard. It is nothing if they are, byte for byte, what the library writes
+ * of the records in them, in their version and with their key, their times and the tables of which the footer says that
+ * they have rows, and if the hashes ascend and a shard may have each record. If the bytes can't be read, nothing else
+ * is looked for.
  *
  * The original leaves rows of the chunk table that share a first word in any order. So of a shard that it wrote, in
  * which a chunk occurs more than once, this mostly writes the note XET_REORDERED, which is no fault: the bytes are as
@@ -628,8 +632,8 @@ uint32_t xet_shard_name(const xet_hash *hash, uint8_t *out, size_t capacity, siz
  * XET_BAD_FILENAME: it is another text, such as a path. */
 uint32_t xet_parse_shard_name(const uint8_t *name, size_t length, xet_hash *hash);
 
-/* Writes the hash of some bytes under a key: BLAKE3's keyed mode. The storage is said to name the file of a shard by this
- * hash of its bytes, under a key of its own. The result is XET_OK. */
+/* Writes the hash of some bytes under a key: BLAKE3's keyed mode. The storage is said to name the file of a shard by
+ * this hash of its bytes, under a key of its own. The result is XET_OK. */
 uint32_t xet_hash_bytes(const xet_hash *key, const uint8_t *bytes, size_t length, xet_hash *hash);
 
 /* Writes the hash of a hash under a key, which is that of its 32 bytes. An export under the key has it in place of the
