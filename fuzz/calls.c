@@ -86,6 +86,17 @@ static uint32_t call_merge(const struct input *input, void *out, size_t capacity
     return within_room(error, bytes_of(list, input->count), *written);
 }
 
+/* The range is from the file's hash on, below it, or both, which has no hash; or it has all. */
+static uint32_t call_merge_range(const struct input *input, void *out, size_t capacity, size_t *written) {
+    xet_bytes list[SHARDS];
+    list_shards(input, list);
+    xet_range range = {.has_from = input->verification, .has_to = input->aux_rows};
+    memcpy(range.from, input->file.words, sizeof range.from);
+    memcpy(range.to, input->file.words, sizeof range.to);
+    uint32_t error = xet_merge_range(list, input->count, &range, out, capacity, written);
+    return within_room(error, bytes_of(list, input->count), *written);
+}
+
 static uint32_t call_concatenate(const struct input *input, void *out, size_t capacity, size_t *written) {
     xet_bytes list[SHARDS];
     list_shards(input, list);
@@ -187,11 +198,13 @@ static uint32_t call_find_file(const struct input *input, void *out, size_t capa
     return error;
 }
 
-/* Four lists with room for so many records and items, or with too little room for those at `lacking`, if that is one. */
+/* Room for the records of a shard. */
 struct lists {
     struct block files, segments, xorbs, chunks;
 };
 
+/* Reads all records into lists with room for so many. If `lacking` is the number of a list, 0 to 3, it has room for one
+ * item less. */
 static uint32_t read_lists(const struct input *input, xet_counts room, int lacking, struct lists *lists,
                            xet_counts *found) {
     size_t *rooms[] = {&room.files, &room.segments, &room.xorbs, &room.chunks};
@@ -257,47 +270,27 @@ static uint32_t call_chunk_rows(const struct input *input, void *out, size_t cap
     return xet_chunk_rows(SHARD(0), out, capacity, written);
 }
 
-/* A part of the first shard: from the place that its footer has, if that is in the shard, to the next part's. */
-static xet_bytes part_of(const struct input *input, uint64_t (*start)(const xet_info *info),
-                                uint64_t (*end)(const xet_info *info)) {
+/* A section or a table of the first shard: from where it starts by the footer to where the next part starts. If they are
+ * not in the shard, it is the whole shard. */
+static xet_bytes part_of(const struct input *input, enum xet_part part) {
     xet_info info;
-    size_t length = input->shards[0].length;
-    if (xet_load(SHARD(0), &info) != XET_OK || start(&info) > end(&info) || end(&info) > length)
+    if (xet_load(SHARD(0), &info) != XET_OK)
         return (xet_bytes){SHARD(0)};
-    return (xet_bytes){input->shards[0].bytes + start(&info), (size_t)(end(&info) - start(&info))};
-}
-
-static uint64_t file_section(const xet_info *info) {
-    return info->file_section;
-}
-
-static uint64_t xorb_section(const xet_info *info) {
-    return info->xorb_section;
-}
-
-static uint64_t file_table(const xet_info *info) {
-    return info->file_table;
-}
-
-static uint64_t xorb_table(const xet_info *info) {
-    return info->xorb_table;
-}
-
-static uint64_t chunk_table(const xet_info *info) {
-    return info->chunk_table;
-}
-
-static uint64_t footer(const xet_info *info) {
-    return info->footer;
+    const uint64_t starts[] = {info.file_section, info.xorb_section, info.file_table,
+                               info.xorb_table,   info.chunk_table,  info.footer};
+    uint64_t start = starts[part - XET_FILE_SECTION], end = starts[part + 1 - XET_FILE_SECTION];
+    if (start > end || end > input->shards[0].length)
+        return (xet_bytes){SHARD(0)};
+    return (xet_bytes){input->shards[0].bytes + start, (size_t)(end - start)};
 }
 
 static uint32_t call_find_rows(const struct input *input, void *out, size_t capacity, size_t *written) {
-    xet_bytes table = part_of(input, file_table, xorb_table);
+    xet_bytes table = part_of(input, XET_FILE_TABLE);
     return xet_find_rows(table.bytes, table.length, input->file.words[0], out, capacity, written);
 }
 
 static uint32_t call_find_places(const struct input *input, void *out, size_t capacity, size_t *written) {
-    xet_bytes table = part_of(input, chunk_table, footer);
+    xet_bytes table = part_of(input, XET_CHUNK_TABLE);
     const xet_hash *chunk = (const void *)input->chunks.bytes;
     uint64_t word = input->chunks.length ? chunk->words[0] : 0;
     return xet_find_places(table.bytes, table.length, word, out, capacity, written);
@@ -307,9 +300,9 @@ static const struct filling fillings[] = {
     {"xet_union", 1, OF_MERGING, call_union, 3},
     {"xet_difference", 1, OF_MERGING, call_difference, 3},
     {"xet_merge", 1, OF_MERGING, call_merge, 3},
+    {"xet_merge_range", 1, OF_MERGING, call_merge_range, 3},
     {"xet_concatenate", 1, OF_MERGING, call_concatenate, 3},
-    {"xet_merge_agreeing", 1, OF_MERGING | BIT(XET_DISAGREE) | BIT(XET_MALFORMED),
-     call_merge_agreeing, 3},
+    {"xet_merge_agreeing", 1, OF_MERGING | BIT(XET_DISAGREE) | BIT(XET_MALFORMED), call_merge_agreeing, 3},
     {"xet_export", 1, OF_MERGING, call_export, 3},
     {"xet_minimal", 1, OF_SECTIONS, call_minimal, 3},
     {"xet_subset", 1, OF_SECTIONS, call_subset, 3},
@@ -390,7 +383,7 @@ static void check_load(const struct input *input) {
     free_block(&info);
 }
 
-/* A run that was looked for: how many of the hashes it has, and where. */
+/* A run has no more chunks than there are hashes, and is written exactly if it has one. */
 static void check_run(size_t hash_count, uint32_t error, size_t count, const struct block *run) {
     require(count <= hash_count && (error == XET_OK || count == 0), "the count is another");
     require(count > 0 || is_filled(run, 0), "no run is written");
@@ -410,7 +403,7 @@ static void check_query(const struct input *input) {
     free_block(&run);
 }
 
-/* Looks at the first chunks that the shard has, by its table or by its section. */
+/* Looks for runs from the first chunks of the shard on, by its table or by its section. */
 static void check_query_at(const struct input *input) {
     called = "xet_query_at";
     xet_chunk_row rows[8];
@@ -528,7 +521,7 @@ static const struct reading readings[] = {
     {"xet_xorb_at", sizeof(xet_xorb), sizeof(xet_chunk), call_xorb_at, xorb_found},
 };
 
-/* The same of bytes from a row on: `length` is that of the bytes, and a row is not looked at. */
+/* The same of the record at the front of bytes, of which there is one, at row 0. */
 static uint32_t call_file_in(const uint8_t *bytes, size_t length, uint32_t row, xet_place *place, void *record,
                              void *items, size_t capacity) {
     return row ? XET_IO : xet_file_in(bytes, length, 3, place, record, items, capacity);
@@ -571,7 +564,7 @@ static uint64_t check_row(const struct reading *reading, const struct input *inp
     return found.next;
 }
 
-/* Walks through the beginning of a section, so many records. */
+/* Walks through the first records of a section, at most so many. */
 static void check_walk(const struct reading *reading, const struct input *input, xet_bytes bytes, int steps) {
     called = reading->name;
     uint64_t row = 0;
@@ -597,8 +590,8 @@ void make_calls(const struct input *input, struct random *random, struct tally *
     check_find_malformed(input);
     for (int at = 0; at < 2; at++)
         check_walk(&readings[at], input, (xet_bytes){SHARD(0)}, 20);
-    check_walk(&part_readings[0], input, part_of(input, file_section, xorb_section), 1);
-    check_walk(&part_readings[1], input, part_of(input, xorb_section, file_table), 1);
+    check_walk(&part_readings[0], input, part_of(input, XET_FILE_SECTION), 1);
+    check_walk(&part_readings[1], input, part_of(input, XET_XORB_SECTION), 1);
     check_texts(input);
     check_hashes(input);
 }
