@@ -106,7 +106,7 @@ def check_example(room, flags, wanted):
 
 # The results that calls on corrupted shards must have shown for a run to have tried anything.
 SEEN = """Ok Io InternalError TruncatedHashCollision ShardVersion BadFilename InvalidShard InvalidArguments HashParsing
-    Short Disagree""".split()
+    Short Disagree Malformed""".split()
 
 
 def check_fuzz(room):
