@@ -2,7 +2,7 @@
 
 use crate::calls::{self, Bytes};
 use crate::error::{check, Error};
-use crate::output::bytes_of;
+use crate::output::{bytes_of, with_room};
 use crate::{Hash, Result};
 use std::fmt;
 use std::ops::{Bound, RangeBounds};
@@ -71,7 +71,7 @@ impl fmt::Display for Disagreement {
 }
 
 /// A record that no shard may have, though it can be read: a file whose header has a reserved word that is not 0 or
-/// flags that announce nothing, or a xorb whose chunks have more than 4294967295 bytes together.
+/// flags of no known part, or a xorb whose chunks have more than 4294967295 bytes together.
 #[derive(Clone, Copy, Debug, PartialEq, Eq, Hash)]
 pub struct MalformedRecord {
     /// The hash of the record.
@@ -161,8 +161,9 @@ pub fn merge<T: AsRef<[u8]>>(shards: &[T]) -> Result<Vec<u8>> {
 }
 
 /// The records in a range of hashes of the union that [`merge`] makes, files and xorbs each by their own hash, as a
-/// shard. Of well-formed shards that agree pairwise, under one key, it is the same bytes in any order. Ranges that follow
-/// one another then have together each record of the join once, so each may be made by a thread or a machine of its own.
+/// shard. Of well-formed shards that agree pairwise, under one key, it is the same bytes in any order. Ranges that
+/// follow one another then have together each record of the join once, so each may be made by a thread or a machine of
+/// its own.
 ///
 /// # Errors
 ///
@@ -219,9 +220,9 @@ fn next(mut hash: Hash) -> Option<Hash> {
 }
 
 /// The shard that has the records of one shard or more, in their order, with all tables, under the key of all, and
-/// without timestamps. The hashes of files have to ascend from each shard to the next, and so have those of xorbs. So it
-/// puts together what [`merge_range`] gives of well-formed shards that agree, for ranges that follow one another, from no
-/// bound to no bound: it is what the one [`merge`] gives. Sections and tables are copied and not checked:
+/// without timestamps. The hashes of files have to ascend from each shard to the next, and so have those of xorbs. So
+/// it puts together what [`merge_range`] gives of well-formed shards that agree, for ranges that follow one another,
+/// from no bound to no bound: it is what the one [`merge`] gives. Sections and tables are copied and not checked:
 /// [`check`](crate::check) tells what is wrong with what is made of shards that are not trusted.
 ///
 /// # Errors
@@ -316,8 +317,8 @@ pub fn find_disagreement<T: AsRef<[u8]>>(shards: &[T]) -> Result<Option<Disagree
     Ok((count > 0).then(|| Disagreement::of(&found, count)))
 }
 
-/// Looks for a record that no shard may have, of the first of the shards that has one. If there is none, each is
-/// well-formed, and if they agree too the order of a merge does not count.
+/// Looks for a record that no shard may have, of the first shard that has one. If there is none, each shard is
+/// well-formed; if they also agree, the order of a merge does not count.
 ///
 /// # Errors
 ///
@@ -331,9 +332,7 @@ pub fn find_malformed<T: AsRef<[u8]>>(shards: &[T]) -> Result<Option<MalformedRe
 
 /// The shards as the library takes a list of them, and the sum of their lengths.
 fn listed<T: AsRef<[u8]>>(shards: &[T]) -> Result<(Vec<Bytes<'_>>, usize)> {
-    let mut list = Vec::new();
-    list.try_reserve_exact(shards.len()).map_err(|_| Error::OutOfMemory)?;
-    let mut length = 0usize;
+    let (mut list, mut length) = (with_room(shards.len())?, 0usize);
     for shard in shards {
         length = length.saturating_add(shard.as_ref().len());
         list.push(Bytes::from(shard.as_ref()));

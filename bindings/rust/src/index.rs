@@ -25,7 +25,7 @@ impl Places {
         }
     }
 
-    /// Removes the places of a shard that a word has.
+    /// Removes the places of a word that are in this shard.
     fn remove(&mut self, word: u64, shard: u32) {
         let mut left: Vec<_> = self.of(word).filter(|it| it.shard != shard).collect();
         self.first.remove(&word);
@@ -61,7 +61,8 @@ impl Places {
 /// assert_eq!((shard, run.count, run.segment.start), (b, 2, 0));
 /// index.remove(b)?;
 /// assert_eq!(index.query(&chunks)?, None);
-/// assert!(index.query(&[[21, 1, 0, 0].into()])?.is_some_and(|(shard, _)| shard == a));
+/// let (shard, _) = index.query(&[[21, 1, 0, 0].into()])?.expect("a has it");
+/// assert_eq!(shard, a);
 /// # Ok(())
 /// # }
 /// ```
@@ -70,7 +71,7 @@ pub struct Index<S> {
     shards: HashMap<u32, (Hash, S)>,
     /// The number of the next shard.
     next: u32,
-    /// The keys of the shards, in the order in which they came, and what is known under each.
+    /// The keys of the shards, in the order in which they came, and the places of chunks under each.
     keys: Vec<(Hash, Places)>,
 }
 
@@ -157,7 +158,7 @@ impl<S: AsRef<[u8]>> Index<S> {
         self.shards.is_empty()
     }
 
-    /// Where the first word of a hash is, under each key.
+    /// The places of the first word of a hash, under each key.
     fn places_of(&self, hash: Hash) -> impl Iterator<Item = Place> + '_ {
         self.keys.iter().flat_map(move |(key, places)| {
             let keyed = if *key == NO_KEY { hash } else { hmac(*key, hash) };
@@ -165,7 +166,7 @@ impl<S: AsRef<[u8]>> Index<S> {
         })
     }
 
-    /// What is known under a key.
+    /// The places of chunks under a key, which is added if it is not there.
     fn places(&mut self, key: Hash) -> &mut Places {
         let at = self.keys.iter().position(|(it, _)| *it == key).unwrap_or_else(|| {
             self.keys.push((key, Places::default()));

@@ -32,8 +32,8 @@ pub fn hash_of_name(name: &str) -> Result<Hash> {
     Ok(hash)
 }
 
-/// The hash of some bytes under a key: BLAKE3's keyed mode. The storage is said to name the file of a shard by this hash
-/// of its bytes, under a key of its own.
+/// The hash of some bytes under a key: BLAKE3's keyed mode. The storage is said to name the file of a shard by this
+/// hash of its bytes, under a key of its own.
 ///
 /// ```
 /// // b3sum --keyed, with the key of the bytes 0 to 31, of no byte.

@@ -6,18 +6,23 @@ use crate::{Hash, Result};
 /// `XET_SHORT`: the output does not fit the room that was given.
 pub const SHORT: u32 = 19;
 
-/// So many items, each of zeros. They are written before the call writes its own, which is little work next to it.
-pub fn zeros<T: Clone + Default>(count: usize) -> Result<Vec<T>> {
+/// No items, with room for so many.
+pub fn with_room<T>(count: usize) -> Result<Vec<T>> {
     let mut items = Vec::new();
     items.try_reserve_exact(count).map_err(|_| Error::OutOfMemory)?;
+    Ok(items)
+}
+
+/// So many items, each of zeros. They are written before the call writes its own, which is little work next to it.
+pub fn zeros<T: Clone + Default>(count: usize) -> Result<Vec<T>> {
+    let mut items = with_room(count)?;
     items.resize(count, T::default());
     Ok(items)
 }
 
 /// A copy of items.
 pub fn copied<T: Copy>(of: &[T]) -> Result<Vec<T>> {
-    let mut items = Vec::new();
-    items.try_reserve_exact(of.len()).map_err(|_| Error::OutOfMemory)?;
+    let mut items = with_room(of.len())?;
     items.extend_from_slice(of);
     Ok(items)
 }

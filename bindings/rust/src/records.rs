@@ -2,8 +2,8 @@
 
 use crate::error::check;
 use crate::lookup::file_of;
-use crate::output::{filled, zeros, SHORT};
-use crate::{calls, Error, File, Hash, ListedFile, Result, Segment, Xorb, NO_EXPIRY};
+use crate::output::{filled, with_room, zeros, SHORT};
+use crate::{calls, Chunk, Error, File, Hash, ListedFile, Result, Segment, Xorb, NO_EXPIRY};
 
 /// The flag of a file that has verification hashes.
 pub const WITH_VERIFICATION: u32 = 1 << 31;
@@ -19,12 +19,12 @@ pub const WITH_AUX: u32 = 1 << 29;
 pub struct Records {
     /// The files, in the order of their section.
     pub files: Vec<ListedFile>,
-    /// The xorbs, in the order of theirs.
+    /// The xorbs, in the order of their section.
     pub xorbs: Vec<Xorb>,
 }
 
 impl File {
-    /// The flags that say what the file has.
+    /// The flags of the optional parts that the file has.
     pub fn flags(&self) -> u32 {
         let flag = |has: bool, flag: u32| if has { flag } else { 0 };
         flag(self.verification.is_some(), WITH_VERIFICATION)
@@ -34,7 +34,7 @@ impl File {
 }
 
 impl ListedFile {
-    /// A file with this hash, and with the flags that say what it has.
+    /// A file with this hash, and with the flags of the optional parts that it has.
     pub fn new(hash: Hash, file: File) -> ListedFile {
         ListedFile { hash, flags: file.flags(), file }
     }
@@ -72,7 +72,7 @@ pub fn records(shard: &[u8]) -> Result<Records> {
     check(number)?;
     let (mut segments, mut chunks) = (&segments[..], &chunks[..]);
     Ok(Records {
-        files: files.iter().map(|it| listed(it, front(&mut segments, it.segments))).collect(),
+        files: files.iter().map(|it| file_with(it, front(&mut segments, it.segments))).collect(),
         xorbs: xorbs
             .iter()
             .map(|it| Xorb {
@@ -93,7 +93,8 @@ fn front<'a, T>(items: &mut &'a [T], count: u32) -> &'a [T] {
     taken
 }
 
-fn listed(it: &calls::ListedFile, segments: &[calls::FileSegment]) -> ListedFile {
+/// The file of a list that has these segments.
+fn file_with(it: &calls::ListedFile, segments: &[calls::FileSegment]) -> ListedFile {
     let file = calls::File {
         found: true,
         has_verification: it.flags & WITH_VERIFICATION != 0,
@@ -113,9 +114,9 @@ fn listed(it: &calls::ListedFile, segments: &[calls::FileSegment]) -> ListedFile
 ///
 /// # Errors
 ///
-/// - `InvalidArguments`: the flags of a file do not say what it has, or it has other than as many verification hashes as
-///   segments; or there is no such shard: a hash is all ones, a file has flags of no known part, the chunks of a xorb have
-///   more than 4294967295 bytes in all, or the rows of the files, or of the xorbs, would pass 4294967295.
+/// - `InvalidArguments`: the flags of a file are not those of its parts, or it has more or fewer verification hashes
+///   than segments; or there is no such shard: a hash is all ones, a file has flags of no known part, the chunks of a
+///   xorb have more than 4294967295 bytes in all, or the rows of the files, or of the xorbs, would pass 4294967295.
 /// - `OutOfMemory`: an allocation failed.
 ///
 /// ```
@@ -133,8 +134,18 @@ fn listed(it: &calls::ListedFile, segments: &[calls::FileSegment]) -> ListedFile
 /// # }
 /// ```
 pub fn write_records(files: &[ListedFile], xorbs: &[Xorb], expiry: Option<u64>) -> Result<Vec<u8>> {
-    let (mut listed_files, mut segments) =
-        (room(files.len())?, room(files.iter().map(|it| it.file.segments.len()).sum())?);
+    let (files, segments) = file_lists(files)?;
+    let (xorbs, chunks) = xorb_lists(xorbs)?;
+    // As xet_write_room of xet.h.
+    let room = 344 + 156 * files.len() + 96 * segments.len() + 60 * xorbs.len() + 64 * chunks.len();
+    let expiry = expiry.unwrap_or(NO_EXPIRY);
+    filled(room, |out, written| calls::xet_write(&files, &segments, &xorbs, &chunks, expiry, out, written))
+}
+
+/// The files as the library takes a list of them, and their segments.
+fn file_lists(files: &[ListedFile]) -> Result<(Vec<calls::ListedFile>, Vec<calls::FileSegment>)> {
+    let mut listed = with_room(files.len())?;
+    let mut segments = with_room(files.iter().map(|it| it.file.segments.len()).sum())?;
     for it in files {
         let file = &it.file;
         let hashes = file.verification.as_ref().map(Vec::len);
@@ -143,7 +154,7 @@ pub fn write_records(files: &[ListedFile], xorbs: &[Xorb], expiry: Option<u64>) 
         {
             return Err(Error::InvalidArguments);
         }
-        listed_files.push(calls::ListedFile {
+        listed.push(calls::ListedFile {
             hash: it.hash,
             sha256: file.sha256.unwrap_or_default(),
             aux_hash: file.aux_hash.unwrap_or_default(),
@@ -152,9 +163,15 @@ pub fn write_records(files: &[ListedFile], xorbs: &[Xorb], expiry: Option<u64>) 
         });
         segments.extend(file.segments.iter().enumerate().map(|(at, segment)| file_segment(file, at, *segment)));
     }
-    let (mut listed_xorbs, mut chunks) = (room(xorbs.len())?, room(xorbs.iter().map(|it| it.chunks.len()).sum())?);
+    Ok((listed, segments))
+}
+
+/// The xorbs as the library takes a list of them, and their chunks.
+fn xorb_lists(xorbs: &[Xorb]) -> Result<(Vec<calls::ListedXorb>, Vec<Chunk>)> {
+    let mut listed = with_room(xorbs.len())?;
+    let mut chunks = with_room(xorbs.iter().map(|it| it.chunks.len()).sum())?;
     for it in xorbs {
-        listed_xorbs.push(calls::ListedXorb {
+        listed.push(calls::ListedXorb {
             hash: it.hash,
             flags: it.flags,
             chunks: count(it.chunks.len())?,
@@ -163,14 +180,10 @@ pub fn write_records(files: &[ListedFile], xorbs: &[Xorb], expiry: Option<u64>) 
         });
         chunks.extend_from_slice(&it.chunks);
     }
-    // The room that is enough by xet.h.
-    let size = 344 + 156 * files.len() + 96 * segments.len() + 60 * xorbs.len() + 64 * chunks.len();
-    let expiry = expiry.unwrap_or(NO_EXPIRY);
-    filled(size, |out, written| {
-        calls::xet_write(&listed_files, &segments, &listed_xorbs, &chunks, expiry, out, written)
-    })
+    Ok((listed, chunks))
 }
 
+/// A segment of a file, with its verification hash.
 fn file_segment(file: &File, at: usize, segment: Segment) -> calls::FileSegment {
     let verification = file.verification.as_ref().map_or(Hash::default(), |hashes| hashes[at]);
     calls::FileSegment { segment, verification }
@@ -178,10 +191,4 @@ fn file_segment(file: &File, at: usize, segment: Segment) -> calls::FileSegment 
 
 fn count(items: usize) -> Result<u32> {
     u32::try_from(items).map_err(|_| Error::InvalidArguments)
-}
-
-fn room<T>(count: usize) -> Result<Vec<T>> {
-    let mut items = Vec::new();
-    items.try_reserve_exact(count).map_err(|_| Error::OutOfMemory)?;
-    Ok(items)
 }

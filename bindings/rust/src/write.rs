@@ -148,8 +148,8 @@ pub fn subset(shard: &[u8], options: &Subset<'_>) -> Result<Vec<u8>> {
     bytes_of(shard.len(), |out, written| calls::xet_subset(shard, &times, listed, out, written))
 }
 
-/// The same shard in version 2, for readers that do not know version 3: its records in their order, with its key and its
-/// times, and the tables of which the footer says that they have rows.
+/// The same shard in version 2, for readers that do not know version 3: its records in their order, with its key and
+/// its times, and the tables of which the footer says that they have rows.
 ///
 /// # Errors
 ///

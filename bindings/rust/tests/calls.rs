@@ -211,8 +211,8 @@ fn records_in_and_out() {
     assert_eq!(written(&twice), bytes);
     assert_ne!(written(&[&records.files[..], &[other]].concat()), bytes);
     assert_eq!(xet_shards::write_records(&[], &[], None), Ok(Shard::default().written(NO_EXPIRY, 3)));
-    // A shard without tables has the same records, here but for the verification hashes; one under a key has other hashes
-    // of chunks.
+    // A shard without tables has the same records, here without verification hashes; under a key chunks have other
+    // hashes.
     let minimal = Minimal { now: 0, verification: false, aux_rows: true };
     let minimal = xet_shards::minimal(&bytes, &minimal).expect("a minimal shard");
     let found = xet_shards::records(&minimal).expect("records");
