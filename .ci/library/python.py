@@ -112,7 +112,8 @@ def copied(room, library):
 
 def check_package(room, library):
     """The module opens the library beside it, which is no module in its help."""
-    program = "import pkgutil, xet_shards as it; print(*(m[1] for m in pkgutil.iter_modules(it.__path__)), it.__version__)"
+    names = "*(module.name for module in pkgutil.iter_modules(it.__path__))"
+    program = f"import pkgutil, xet_shards as it; print({names}, it.__version__)"
     folder = copied(room, library)
     printed, why = ran(sys.executable, "-c", program, cwd=room, env={"PYTHONPATH": folder, "XET_LIBRARY": ""})
     wanted = f"index {read(f'{TOP}/VERSION')}"

@@ -25,7 +25,10 @@ class PlatformDistribution(Distribution):
 class BuildWithLibrary(build_py):
     def run(self):
         if not glob.glob(LIBRARY):
-            raise SystemExit(f"{LIBRARY} is not there: install a wheel of a release, or run bindings/build.sh of the repository, which makes it")
+            raise SystemExit(
+                f"{LIBRARY} is not there: install a wheel of a release, or run bindings/build.sh of the repository, "
+                "which makes it"
+            )
         super().run()
 
 
@@ -33,7 +36,7 @@ class WheelOfAnyPython(bdist_wheel):
     """The shared object is opened by ctypes, so any version of Python 3 will do."""
 
     def get_tag(self):
-        # Who knows on which systems the library runs may say so.
+        # A release knows on which systems the library runs, and names them.
         return "py3", "none", os.environ.get("XET_WHEEL_PLATFORM") or super().get_tag()[2]
 
 

@@ -144,9 +144,8 @@ class DisagreementError(XetError):
 class MalformedRecord:
     """A record that no shard may have, though it can be read.
 
-    It is a file whose header has a reserved word that is not 0 or flags that announce nothing, or a xorb whose chunks
-    have more than 4294967295 bytes together. `kind` is "file" or "xorb", and `index` is the place of the shard in the
-    list.
+    It is a file whose header has a reserved word that is not 0 or flags of no known part, or a xorb whose chunks have
+    more than 4294967295 bytes together. `kind` is "file" or "xorb", and `index` is the place of the shard in the list.
     """
 
     kind: str
@@ -234,7 +233,7 @@ class ListedFile:
     def of(
         file_hash: str, segments: Sequence[Segment], sha256: Optional[str] = None, aux_hash: Optional[str] = None
     ) -> ListedFile:
-        """Returns the file that has these, with the flags that say so. All segments have verification hashes, or none."""
+        """Returns the file with these parts, and with their flags. All segments have verification hashes, or none."""
         file = File(tuple(segments), sha256, aux_hash)
         has_verification = any(it.verification is not None for it in file.segments)
         return ListedFile(file_hash, _flags(has_verification, file), file)
@@ -242,7 +241,7 @@ class ListedFile:
 
 @dataclass(frozen=True)
 class Chunk:
-    """A chunk of a xorb: its bytes, unpacked, and at which offset they start, its flags, and its reserved word."""
+    """A chunk of a xorb: the offset and the number of its bytes, unpacked, its flags, and its reserved word."""
 
     hash: str
     start: int
@@ -574,7 +573,10 @@ def load(shard: Buffer) -> Info:
 
 
 def find_file(shard: Buffer, file_hash: str) -> Optional[File]:
-    """Returns the file with this hash, or None. In a shard without a table of files, as a minimal one, none is found."""
+    """Returns the file with this hash, or None.
+
+    In a shard without a table of files, as a minimal one, none is found.
+    """
     wanted, file, room = _Hash(_words(file_hash)), _File(), 64
     segments = _array(_FileSegment, room)
     with _Addresses(shard) as [data]:
@@ -751,21 +753,23 @@ def _flags(has_verification: bool, file: File) -> int:
 def write(files: Iterable[ListedFile], xorbs: Iterable[Xorb], expiry: Optional[int] = None) -> bytes:
     """Returns the shard that has these files and xorbs, with all tables, and without a key.
 
-    They may be in any order; of two files, or two xorbs, with one hash the later one counts. A file whose flags do not
-    say what it has is a `ValueError`; `ListedFile.of` makes them. It expires at `expiry`, in seconds.
+    They may be in any order; of two files, or two xorbs, with one hash the later one counts. A file whose flags are not
+    those of its parts is a `ValueError`; `ListedFile.of` sets them. The shard expires at `expiry`, in seconds.
 
     So `write(files(shard), xorbs(shard))` is the same bytes, if this library wrote them in version 3, with all tables,
-    without a key, with creation 0 and without expiry. The library refuses records that no shard has
-    (`InvalidArguments`): with a hash of all ones, flags of no known part, a xorb whose chunks have 2^32 bytes or more in
-    all.
+    without a key, with creation 0 and without expiry, and reserved words of files are zeros. The library refuses records
+    that no shard has (`InvalidArguments`): with a hash of all ones, flags of no known part, or a xorb whose chunks have
+    2^32 bytes or more in all.
     """
+    return _written([*_file_lists(files), *_xorb_lists(xorbs)], expiry)
+
+
+def _file_lists(files: Iterable[ListedFile]) -> List[Any]:
+    """Returns the files as the library takes a list of them, and their segments, each with its length behind it."""
     listed, segments = [], []
     for it in files:
-        with_verification = bool(it.flags & _WITH_VERIFICATION)
-        if any((segment.verification is not None) != with_verification for segment in it.file.segments) or (
-            (it.flags ^ _flags(with_verification, it.file)) & (_WITH_SHA256 | _WITH_AUX)
-        ):
-            raise ValueError(f"the flags of file {it.hash} do not say what it has")
+        if not _has_flags_of_parts(it):
+            raise ValueError(f"the flags of file {it.hash} are not those of its parts")
         listed.append(_ListedFile(
             _words(it.hash), _words_or_zero(it.file.sha256), _words_or_zero(it.file.aux_hash), _number(it.flags),
             len(it.file.segments),
@@ -777,17 +781,25 @@ def write(files: Iterable[ListedFile], xorbs: Iterable[Xorb], expiry: Optional[i
             )
             for part in it.file.segments
         ]
-    listed_xorbs, chunks = [], []
+    return [*_array_of(_ListedFile, listed), *_array_of(_FileSegment, segments)]
+
+
+def _has_flags_of_parts(listed: ListedFile) -> bool:
+    has_verification = bool(listed.flags & _WITH_VERIFICATION)
+    others = (listed.flags ^ _flags(has_verification, listed.file)) & (_WITH_SHA256 | _WITH_AUX)
+    return not others and all((it.verification is not None) == has_verification for it in listed.file.segments)
+
+
+def _xorb_lists(xorbs: Iterable[Xorb]) -> List[Any]:
+    """Returns the xorbs, as `_file_lists` does, and their chunks."""
+    listed, chunks = [], []
     for xorb in xorbs:
         numbers = map(_number, (xorb.flags, len(xorb.chunks), xorb.bytes, xorb.bytes_on_disk))
-        listed_xorbs.append(_ListedXorb(_words(xorb.hash), *numbers))
+        listed.append(_ListedXorb(_words(xorb.hash), *numbers))
         chunks += [
             _Chunk(_words(it.hash), *map(_number, (it.start, it.bytes, it.flags, it.reserved))) for it in xorb.chunks
         ]
-    lists: List[Tuple[Any, List[Any]]] = [
-        (_ListedFile, listed), (_FileSegment, segments), (_ListedXorb, listed_xorbs), (_Chunk, chunks),
-    ]
-    return _written([it for item, items in lists for it in (_array_of(item, items), len(items))], expiry)
+    return [*_array_of(_ListedXorb, listed), *_array_of(_Chunk, chunks)]
 
 
 def _written(lists: Sequence[Any], expiry: Optional[int]) -> bytes:
@@ -819,10 +831,11 @@ def _words_or_zero(text: Optional[str]) -> ctypes.Array[c_uint64]:
     return _Words() if text is None else _words(text)
 
 
-def _array_of(item: Any, items: List[Any]) -> ctypes.Array[Any]:
-    listed = _array(item, len(items))
-    listed[: len(items)] = items
-    return listed
+def _array_of(item: Any, items: List[Any]) -> Tuple[ctypes.Array[Any], int]:
+    """Returns an array of these items, and their number."""
+    array_of = _array(item, len(items))
+    array_of[: len(items)] = items
+    return array_of, len(items)
 
 
 @dataclass(frozen=True)
@@ -1066,8 +1079,8 @@ def merge(
 
     With `start` or `stop`, hashes as text, it has only the files and the xorbs whose hash is not below `start` and is
     below `stop`. Of well-formed shards that agree, ranges that follow one another have together each record of the join
-    once, so each may be merged by a thread or a machine of its own. All shards are read for each range, and with `strict`
-    all their records have to agree.
+    once, so each may be merged by a thread or a machine of its own. All shards are read for each range, and with
+    `strict` all their records have to agree.
 
     If the sections of the inputs hold well-formed shards that agree pairwise, under one key, it is the bytes of their
     join, which has no order, and any other tree of unions gives the same. Shards agree if files with one hash have
