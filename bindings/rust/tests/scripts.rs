@@ -137,9 +137,12 @@ impl Run {
     }
 
     fn find(&mut self, name: &str, wanted: Hash) -> Result<(), Error> {
-        let Some(file) = xet_shards::find_file(self.bytes(name), wanted)? else {
-            self.printed.push("none".to_owned());
-            return Ok(());
+        let file = match xet_shards::find_file(self.bytes(name), wanted)? {
+            Some(file) => file,
+            None => {
+                self.printed.push("none".to_owned());
+                return Ok(());
+            }
         };
         let parts = [file.verification.is_some(), file.sha256.is_some(), file.aux_hash.is_some()];
         let flags = parts.iter().zip([31, 30, 29]).fold(0u64, |flags, (&has, bit)| flags | u64::from(has) << bit);

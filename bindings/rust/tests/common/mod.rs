@@ -55,7 +55,10 @@ impl Shard {
         let (name, mut rest) = (hash(words[0]), &words[1..]);
         let (mut flags, mut optional) = (0, Vec::new());
         for (start, bit) in PARTS {
-            let Some(listed) = rest.first().and_then(|it| it.strip_prefix(start)) else { continue };
+            let listed = match rest.first().and_then(|it| it.strip_prefix(start)) {
+                Some(listed) => listed,
+                None => continue,
+            };
             flags |= bit;
             optional.extend(listed.split(',').filter(|it| !it.is_empty()).map(|it| row(hash(it), [0; 4])));
             rest = &rest[1..];
