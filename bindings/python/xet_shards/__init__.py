@@ -757,9 +757,9 @@ def write(files: Iterable[ListedFile], xorbs: Iterable[Xorb], expiry: Optional[i
     those of its parts is a `ValueError`; `ListedFile.of` sets them. The shard expires at `expiry`, in seconds.
 
     So `write(files(shard), xorbs(shard))` is the same bytes, if this library wrote them in version 3, with all tables,
-    without a key, with creation 0 and without expiry, and reserved words of files are zeros. The library refuses records
-    that no shard has (`InvalidArguments`): with a hash of all ones, flags of no known part, or a xorb whose chunks have
-    2^32 bytes or more in all.
+    without a key, with creation 0 and without expiry, and reserved words of files are zeros. The library refuses
+    records that no shard has (`InvalidArguments`): with a hash of all ones, flags of no known part, or a xorb whose
+    chunks have 2^32 bytes or more in all.
     """
     return _written([*_file_lists(files), *_xorb_lists(xorbs)], expiry)
 
