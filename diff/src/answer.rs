@@ -142,7 +142,7 @@ pub enum Answer {
     Hashes(Vec<Hash>),
     /// How many hashes have records that do not agree, and the first; none if all agree.
     Disagreement(Option<(usize, Disagreement)>),
-    /// A record that no shard may have, and its shard twice.
+    /// A record that no shard may have: its hash, and the number of its shard twice.
     Malformed(Disagreement),
     Error(Error),
     /// The original panicked.

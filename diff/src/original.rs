@@ -97,17 +97,7 @@ fn call_original(call: &Call, first: &[u8], second: &[u8]) -> Result<Answer> {
         Call::Union => Answer::Shard(combine(first, second, true)?),
         Call::Difference => Answer::Shard(combine(first, second, false)?),
         Call::FindDisagreement => Answer::Disagreement(disagreement(first, second)?),
-        Call::MergeAgreeing => {
-            for (at, shard) in [first, second].into_iter().enumerate() {
-                if let Some(found) = malformed(at, &records(shard)?) {
-                    return Ok(Answer::Malformed(found));
-                }
-            }
-            match disagreement(first, second)? {
-                None => Answer::Shard(combine(first, second, true)?),
-                found => Answer::Disagreement(found),
-            }
-        }
+        Call::MergeAgreeing => merge_agreeing(first, second)?,
         Call::Export(options) => Answer::Shard(export(first, options)?),
         Call::Minimal { verification, .. } => {
             let mut bytes = Vec::new();
@@ -204,14 +194,34 @@ fn records(shard: &[u8]) -> Result<Records> {
     Ok(Records { files, xorbs })
 }
 
-/// A record that no shard may have, of the shard at this place: the first file, else the first xorb. The original has no
-/// call for it.
+/// The union of both shards if each is well-formed and they agree, or why there is none. The original
+/// has no call for it.
+fn merge_agreeing(first: &[u8], second: &[u8]) -> Result<Answer> {
+    for (at, shard) in [first, second].into_iter().enumerate() {
+        if let Some(found) = malformed(at, &records(shard)?) {
+            return Ok(Answer::Malformed(found));
+        }
+    }
+    Ok(match disagreement(first, second)? {
+        None => Answer::Shard(combine(first, second, true)?),
+        found => Answer::Disagreement(found),
+    })
+}
+
+/// The flags of a file's parts: verification rows, a metadata row and an auxiliary row.
+const PART_FLAGS: u32 = 0b111 << 29;
+
+/// A record that no shard may have, of the shard at this place: the first file, else the first xorb.
+/// The original has no call for it.
 fn malformed(at: usize, records: &Records) -> Option<Disagreement> {
-    let is_odd =
-        |file: &MDBFileInfo| file.metadata.file_flags & 0x1fff_ffff != 0 || file.metadata._unused != 0;
+    let is_malformed = |file: &MDBFileInfo| {
+        file.metadata.file_flags & !PART_FLAGS != 0 || file.metadata._unused != 0
+    };
     let bytes = |xorb: &MDBXorbInfo| {
-        let sizes = xorb.chunks.iter().map(|chunk| u64::from(chunk.unpacked_segment_bytes));
-        sizes.sum::<u64>()
+        let chunks = xorb.chunks.iter();
+        chunks
+            .map(|chunk| u64::from(chunk.unpacked_segment_bytes))
+            .sum::<u64>()
     };
     let found = |hash: &MerkleHash, is_xorb| Disagreement {
         hash: **hash,
@@ -219,8 +229,9 @@ fn malformed(at: usize, records: &Records) -> Option<Disagreement> {
         first: at,
         second: at,
     };
-    let file = records.files.iter().find(|(_, file)| is_odd(file));
-    let xorb = records.xorbs.iter().find(|(_, xorb)| bytes(xorb) > u64::from(u32::MAX));
+    let file = records.files.iter().find(|(_, file)| is_malformed(file));
+    let mut xorbs = records.xorbs.iter();
+    let xorb = xorbs.find(|(_, xorb)| bytes(xorb) > u64::from(u32::MAX));
     file.map(|(hash, _)| found(hash, false))
         .or(xorb.map(|(hash, _)| found(hash, true)))
 }
