@@ -26,8 +26,8 @@ c_record (Xorb q) first second =
 abbrev pub c_disagreement : Disagreement → XetDisagreement
 c_disagreement d = c_record d.record_hash d.first d.second
 
--- a record that no shard may have as it is shown: its hash, whether it is that of a xorb, and the
--- number of the byte string that holds it twice
+-- a record that no shard may have as it is shown: its hash, whether it is that of a xorb, and,
+-- twice, the number of the byte string that holds it
 abbrev pub c_malformed : MalformedRecord → XetDisagreement
 c_malformed m = c_record m.record_hash m.input m.input
 
@@ -41,8 +41,8 @@ abbrev pub ShowsFirst : List Disagreement → (old new : XetDisagreement) → �
 ShowsFirst [] old new count = (count ≡ 0) × (new ≡ old)
 ShowsFirst (d ∷ ds) old new count = (count ≡ length (d ∷ ds)) × (new ≡ c_disagreement d)
 
--- byte strings were merged whose shards have to agree: what was given of them, and that it is the
--- bytes of the shards' join
+-- the result of a merge of byte strings whose shards have to agree: bytes or why there are none, and
+-- the bytes are those of the shards' join
 pub record MergesIfAgreeing (inputs : List (List ℕ)) (merged : CoreResult AgreeingMerge) : Type 0
   where
     pub any_bytes : MatchResult merged (MergesAgreeing inputs)

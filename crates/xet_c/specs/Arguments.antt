@@ -157,7 +157,7 @@ RefusesRun bytes cs e =
     (e ≡ OutOfMemory)
     ⊎ ((hashes : List DataHash) × (map c_hash hashes ≡ cs) × RefusesQuery bytes hashes e)
 
--- what a query for these hashes answers at a row and an index
+-- the answer of a query for these hashes at a row and an index
 abbrev pub AnswersRunAt : List ℕ → List XetHash → (row index : ℕ)
     → Option (ℕ × FileDataSequenceEntry) → Type 0
 AnswersRunAt bytes cs row index answer =
@@ -179,7 +179,7 @@ ShowsRun Answers Refuses old new count result =
     × (result ≡ 0))
     ⊎ ((e : CoreError) × Refuses e × (new ≡ old) × (count ≡ 0) × (result ≡ variant_number e))
 
--- a bound is asked for by its words, or none is
+-- a bound is the hash with these words if one is asked for, and else there is none
 abbrev pub IsBound : Bool → List ℕ → Option DataHash → Type 0
 IsBound false words bound = bound ≡ None
 IsBound true words bound = (hash : DataHash) × (bound ≡ Some hash) × (words_of hash ≡ words)

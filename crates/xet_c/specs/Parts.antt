@@ -14,8 +14,8 @@ use Rattle.shard_bytes.specs.Parts.{table_of, ArePlacesAmong, HasFileIn, Refuses
 use Rattle.xet_c.specs.declared.chunk_rows.XetChunkRow.{XetChunkRow}
 use Rattle.xet_c.specs.declared.parts.XetChunkPlace.{XetChunkPlace}
 
--- the rows of a section that a table of starts has under a word, fewer than eight: they are those
--- of different rows of the table, and of all that have the word where it is sorted
+-- the starts of records, fewer than eight, that a table has under a word: those of different rows of
+-- the table, and, where it is sorted, of all rows with the word
 pub record AreRowsWith (table : List ℕ) (word : ℕ) (rows : List ℕ) : Type 0 where
   pub whole : length table % 12 ≡ 0
   pub found : List (Hit ℕ)
@@ -27,8 +27,8 @@ pub record AreRowsWith (table : List ℕ) (word : ℕ) (rows : List ℕ) : Type 
 abbrev pub c_chunk_place : ℕ × ℕ → XetChunkPlace
 c_chunk_place place = record { row = place.0; index = place.1 }
 
--- places that a chunk table has under a word: they are those of different rows of the table, and of
--- all that have the word, or of eight if they are more, where it is sorted
+-- the places that a chunk table has under a word: those of different rows of the table, and, where
+-- it is sorted, of all rows with the word, or of eight if there are more
 pub record ArePlacesWith (table : List ℕ) (word : ℕ) (places : List XetChunkPlace) : Type 0 where
   pub whole : length table % 16 ≡ 0
   pub found : List (Hit (ℕ × ℕ))
@@ -52,7 +52,8 @@ AreChunkRows bytes rows =
     (found : List (ℕ × (ℕ × ℕ))) × HasChunkRows bytes found × ListsChunks bytes found
     × (rows ≡ map c_chunk_row found)
 
--- why there are no rows: an allocation failed, or another cause, which is none of a shard's bytes
+-- why there are no rows: an allocation failed, or another cause, which the bytes of a shard never
+-- have
 abbrev pub RefusesRowsOf : List ℕ → CoreError → Type 0
 RefusesRowsOf bytes e =
     (e ≡ OutOfMemory)

@@ -19,8 +19,8 @@ use Rattle.xet_c.specs.declared.walk.XetChunk.{XetChunk}
 use Rattle.xet_c.specs.Arguments.{c_segment, c_segments, words_or_zero}
 use Rattle.xet_c.specs.Walking.{c_chunk}
 
--- what a list has of a file: its hash and flags, the hashes of its optional rows or zeros, and how
--- many segments its header announces
+-- the item of a list for a file: its hash and flags, the hashes of its optional rows or zeros, and
+-- how many segments its header announces
 abbrev pub c_listed_file : MDBFileInfo → XetListedFile
 c_listed_file r = record {
   hash = words_of r.metadata.file_hash;
@@ -30,7 +30,7 @@ c_listed_file r = record {
   segments = r.metadata.num_entries;
 }
 
--- what a list has of a xorb: the numbers of its header
+-- the item of a list for a xorb: its hash and the numbers of its header
 abbrev pub c_listed_xorb : MDBXorbInfo → XetListedXorb
 c_listed_xorb r = record {
   hash = words_of r.metadata.xorb_hash;
@@ -96,7 +96,7 @@ AreListedXorbs = AreListed (λ x. x.chunks) IsListedXorb
 abbrev pub AddUp : {L I : Type 0} → (L → ℕ) → List L → List I → Type 0
 AddUp count ls items = sum_by count ls ≡ length items
 
--- the lists have records of which these bytes are the shard, with this expiry
+-- these bytes are the shard of the records in the lists, with this expiry
 pub record WritesListed (fs : List XetListedFile) (segments : List XetFileSegment) (xs : List XetListedXorb)
     (chunks : List XetChunk) (expiry : ℕ) (bytes : List ℕ) : Type 0 where
   pub files : List MDBFileInfo
@@ -106,8 +106,8 @@ pub record WritesListed (fs : List XetListedFile) (segments : List XetFileSegmen
   pub can : CanRecord files xorbs
   pub bytes_are : bytes ≡ layout (shard_of files xorbs) (Some expiry)
 
--- why lists are not written: an allocation failed; or they are no arguments, since counts do not
--- add up, or of the records that they have there is no shard
+-- why lists are not written: an allocation failed, counts do not add up, or no shard has the records
+-- in them
 abbrev pub RefusesListed : List XetListedFile → List XetFileSegment → List XetListedXorb → List XetChunk
     → CoreError → Type 0
 RefusesListed fs segments xs chunks e =

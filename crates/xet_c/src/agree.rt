@@ -54,10 +54,9 @@ pub extern "C" fn xet_find_disagreement(
     }
 }
 
-/// Looks for a record that no shard may have, of the first of the byte strings that holds one.
-/// `malformed` says whether there is one, and `found` is its hash, and the number of the byte
-/// string twice. If there is none, or the result is not 0, `malformed` is false and `found` stays
-/// as it is.
+/// Looks for a record that no shard may have, of the first byte string that holds one. `malformed`
+/// says whether there is one, and `found` is its hash and, twice, the number of the byte string. If
+/// there is none, or the result is not 0, `malformed` is false and `found` stays as it is.
 #[unsafe(no_mangle)]
 pub extern "C" fn xet_find_malformed(
     alloc: Global,

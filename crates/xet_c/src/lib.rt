@@ -3,8 +3,8 @@
 //! handle and nothing to free. `bindings/c/xet.h` declares them.
 //!
 //! A function returns 0, or the number of an error: 1 to 18 are the variants of `CoreError` in
-//! their order, 19 means that the output does not fit the memory that was given, and 20 that shards
-//! that have to agree do not.
+//! their order, 19 means that the output does not fit the memory that was given, 20 that shards that
+//! have to agree do not, and 21 that a shard that has to be well-formed is not.
 #![tactic(auto)]
 
 mod agree;

@@ -14,9 +14,9 @@ use std::alloc::Global;
 use xet_core_structures::error::CoreError;
 use xet_core_structures::shard_format::MDBShardInfo;
 
-/// What header and footer of a shard say, all but the tag, which is one: the version, the rows of the
-/// three tables, the key, times in seconds, sizes, the offsets of the parts in bytes, the size of
-/// the footer by the header, and the footer's version and reserved words.
+/// All numbers of a shard's header and footer: the version, the rows of the three tables, the key,
+/// times in seconds, sizes, the offsets of the parts in bytes, the size of the footer by the header,
+/// and the footer's version and reserved words.
 #[repr(C)]
 #[derive(Clone, Copy, Drop)]
 pub struct XetInfo {

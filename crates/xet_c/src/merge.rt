@@ -38,8 +38,8 @@ pub extern "C" fn xet_merge(
     answer(filled, out.len(), written)
 }
 
-/// A range of hashes: those that are not below `from`, where it counts, and are below `to`, where
-/// it counts.
+/// A range of hashes: each that is not below `from`, if `has_from` is set, and is below `to`, if
+/// `has_to` is set.
 #[repr(C)]
 #[derive(Clone, Copy, Drop)]
 pub struct XetRange {

@@ -41,9 +41,9 @@ fn query(
     query_chunks(alloc, shard, hashes.as_slice())
 }
 
-/// Looks at the run of these hashes from the chunk at an index on of the xorb at a row: `count` is
-/// how many chunks it has, and `run` where they are. If the chunk has another hash than the first,
-/// or the result is not 0, `count` is 0 and `run` stays as it is.
+/// Looks for the run of these hashes that starts at the chunk with this index, of the xorb at this
+/// row: `count` is how many chunks it has, and `run` where they are. If the chunk has another hash
+/// than the first, or the result is not 0, `count` is 0 and `run` stays as it is.
 #[unsafe(no_mangle)]
 pub extern "C" fn xet_query_at(
     alloc: Global,

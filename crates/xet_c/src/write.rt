@@ -25,8 +25,8 @@ use xet_core_structures::rows::Rows;
 use xet_core_structures::xorb_structs::{MDBXorbInfo, XorbChunkSequenceEntry};
 
 /// The shard that has these files and xorbs, to the front of `out`. The first file has the first
-/// segments of the list, as many as it says, the second those behind them, and so on; so do xorbs
-/// with chunks. An expiry of 2^64 - 1 means none.
+/// segments of the list, as many as it says, the second the segments behind them, and so on; xorbs
+/// have their chunks in the same way. An expiry of 2^64 - 1 means none.
 #[unsafe(no_mangle)]
 pub extern "C" fn xet_write(
     alloc: Global,
@@ -92,7 +92,7 @@ fn files_of(
     Ok(files)
 }
 
-// The first items, so many of them.
+// The first `count` items.
 fn front<T>(items: &[T], count: usize) -> &[T]
     requires { count ≤ length items.now }
     ensures { result.now ≡ take count items.now }
@@ -100,7 +100,7 @@ fn front<T>(items: &[T], count: usize) -> &[T]
     &items[..count]
 }
 
-// The items behind so many.
+// The items behind the first `count`.
 fn behind<T>(items: &[T], count: usize) -> &[T]
     requires { count ≤ length items.now }
     ensures { result.now ≡ drop count items.now }
