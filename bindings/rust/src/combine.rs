@@ -255,7 +255,8 @@ pub fn concatenate<T: AsRef<[u8]>>(shards: &[T]) -> Result<Vec<u8>> {
 /// # Errors
 ///
 /// `Malformed`: one of them has a record that no shard may have. `Disagree`: two of them do not agree. Else those of
-/// [`merge`].
+/// [`merge`]. The first shard that cannot be read, or is not well-formed, decides; then come shards that do not agree,
+/// then keys that differ.
 ///
 /// ```
 /// use xet_shards::{Error, RecordHash};
@@ -323,6 +324,18 @@ pub fn find_disagreement<T: AsRef<[u8]>>(shards: &[T]) -> Result<Option<Disagree
 /// # Errors
 ///
 /// Those of [`find_disagreement`].
+///
+/// ```
+/// # fn main() -> Result<(), Box<dyn std::error::Error>> {
+/// let [a, b] = ["a", "b"].map(|it| std::fs::read(format!("examples/{it}.mdb")));
+/// let mut shards = [a?, b?];
+/// assert_eq!(xet_shards::find_malformed(&shards)?, None);
+/// // The reserved word of the first file's header.
+/// shards[1][88] = 1;
+/// assert_eq!(xet_shards::find_malformed(&shards)?.map(|it| it.index), Some(1));
+/// # Ok(())
+/// # }
+/// ```
 pub fn find_malformed<T: AsRef<[u8]>>(shards: &[T]) -> Result<Option<MalformedRecord>> {
     let (list, _) = listed(shards)?;
     let (mut malformed, mut found) = (false, calls::Disagreement::default());

@@ -63,9 +63,9 @@ impl Finding {
 
 /// Returns all that is wrong with the bytes of a shard.
 ///
-/// There is nothing if they are, byte for byte, what the library writes of the records in them, which a shard may have,
-/// with ascending hashes, in their version and with their key, their times and the tables of which the footer says that
-/// they have rows. If the bytes can't be read, nothing else is looked for.
+/// It is nothing if they are, byte for byte, what the library writes of the records in them, in their version and with
+/// their key, their times and the tables of which the footer says that they have rows, and if the hashes ascend and a
+/// shard may have each record. If the bytes can't be read, nothing else is looked for.
 ///
 /// The original leaves rows of the chunk table that share a first word in any order. So of a shard that it wrote, in
 /// which a chunk occurs more than once, there is mostly [`Finding::Reordered`], which is a note and no fault

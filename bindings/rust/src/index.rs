@@ -47,8 +47,8 @@ impl Places {
 ///
 /// A shard is anything that lends its bytes, as a `Vec<u8>`, an `Arc<[u8]>` or a map of a file, and is to stay as it
 /// is. The index has 30 to 60 bytes of its own for each chunk of its shards. To add or to remove a shard takes time in
-/// the order of its chunks. A query takes one keyed hash and one access to a map for each key, and then, for each place
-/// that the first chunk has, the reading of one run, until it finds one with all the chunks that are asked for.
+/// proportion to its chunks. A query takes one keyed hash and one access to a map for each key, and then, for each
+/// place that the first chunk has, the reading of one run, until it finds one with all the chunks that are asked for.
 ///
 /// It is no part of the library that is proved, but what it returns is read from a shard by [`query_at`].
 ///

@@ -172,8 +172,8 @@ pub fn query_chunks(shard: &[u8], hashes: &[Hash]) -> Result<Option<Run>> {
     Ok((count > 0).then_some(Run { count, segment }))
 }
 
-/// Looks at the run of these hashes, which are not keyed, from the chunk at an index of the xorb at a row of the xorb
-/// section. It is `None` if that chunk has another hash than the first.
+/// Looks for the run of these hashes, which are not keyed, that starts at one chunk: at an index of the xorb at a row
+/// of the xorb section. It is `None` if the chunk has another hash than the first.
 ///
 /// # Errors
 ///
@@ -211,14 +211,23 @@ pub struct ChunkRow {
     pub index: u32,
 }
 
-/// Where the chunks of a shard are: the rows of its chunk table, or, if that is left out, those that it would have, in
-/// the order of the xorb section.
+/// Where the chunks of a shard are: the rows of its chunk table, or, if that is left out, the rows that it would have,
+/// in the order of the xorb section.
 ///
 /// # Errors
 ///
 /// - `ShardVersion`, `Io`: as of [`load`]; `Io` also if the table or the section ends too early.
 /// - `InvalidShard`: there are more than 4294967295 rows.
 /// - `OutOfMemory`: an allocation failed.
+///
+/// ```
+/// # fn main() -> Result<(), Box<dyn std::error::Error>> {
+/// let rows = xet_shards::chunk_rows(&std::fs::read("examples/b.mdb")?)?;
+/// let places: Vec<_> = rows.iter().map(|it| (it.word, it.row, it.index)).collect();
+/// assert_eq!(places, [(22, 0, 0), (23, 0, 1)]);
+/// # Ok(())
+/// # }
+/// ```
 pub fn chunk_rows(shard: &[u8]) -> Result<Vec<ChunkRow>> {
     // The table has 16 bytes for each chunk, and the section 48.
     filled(shard.len() / 64, |out, written| calls::xet_chunk_rows(shard, out, written))

@@ -14,7 +14,7 @@ pub struct ChunkPlace {
     pub index: u32,
 }
 
-/// The rows of the section that the bytes of a table of files, or of xorbs, have under the first word of a hash: 7 at
+/// The rows of a section that the bytes of its table, of files or of xorbs, have under the first word of a hash: 7 at
 /// most. [`load`](crate::load) of both ends of a shard says where its tables and sections are.
 ///
 /// # Errors
@@ -44,17 +44,27 @@ pub fn find_rows(table: &[u8], word: u64) -> Result<Vec<u32>> {
 }
 
 /// The places that the bytes of a table of chunks have under the first word of a chunk's hash, which is keyed if the
-/// shard has a key: those of 8 rows at most.
+/// shard has a key: 8 at most.
 ///
 /// # Errors
 ///
 /// Those of [`find_rows`], without `TruncatedHashCollision`.
+///
+/// ```
+/// # fn main() -> Result<(), Box<dyn std::error::Error>> {
+/// let shard = std::fs::read("examples/b.mdb")?;
+/// let info = xet_shards::load(&shard)?;
+/// let table = &shard[info.chunk_table as usize..info.footer as usize];
+/// assert_eq!(xet_shards::find_places(table, 23)?, [xet_shards::ChunkPlace { row: 0, index: 1 }]);
+/// # Ok(())
+/// # }
+/// ```
 pub fn find_places(table: &[u8], word: u64) -> Result<Vec<ChunkPlace>> {
     filled(8, |places, written| calls::xet_find_places(table, word, places, written))
 }
 
 /// The file's record at the front of some bytes of a shard of this version, and how many rows, of 48 bytes, it has; or
-/// `None` if the section ends there. Bytes behind the record are not looked at.
+/// `None` if the section ends there. Bytes behind the record are not looked at. [`find_rows`] has an example.
 ///
 /// # Errors
 ///
@@ -72,6 +82,16 @@ pub fn file_in(bytes: &[u8], version: u64) -> Result<Option<(ListedFile, u64)>> 
 /// # Errors
 ///
 /// Those of [`file_in`], without `InvalidArguments`.
+///
+/// ```
+/// # fn main() -> Result<(), Box<dyn std::error::Error>> {
+/// let shard = std::fs::read("examples/b.mdb")?;
+/// let section = &shard[xet_shards::load(&shard)?.xorb_section as usize..];
+/// let (xorb, rows) = xet_shards::xorb_in(section)?.expect("a xorb starts there");
+/// assert_eq!((xorb.bytes, rows), (13, 3));
+/// # Ok(())
+/// # }
+/// ```
 pub fn xorb_in(bytes: &[u8]) -> Result<Option<(Xorb, u64)>> {
     xorb_by(&mut Vec::new(), 0, |_, place, xorb, items| calls::xet_xorb_in(bytes, place, xorb, items))
 }

@@ -211,6 +211,16 @@ pub(crate) fn xorb_by(
 /// # Errors
 ///
 /// Those of [`files`].
+///
+/// ```
+/// # fn main() -> Result<(), Box<dyn std::error::Error>> {
+/// let shard = std::fs::read("examples/b.mdb")?;
+/// let (xorb, next) = xet_shards::xorb_at(&shard, 0)?.expect("the shard has a xorb");
+/// assert_eq!((xorb.bytes, next), (13, 3));
+/// assert_eq!(xet_shards::xorb_at(&shard, 3)?, None);
+/// # Ok(())
+/// # }
+/// ```
 pub fn xorb_at(shard: &[u8], row: u32) -> Result<Option<(Xorb, u64)>> {
     xorb_by(&mut Vec::new(), row.into(), |row, place, xorb, items| calls::xet_xorb_at(shard, row, place, xorb, items))
 }
