@@ -989,8 +989,9 @@ def hash_texts(array: Any, name: str = "hash") -> List[str]:
 def check(shard: Buffer) -> List[Finding]:
     """Returns all that is wrong with the bytes of a shard.
 
-    The list is empty if they are, byte for byte, what the library writes of the records in them, which a shard may
-    have, in their version and with their key, their times and the tables of which the footer says that they have rows.
+    The list is empty if they are, byte for byte, what the library writes of the records in them, in their version and
+    with their key, their times and the tables of which the footer says that they have rows, and if the hashes ascend
+    and a shard may have each record.
 
     The original leaves rows of the chunk table that share a first word in any order. So of a shard that it wrote, in
     which a chunk occurs more than once, there is mostly the note `reordered`, which is no fault (`is_note`): the bytes
@@ -1018,9 +1019,9 @@ def query_chunks(shard: Buffer, hashes: Sequence[str]) -> Optional[Run]:
 
 
 def query_at(shard: Buffer, hashes: Sequence[str], row: int, index: int) -> Optional[Run]:
-    """Returns the run of these hashes from the chunk at an index of the xorb at a row of the xorb section.
+    """Returns the run of these hashes that starts at one chunk: at an index of the xorb at a row of the xorb section.
 
-    The hashes are not keyed. It is None if that chunk has another hash than the first.
+    The hashes are not keyed. It is None if the chunk has another hash than the first.
     """
     wanted, count, run = _hashes(hashes), c_size_t(), _Segment()
     with _Addresses(shard) as [data]:
@@ -1032,7 +1033,7 @@ def query_at(shard: Buffer, hashes: Sequence[str], row: int, index: int) -> Opti
 
 
 def chunk_rows(shard: Buffer) -> bytes:
-    """Returns where the chunks of a shard are: the rows of its chunk table, or those that it would have.
+    """Returns where the chunks of a shard are: the rows of its chunk table, or the rows that it would have.
 
     Without a table they are in the order of the xorb section. A row has 16 bytes, lowest byte first: the first word of
     the chunk's hash, under the shard's key if it has one, the row of the xorb section at which its xorb starts, and its
@@ -1229,11 +1230,11 @@ def find_disagreement(shards: Iterable[Buffer]) -> Optional[Disagreement]:
     return _disagreement(found, differing.value) if differing.value else None
 
 
-def find_malformed(shards: Sequence[Buffer]) -> Optional[MalformedRecord]:
-    """Returns a record that no shard may have, of the first of the shards that has one, or None if each is well-formed.
+def find_malformed(shards: Iterable[Buffer]) -> Optional[MalformedRecord]:
+    """Returns a record that no shard may have, of the first shard that has one, or None if each is well-formed.
 
-    A union keeps reserved words and flags of one of its inputs, and `find_disagreement` does not compare them. So only
-    of well-formed shards that agree the order of a merge does not count.
+    A union keeps the reserved word and the flags of a file of one of its inputs, and `find_disagreement` does not
+    compare them. So the order of a merge may count unless its shards are well-formed and agree.
     """
     malformed, found = c_bool(), _Disagreement()
     with _Addresses(*shards) as data:

@@ -51,7 +51,7 @@ class Index:
     """Finds runs of chunks among many shards, whose chunk hashes may be under several keys.
 
     A shard is anything with a buffer, as a map of a file, and is to stay as it is. The index has some 130 bytes of its
-    own for each chunk of its shards. To add or to remove a shard takes time in the order of its chunks. A query takes
+    own for each chunk of its shards. To add or to remove a shard takes time in proportion to its chunks. A query takes
     one keyed hash and one access to a dict for each key, and then, for each place that the first chunk has, the reading
     of one run, until it finds one with all the chunks that are asked for. One thread at a time may add or remove.
 
