@@ -1,9 +1,9 @@
 #!/usr/bin/env python3
 """Merges the shards of a folder by ranges of hashes, on a cluster of worker processes, to one shard a range.
 
-A worker reads of each shard the records of its range, and merges them. So it needs memory for its range alone, and what
-all write has no limit. A file is in the part whose range has its hash, and so is a xorb. The union of the parts is that
-of all shards. The shards need their tables, by which a range is found, and are not checked.
+A worker reads of each shard the records of its range, and merges them. So it needs memory for its range alone, and the
+parts together may be of any size. A file is in the part whose range has its hash, and so is a xorb. The union of the
+parts is that of all shards. The shards need their tables, by which a range is found, and are not checked.
 Needs Dask: apt-get install python3-dask python3-distributed
 """
 from __future__ import annotations
@@ -16,7 +16,12 @@ from typing import List, Tuple
 
 import xet_shards
 from distributed import Client, LocalCluster
-from made_shards import BOOKEND, TAG
+from made_shards import BOOKEND
+
+# The bytes of the header, of a row of a section, and of a row of the tables of files and xorbs.
+HEADER, ROW, TABLE_ROW = 48, 48, 12
+# The words of the footer, and where those of the key, the creation and the expiry are among them.
+FOOTER, SETTINGS = "<25Q", slice(9, 15)
 
 
 def row_of_word(shard: mmap.mmap, table: int, count: int, word: int, end: int) -> int:
@@ -24,29 +29,33 @@ def row_of_word(shard: mmap.mmap, table: int, count: int, word: int, end: int) -
     low, high = 0, count
     while low < high:
         middle = (low + high) // 2
-        if int.from_bytes(shard[table + 12 * middle : table + 12 * middle + 8], "little") < word:
+        if struct.unpack_from("<Q", shard, table + TABLE_ROW * middle)[0] < word:
             low = middle + 1
         else:
             high = middle
-    return end if low == count else int.from_bytes(shard[table + 12 * low + 8 : table + 12 * low + 12], "little")
+    return end if low == count else int(struct.unpack_from("<I", shard, table + TABLE_ROW * low + 8)[0])
 
 
 def cut(path: pathlib.Path, first: int, last: int) -> bytes:
     """Returns a shard without tables of the records whose hashes' first words are from `first` on and below `last`."""
     with path.open("rb") as file, mmap.mmap(file.fileno(), 0, access=mmap.ACCESS_READ) as shard:
-        footer = struct.unpack("<25Q", shard[-200:])
-        files, xorbs, tables = footer[1:4]
-        head = shard[:48]
+        info, header = xet_shards.load(shard), shard[:HEADER]
+        settings = struct.unpack(FOOTER, shard[-struct.calcsize(FOOTER) :])[SETTINGS]
         sections = []
-        for start, end, table in ((files, xorbs, 3), (xorbs, tables, 5)):
-            rows, table_at, count = (end - start) // 48 - 1, footer[table], footer[table + 1]
+        for start, end, table, count in (
+            (info.file_section, info.xorb_section, info.file_table, info.files),
+            (info.xorb_section, info.file_table, info.xorb_table, info.xorbs),
+        ):
+            rows = (end - start) // ROW - 1
             if rows and not count:
                 raise ValueError(f"{path} has no tables")
-            at = [start + 48 * row_of_word(shard, table_at, count, word, rows) for word in (first, last)]
+            at = [start + ROW * row_of_word(shard, table, count, word, rows) for word in (first, last)]
             sections.append(shard[at[0] : at[1]] + BOOKEND)
-    ends = [48 + len(sections[0]), 48 + len(sections[0]) + len(sections[1])]
-    offsets = [1, 48, ends[0], *[ends[1], 0] * 3]
-    return head + b"".join(sections) + struct.pack("<25Q", *offsets, *footer[9:15], *[0] * 9, ends[1])
+    xorb_section = HEADER + len(sections[0])
+    footer = xorb_section + len(sections[1])
+    # The version of the footer, the offsets of the sections, and tables without rows.
+    words = [1, HEADER, xorb_section, *[footer, 0] * 3, *settings, *[0] * 9, footer]
+    return header + b"".join(sections) + struct.pack(FOOTER, *words)
 
 
 def merge_range(paths: List[pathlib.Path], first: int, last: int, to: pathlib.Path) -> Tuple[str, int]:
