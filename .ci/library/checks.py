@@ -21,8 +21,8 @@ class Checks:
         self.passed += passed
         self.faults += faults
 
-    def told(self, name):
-        """Prints what was skipped and what is wrong, and the counts, and returns the status to end with."""
+    def report(self, name):
+        """Prints skipped checks, faults and the counts, and returns the status to end with."""
         for why in sorted(set(self.skipped)):
             print(f"{name}: skipped: {why}")
         for why in self.faults:

@@ -12,6 +12,8 @@ from .common import BINDINGS, TOP, Skip, error_numbers, ran, read, structs
 MODULE = f"{BINDINGS}/python"
 # The library beside the module.
 SONAME = f"libxet.so.{read(f'{TOP}/VERSION').split('.')[0]}"
+# Programs in the folder of the module's tests.
+TESTS = ("test_vectors.py", "test_index.py")
 
 # The types of fields, in Rattle and in the Python module.
 TYPES = {

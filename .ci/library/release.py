@@ -11,6 +11,7 @@ import zipfile
 
 from .c import CC, WARNINGS
 from .common import BINDINGS, TOP, Skip, ran, read
+from .python import SONAME, TESTS
 
 VERSION = read(f"{TOP}/VERSION").strip()
 FOLDER = f"xet-shards-{VERSION}-linux-x86_64"
@@ -56,7 +57,7 @@ def parts():
     return found
 
 
-def told(release):
+def stated(release):
     """Returns the lines that name the commit and what the gate ran, for release/make --gate."""
     return parts().manifest.stated(release.manifest["sources"], release.built())
 
@@ -211,7 +212,7 @@ def check_wheel(release):
     """The wheel is installed in a fresh environment, and all tests of the module pass there."""
     wheel = release.found(".whl")
     with zipfile.ZipFile(wheel) as file:
-        library = hashlib.sha256(file.read(f"xet_shards/libxet.so.{VERSION.split('.')[0]}")).hexdigest()
+        library = hashlib.sha256(file.read(f"xet_shards/{SONAME}")).hexdigest()
     if library != release.manifest["files"][f"lib/libxet.so.{VERSION}"]["sha256"]:
         return "the wheel has another library than the archive"
     if ran(sys.executable, "-c", "import ensurepip, venv")[1]:
@@ -226,9 +227,19 @@ def check_wheel(release):
         left_out = shutil.ignore_patterns("__pycache__")
         shutil.copytree(f"{BINDINGS}/python/{name}", f"{release.room}/bindings/python/{name}", ignore=left_out)
     os.symlink(f"{TOP}/vectors", f"{release.room}/vectors")
-    printed, why = release.ran("fresh/bin/python", "bindings/python/tests/test_vectors.py")
-    counts = re.search(r"^(\d+) passed, 0 failed$", printed, re.M)
-    return why or ((int(counts[1]), []) if counts and counts[1] != "0" else f"the tests over the wheel print {printed}")
+    return run_python_tests(release)
+
+
+def run_python_tests(release):
+    """Returns how many tests of the module passed in the fresh environment, or what is wrong."""
+    passed = 0
+    for name in TESTS:
+        printed, why = release.ran("fresh/bin/python", f"bindings/python/tests/{name}")
+        counts = re.search(r"^([1-9]\d*) passed, 0 failed$", printed, re.M)
+        if why or not counts:
+            return why or f"{name} over the wheel prints {printed}"
+        passed += int(counts[1])
+    return passed, []
 
 
 def check_crate(release):
