@@ -270,8 +270,8 @@ static uint32_t call_chunk_rows(const struct input *input, void *out, size_t cap
     return xet_chunk_rows(SHARD(0), out, capacity, written);
 }
 
-/* A section or a table of the first shard: from where it starts by the footer to where the next part starts. If they are
- * not in the shard, it is the whole shard. */
+/* A section or a table of the first shard: from where it starts, by the footer, to where the next part starts. If they
+ * are not in the shard, it is the whole shard. */
 static xet_bytes part_of(const struct input *input, enum xet_part part) {
     xet_info info;
     if (xet_load(SHARD(0), &info) != XET_OK)
