@@ -249,7 +249,7 @@ def test_texts_of_refused_arguments():
     ):
         error = refused("InvalidArguments", call, *arguments)
         assert str(error) == str(pickle.loads(pickle.dumps(error))) == f"{text} (InvalidArguments)"
-    assert refused("Io", xet_shards.union, ONE_FILE, b"").refused is None
+    assert refused("Io", xet_shards.union, ONE_FILE, b"").reason is None
 
 
 def test_missing_library():

@@ -65,6 +65,7 @@ _INVALID_ARGUMENTS = 13
 _SHORT = 19
 _DISAGREE = 20
 _MALFORMED = 21
+# Why calls do not admit their arguments.
 _OTHER_KEYS = "the keys of the shards differ"
 _NO_WHOLE_ROWS = "the bytes are no whole rows of a table"
 # Of the errors that calls raise.
@@ -87,26 +88,26 @@ class XetError(Exception):
     """A call failed: `number` is that of enum xet_error in xet.h, and `name` its name, as `InvalidShard`.
 
     `index` is the place, in the list of a merge, of the first shard that is the cause by itself, or whose key is not
-    that of the first; it is None where several are the cause together, and of other calls. `refused` says which
-    arguments the call does not admit, if the error is `InvalidArguments`.
+    that of the first; it is None where several are the cause together, and of other calls. `reason` says why the call
+    does not admit its arguments, if the error is `InvalidArguments`.
 
     As text it is a sentence, with the name at its end.
     """
 
-    def __init__(self, number: int, index: Optional[int] = None, refused: Optional[str] = None) -> None:
+    def __init__(self, number: int, index: Optional[int] = None, reason: Optional[str] = None) -> None:
         self.number = number
         self.index = index
-        self.refused = refused if number == _INVALID_ARGUMENTS else None
+        self.reason = reason if number == _INVALID_ARGUMENTS else None
         self.name = _NAMES[number - 1] if 1 <= number <= len(_NAMES) else "Unknown"
-        super().__init__(number, index, self.refused)
+        super().__init__(number, index, self.reason)
 
     def __str__(self) -> str:
         place = "" if self.index is None else f"the shard at {self.index}: "
-        sentence = self.refused or _SENTENCES.get(self.name, f"the library returns {self.number}")
+        sentence = self.reason or _SENTENCES.get(self.name, f"the library returns {self.number}")
         return f"{place}{sentence} ({self.name})"
 
     def __reduce__(self) -> Tuple[Any, ...]:
-        return XetError, (self.number, self.index, self.refused)
+        return XetError, (self.number, self.index, self.reason)
 
 
 @dataclass(frozen=True)
@@ -275,6 +276,7 @@ class Finding:
 
     @property
     def is_note(self) -> bool:
+        """Whether this is a note, and no fault."""
         return self.kind == "reordered"
 
 
@@ -471,10 +473,10 @@ def _open() -> ctypes.CDLL:
 _library = _open()
 
 
-def _check(number: int, refused: Optional[str] = None) -> None:
-    """Raises the error with this number, if it is one. `refused` says what `InvalidArguments` of the call means."""
+def _check(number: int, reason: Optional[str] = None) -> None:
+    """Raises the error with this number, if it is one. `reason` says what `InvalidArguments` of the call means."""
     if number:
-        raise XetError(number, refused=refused)
+        raise XetError(number, reason=reason)
 
 
 class _Addresses:
@@ -538,24 +540,32 @@ def _array(item: Any, count: int) -> ctypes.Array[Any]:
 
 
 def _filled(
-    item: Any, room: int, call: Callable[[ctypes.Array[Any], int, c_size_t], Any], refused: Optional[str] = None
+    item: Any, room: int, call: Callable[[ctypes.Array[Any], int, c_size_t], Any], reason: Optional[str] = None
 ) -> Any:
-    """Returns the items that a call writes into an array, which is made anew once if they don't fit."""
+    """Returns the items that a call writes into an array."""
+    out, count = _array_filled(item, room, call, reason)
+    return out[:count]
+
+
+def _array_filled(
+    item: Any, room: int, call: Callable[[ctypes.Array[Any], int, c_size_t], Any], reason: Optional[str] = None
+) -> Tuple[ctypes.Array[Any], int]:
+    """Returns an array into which a call writes items, and their number. It is made anew once if they don't fit."""
     written = c_size_t()
     out = _array(item, room)
     number = call(out, room, written)
     if number == _SHORT:
         out = _array(item, written.value)
         number = call(out, written.value, written)
-    _check(number, refused)
-    return out[: written.value]
+    _check(number, reason)
+    return out, written.value
 
 
 def _made(
-    room: int, call: Callable[[ctypes.Array[Any], int, c_size_t], Any], refused: Optional[str] = None
+    room: int, call: Callable[[ctypes.Array[Any], int, c_size_t], Any], reason: Optional[str] = None
 ) -> bytes:
     """Returns the bytes that a call makes of inputs of so many bytes."""
-    made: bytes = _filled(c_char, room + 400, call, refused)
+    made: bytes = _filled(c_char, room + 400, call, reason)
     return made
 
 
@@ -686,7 +696,7 @@ def xorb_at(shard: Buffer, row: int) -> Optional[Tuple[Xorb, int]]:
 def file_in(data: Buffer, version: int) -> Optional[Tuple[ListedFile, int]]:
     """Returns the file's record at the front of some bytes of a shard of this version, and how many rows it has.
 
-    It is None if the section ends there. A row has 48 bytes, and what is behind the record is not looked at. `Io` says
+    It is None if the section ends there. A row has 48 bytes, and bytes behind the record are not looked at. `Io` says
     that more bytes are needed.
     """
     step = _file_step()
@@ -1040,18 +1050,14 @@ def chunk_rows(shard: Buffer) -> bytes:
     index in the xorb. So `struct.iter_unpack("<QII", rows)` gives them one by one, and
     `numpy.frombuffer(rows, [("word", "<u8"), ("row", "<u4"), ("index", "<u4")])` as an array.
     """
-    written = c_size_t()
     with _Addresses(shard) as [data]:
         # A chunk has a row of 48 bytes in the section, and one of 16 in the table.
-        room = data[1] // 64
-        out = _array(_ChunkRow, room)
-        number = _library.xet_chunk_rows(*data, out, room, byref(written))
-        if number == _SHORT:
-            room = written.value
-            out = _array(_ChunkRow, room)
-            number = _library.xet_chunk_rows(*data, out, room, byref(written))
-    _check(number)
-    return ctypes.string_at(out, written.value * ctypes.sizeof(_ChunkRow))
+        rows, count = _array_filled(
+            _ChunkRow,
+            data[1] // 64,
+            lambda out, room, written: _library.xet_chunk_rows(*data, out, room, byref(written)),
+        )
+    return ctypes.string_at(rows, count * ctypes.sizeof(_ChunkRow))
 
 
 def union(first: Buffer, second: Buffer) -> bytes:
