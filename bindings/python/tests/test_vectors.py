@@ -154,7 +154,7 @@ def test_outputs_that_share_memory_with_a_shard():
         for named in ({}, {"strict": True}, {"start": hash_text("0")}, {"stop": hash_text("0"), "strict": True}):
             raises(ValueError, xet_shards.merge_into, shards, out, **named)
             assert buffer == before
-    # What lies beside a shard may be written to, and no byte shares no memory.
+    # A part of the buffer beside the shard may be written to, and an empty one shares no memory.
     assert xet_shards.merge_into(shards, view[at + 5 : at + 5]) == len(merged)
     assert xet_shards.merge_into(shards, view[at + length :]) == len(merged)
     assert xet_shards.merge_into(shards, view[:at]) == len(merged)
