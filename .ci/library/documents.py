@@ -3,6 +3,7 @@ import glob
 import os
 import re
 
+from .archive import used_by
 from .common import TOP, read
 
 # The pages that quote contracts.
@@ -13,12 +14,6 @@ IN_TREE = ("xet_base", "xet_records", "xet_shards", "xet_core_structures", "shar
 
 def flat(text):
     return re.sub(r"\s+", "", text)
-
-
-def used():
-    """Returns the crates of crates.txt, and what each uses."""
-    lines = re.findall(r"^(\w+)(?: staticlib)?:(.*)$", read(f"{TOP}/crates.txt"), re.M)
-    return {name: set(libraries.split()) for name, libraries in lines}
 
 
 def check_quotes():
@@ -43,7 +38,7 @@ def check_crates():
     table = page[page.index("| Crate | Uses |") : page.index("`crates.txt` lists")]
     rows = re.findall(r"^\| `(\w+)` \| (.*?) \| .* \|$", table, re.M)
     said = {name: set(re.findall(r"`(\w+)`", libraries)) for name, libraries in rows}
-    wrong = sorted(name for name, libraries in used().items() if said.get(name) != libraries)
+    wrong = sorted(name for name, libraries in used_by().items() if said.get(name) != set(libraries))
     return f"docs/ARCHITECTURE.md says otherwise than crates.txt what these use: {', '.join(wrong)}" if wrong else None
 
 
@@ -59,10 +54,11 @@ def check_tree():
 
 def check_trusted():
     """docs/PROVED.md names each library of the toolchain that a crate uses."""
-    crates = used()
+    crates = used_by()
     page = read(f"{TOP}/docs/PROVED.md")
     page = page[page.index("## What is trusted") :]
-    lacking = sorted({it for names in crates.values() for it in names - set(crates) if f"`{it}`" not in page})
+    libraries = {it for names in crates.values() for it in names} - set(crates)
+    lacking = sorted(it for it in libraries if f"`{it}`" not in page)
     return f"docs/PROVED.md does not name as trusted: {', '.join(lacking)}" if lacking else None
 
 
