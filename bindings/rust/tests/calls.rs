@@ -7,7 +7,8 @@ use std::error::Error as _;
 use std::slice::from_ref;
 use std::thread;
 use xet_shards::{
-    Disagreement, Error, Export, File, Finding, Hash, ListedFile, Minimal, Part, RecordHash, Xorb, NO_EXPIRY, NO_KEY,
+    Disagreement, Error, Export, File, Finding, Hash, ListedFile, MalformedRecord, Minimal, Part, RecordHash, Xorb,
+    NO_EXPIRY, NO_KEY,
 };
 
 /// The bytes of a shard of `file` and `xorb` lines.
@@ -110,6 +111,28 @@ fn disagreements() {
     assert!(error.source().is_none());
     // Where records do not agree a merge takes one of them.
     assert!(xet_shards::merge(&[&one, &other]).is_ok());
+}
+
+#[test]
+fn order_of_refusals() {
+    let (file, other) = (one_file(), shard_of(&["file 100 200:0:6:5"]));
+    let keyed = xet_shards::export(&file, &Export::new(hash("7"), 0, 0)).expect("an export");
+    // The reserved word of the file's header, which is at 48, is in its bytes 40 to 47.
+    let (mut malformed, cut) = (file.clone(), &file[..199]);
+    malformed[88] = 1;
+    let found = MalformedRecord { record_hash: RecordHash::File(hash("100")), index: 1 };
+    assert_eq!(xet_shards::find_malformed(&[&file, &malformed]), Ok(Some(found)));
+    assert_eq!(xet_shards::find_malformed(&[&file, &other, &keyed]), Ok(None));
+    // The first shard decides that cannot be read or is not well-formed.
+    let error = xet_shards::merge_agreeing(&[&file, &malformed[..], cut]).expect_err("one is not well-formed");
+    assert_eq!(error, Error::Malformed(found));
+    let text = format!("the shard at 1 has a record that no shard may have, of file {}", hash("100"));
+    assert_eq!(error.to_string(), text);
+    assert_eq!(xet_shards::merge_agreeing(&[&file, cut, &malformed[..]]), Err(Error::Io));
+    // Then disagreements, then keys.
+    let error = xet_shards::merge_agreeing(&[&other, &keyed]).expect_err("they do not agree");
+    assert!(matches!(error, Error::Disagree(Disagreement { first: 0, second: 1, .. })));
+    assert_eq!(xet_shards::merge_agreeing(&[&file, &keyed]), Err(Error::InvalidArguments));
 }
 
 #[test]
