@@ -17,7 +17,7 @@ fn main() {
     if !target.starts_with("x86_64-") || !target.contains("linux") {
         stop(&format!("libxet is built for Linux on x86-64, not for {target}"));
     }
-    let folder = named().or_else(beside).or_else(installed).unwrap_or_else(|| {
+    let folder = by_variable().or_else(in_repository).or_else(by_pkg_config).unwrap_or_else(|| {
         stop(concat!(
             "libxet.a is not there: set XET_LIB_DIR to its folder, or PKG_CONFIG_PATH to that of xet.pc, as a release ",
             "has them; or in the repository run bindings/build.sh"
@@ -29,8 +29,8 @@ fn main() {
     println!("cargo:rustc-link-lib={kind}=xet");
 }
 
-/// The folder that the caller names, which has to have the library.
-fn named() -> Option<PathBuf> {
+/// The folder that `XET_LIB_DIR` names, which has to have the library.
+fn by_variable() -> Option<PathBuf> {
     let folder = PathBuf::from(env::var_os("XET_LIB_DIR")?);
     if !has(&folder, "libxet.a") && !has(&folder, "libxet.so") {
         stop(&format!("XET_LIB_DIR names {}, where there is no libxet.a and no libxet.so", folder.display()));
@@ -39,13 +39,13 @@ fn named() -> Option<PathBuf> {
 }
 
 /// The folder of the repository in which `bindings/build.sh` makes the archive, if it is there.
-fn beside() -> Option<PathBuf> {
+fn in_repository() -> Option<PathBuf> {
     let folder = Path::new(env!("CARGO_MANIFEST_DIR")).join("../out");
     has(&folder, "libxet.a").then_some(folder)
 }
 
 /// The folder of an installed library that has all calls of this version, and none that a later one has changed.
-fn installed() -> Option<PathBuf> {
+fn by_pkg_config() -> Option<PathBuf> {
     let program = env::var_os("PKG_CONFIG").unwrap_or_else(|| "pkg-config".into());
     let (least, first): (_, u64) = (env!("CARGO_PKG_VERSION"), env!("CARGO_PKG_VERSION_MAJOR").parse().ok()?);
     let wanted = [format!("xet >= {least}"), format!("xet < {}", first + 1)];
