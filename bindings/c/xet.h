@@ -221,14 +221,14 @@ uint32_t xet_merge_range(const xet_bytes *shards, size_t count, const xet_range 
  * the one xet_merge writes. Of shards as this library writes them with all tables, whose hashes ascend so and which
  * have together at most 4294967295 rows a section, it fails for memory alone.
  *
- * Sections and tables are copied and not checked: of shards that are not trusted xet_check tells what is wrong with
- * what is made of them. `out` needs no more room than such shards have bytes in all. What is written is made first, and
+ * Records are copied and not checked: of shards that are not trusted xet_check tells what is wrong with what is made
+ * of them. `out` needs no more room than such shards have bytes in all. What is written is made first, and
  * copied; beyond that it takes some hundred bytes of memory a shard.
  *
  * XET_INVALID_ARGUMENTS: there is no shard, the keys differ, or hashes do not ascend from one shard to the next.
  * XET_SHARD_VERSION, XET_IO: the errors of xet_load, of any of the shards.
- * XET_INVALID_SHARD: the offsets in a footer are not in order, a section has not the last record that its table names,
- *     as in shards that lack tables, the rows of a section pass 4294967295 or a sum of bytes 64 bits, or the rows of a
+ * XET_INVALID_SHARD: between the offsets in a footer there are other rows than it counts, a section has not the last
+ *     record that its table names, as in shards that lack tables, the rows of a section pass 4294967295 or a sum of bytes 64 bits, or the rows of a
  *     table of chunks do not ascend, or are not as many as the chunks.
  * XET_OUT_OF_MEMORY, XET_SHORT. */
 uint32_t xet_concatenate(const xet_bytes *shards, size_t count, uint8_t *out, size_t capacity, size_t *written);

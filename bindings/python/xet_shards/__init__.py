@@ -1213,8 +1213,8 @@ def concatenate(shards: Iterable[Buffer]) -> bytes:
 
     The hashes of files have to ascend from each shard to the next, and so have those of xorbs, and the shards have one
     key. So it puts together what `merge` returns of well-formed shards that agree, for ranges that follow one another,
-    where `start` of the first and `stop` of the last are left out: the result is that of the one merge. Sections and
-    tables are copied and not checked.
+    where `start` of the first and `stop` of the last are left out: the result is that of the one merge. Records are
+    copied and not checked.
     """
     shards = list(shards)
     if not shards:

@@ -222,7 +222,7 @@ fn next(mut hash: Hash) -> Option<Hash> {
 /// The shard that has the records of one shard or more, in their order, with all tables, under the key of all, and
 /// without timestamps. The hashes of files have to ascend from each shard to the next, and so have those of xorbs. So
 /// it puts together what [`merge_range`] gives of well-formed shards that agree, for ranges that follow one another,
-/// from no bound to no bound: it is what the one [`merge`] gives. Sections and tables are copied and not checked:
+/// from no bound to no bound: it is what the one [`merge`] gives. Records are copied and not checked:
 /// [`check`](crate::check) tells what is wrong with what is made of shards that are not trusted.
 ///
 /// # Errors

@@ -26,8 +26,8 @@ use xet_shards::shard_writer::shards_in_a_row;
 ///
 /// So a merge may be made range by range, by any machine, and then be put together: of what
 /// `merge_range_bytes` gives of ranges that follow one another, without a gap, these are the bytes
-/// that the one merge gives. Sections and tables are copied and not checked; `check_bytes` checks
-/// what is made of shards that are not trusted.
+/// that the one merge gives. Records are copied and not checked; `check_bytes` checks what is made
+/// of shards that are not trusted.
 ///
 /// The errors are those of [`shards_in_a_row`], and `OutOfMemory` if an allocation fails.
 pub fn concatenate(alloc: Global, shards: &[&[u8]]) -> Result<Vec<u8>>
