@@ -11,7 +11,7 @@ use Rattle.xet_core_structures.specs.declared.set_operations.agreement.Disagreem
 use Rattle.xet_core_structures.specs.declared.set_operations.agreement.MalformedRecord.{MalformedRecord}
 use Rattle.xet_core_structures.specs.declared.set_operations.agreement.RecordHash.{RecordHash}
 use Rattle.xet_core_structures.specs.declared.set_operations.agreement.RecordHash.TheVariants.{File, Xorb}
-use Rattle.xet_core_structures.specs.Agreement.Agreement.{HoldsAt, IsHeld, HasKey, HasMalformed, HoldShards, IsMalformedAt, InputsAgree, InputsDisagree, HasAllDisagreements}
+use Rattle.xet_core_structures.specs.Agreement.Agreement.{HoldsAt, IsHeld, HasKey, HasMalformed, HoldShards, HoldMalformed, InputsAgree, InputsDisagree, HasAllDisagreements}
 use Rattle.xet_core_structures.specs.FileRecord.{IsWellFormed}
 use Rattle.xet_core_structures.specs.XorbRecord.{IsXorb}
 use Rattle.xet_core_structures.specs.Records.ShardContents.{HasShard, HoldsShard}
@@ -58,7 +58,7 @@ none_malformed : (s : Shard) (h : RecordHash) → HasMalformed s h → ¬ IsShar
 none_malformed s (File q) (r, at, bad) is = bad (holds_in_map (λ (e : DataHash × MDBFileInfo). IsWellFormed e.1) s.files q r is.files.well_formed at)
 none_malformed s (Xorb q) (r, at, bad) is = bad (holds_in_map (λ (e : DataHash × MDBXorbInfo). IsXorb e.1) s.xorbs q r is.xorbs.well_formed at)
 
-pub one_malformed : (inputs : List (List ℕ)) (m : MalformedRecord) → IsMalformedAt inputs m → HoldNoneAgreeing inputs
+pub one_malformed : (inputs : List (List ℕ)) (m : MalformedRecord) → HoldMalformed inputs m → HoldNoneAgreeing inputs
 one_malformed inputs m (s, at, bad) = λ shards hold agree.
     none_malformed s m.record_hash bad (agree.shards s (held_in shards inputs hold s (m.input, at)))
 

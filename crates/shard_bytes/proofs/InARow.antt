@@ -6,13 +6,13 @@ use Rattle.xet_core_structures.specs.declared.error.CoreError.TheVariants.{OutOf
 use Rattle.xet_core_structures.specs.Errors.{IsWriteError}
 use Rattle.xet_core_structures.specs.InARow.{AppendsShardsInARow}
 use Rattle.xet_core_structures.specs.Shard.{Shard}
-use Rattle.shard_bytes.specs.InARow.{IsRowOf}
+use Rattle.shard_bytes.specs.InARow.{IsConcatenation}
 
 -- what was appended to nothing is what is there
 pub appended_is : (items old now : List ℕ) → old ≡ [] → Appends (Some old) (Some now) items → now ≡ items
 appended_is items old now none wrote = wrote ∙ ap (λ xs. xs ++ items) none
 
-pub row_is : (shards : List Shard) (old now : List ℕ) → old ≡ [] → AppendsShardsInARow shards (Some old) (Some now) → IsRowOf shards now
+pub row_is : (shards : List Shard) (old now : List ℕ) → old ≡ [] → AppendsShardsInARow shards (Some old) (Some now) → IsConcatenation shards now
 row_is shards old now none wrote = record { all = wrote.all; row = wrote.row; is_bytes = record { shard = wrote.is_shard; bytes_are = appended_is _ old now none wrote.appended } }
 
 -- an error of the writer is one of memory

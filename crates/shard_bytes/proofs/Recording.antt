@@ -21,7 +21,7 @@ use Rattle.xet_core_structures.specs.XorbRecord.{xorb_records, xorb_row_count, I
 use Rattle.xet_core_structures.specs.Shard.{Shard, IsShard, file_hash_of, xorb_hash_of, empty_shard, add_file, add_xorb}
 use Rattle.xet_records.specs.Limits.{MAX_ROWS}
 use Rattle.xet_shards.proofs.Content.Maps.{sum-insert, values-empty}
-use Rattle.shard_bytes.specs.Recording.{with_files, with_xorbs, shard_of, CanAddFiles, CanAddXorbs, CanRecord, NotRecorded}
+use Rattle.shard_bytes.specs.Recording.{with_files, with_xorbs, shard_of, CanAddFiles, CanAddXorbs, CanAddRecords, RefusesRecords}
 use Rattle.shard_bytes.proofs.Combining.{in_memory}
 use Rattle.shard_bytes.proofs.Inserting.{inserts, inserts-entries, all_new, StaysWithin, stays_within}
 
@@ -77,7 +77,7 @@ from_nothing : (none rows : ℕ) → none ≡ 0 → rows ≤ MAX_ROWS → none +
 from_nothing none rows is fits = omega (arith, is, fits)
 
 module _ (s : Shard) (is : IsShard s) where
-  pub admitted : CanRecord (values s.files) (values s.xorbs)
+  pub admitted : CanAddRecords (values s.files) (values s.xorbs)
   admitted =
       let total = hash_cmp-IsTotalOrder in
       let exact = hash_cmp-IsAntisymmetric in
@@ -99,12 +99,12 @@ only_memory old new e (inr is) = is
 
 -- the xorb section is not read, after the file section was
 pub xorbs_not_read : (bytes : List ℕ) (info : MDBShardInfo) → HasHeaderAndFooter bytes info → (before after new : MemorySource) (at : ℕ) (files : List MDBFileInfo) (e : CoreError) → before.bytes.now ≡ bytes
-    → ReadsSection (files_of info) (in_memory before) (in_memory after) at files → SectionFails xorb_records (in_memory after) (in_memory new) info.metadata.xorb_info_offset e → NotRecorded bytes e
+    → ReadsSection (files_of info) (in_memory before) (in_memory after) at files → SectionFails xorb_records (in_memory after) (in_memory new) info.metadata.xorb_info_offset e → RefusesRecords bytes e
 xorbs_not_read bytes info ends before after new at files e start read fails = by_cause fails.cause
   where
     same : after.bytes.now ≡ bytes
     same = ap (λ (s : Source). s.bytes) read.after ∙ start
 
-    by_cause : FailedBy (BadSection xorb_records (bytes_left (moved (in_memory after) info.metadata.xorb_info_offset))) (moved (in_memory after) info.metadata.xorb_info_offset) (in_memory new) e → NotRecorded bytes e
+    by_cause : FailedBy (BadSection xorb_records (bytes_left (moved (in_memory after) info.metadata.xorb_info_offset))) (moved (in_memory after) info.metadata.xorb_info_offset) (in_memory new) e → RefusesRecords bytes e
     by_cause (inl failed) = absurd (omega (arith, failed.0))
     by_cause (inr (works, bad)) = inr (info, ends, inr (subst (λ bs. BadSection xorb_records (drop info.metadata.xorb_info_offset bs) e) same bad))

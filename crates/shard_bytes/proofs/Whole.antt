@@ -50,7 +50,7 @@ use Rattle.shard_bytes.specs.declared.check.Part.{Part}
 use Rattle.shard_bytes.specs.declared.check.Part.TheVariants.{Header, FileSection, XorbSection, FileTable, XorbTable, ChunkTable, Footer}
 use Rattle.shard_bytes.specs.declared.check.Finding.{Finding}
 use Rattle.shard_bytes.specs.declared.check.Finding.TheVariants.{Unsupported, TooShort, Cut, Refused, OutOfOrder, Malformed, Differs, Reordered, Size}
-use Rattle.shard_bytes.specs.Checking.{IsContent, IsWhole, IsIntact, IsReadAs, IsReordering, IsReorderedTable, IsOutOfOrder, IsAlikePart, IsFinding, IsNote, HoldsOne, layout_with}
+use Rattle.shard_bytes.specs.Checking.{IsContent, IsWhole, IsIntact, IsReadAs, IsReordering, IsReorderedTable, IsOutOfOrder, IsAlikePart, IsFinding, IsNote, HoldsSomeShard, layout_with}
 
 -- what holds of each value of a map holds of its entries
 of_entries : {R : Type 0} (Is : R → Type 0) (m : FinMap hash_cmp R) → All Is (values m) → All (λ e. Is e.1) (entries m)
@@ -259,7 +259,7 @@ module _ (bytes : List ℕ) (w : IsIntact bytes) where
     xorbs = section_of_list xorb_records w.xorbs w.content.xorbs_ascend (xorbs_at bytes info) w.xorbs xorbs_there (map-id w.xorbs);
   }
 
-  pub holds_one : HoldsOne bytes
+  pub holds_one : HoldsSomeShard bytes
   holds_one = (
     w.options.key,
     the_shard,

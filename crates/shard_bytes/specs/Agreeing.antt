@@ -2,7 +2,7 @@
 use Rattle.std.specs.Prelude.{◌≡◌, ℕ, ◌<◌, List, length, Contains}
 use Rattle.std.specs.List.{AllZip}
 use Rattle.xet_core_structures.specs.declared.merklehash.DataHash.{DataHash}
-use Rattle.xet_core_structures.specs.Agreement.Agreement.{HoldShards, IsMalformedAt, InputsAgree, HasAllDisagreements}
+use Rattle.xet_core_structures.specs.Agreement.Agreement.{HoldShards, HoldMalformed, InputsAgree, HasAllDisagreements}
 use Rattle.xet_core_structures.specs.Joins.{IsJoinOf, AgreePairwise}
 use Rattle.xet_core_structures.specs.Records.ShardContents.{HasShard, HoldsShard}
 use Rattle.xet_core_structures.specs.Shard.{Shard}
@@ -18,7 +18,7 @@ MergesAgreeing inputs (Bytes bytes) =
     HoldShards inputs × InputsAgree inputs × MergesBytes inputs bytes.items
 MergesAgreeing inputs (Disagreements found) =
     (0 < length found.items) × HasAllDisagreements inputs found.items
-MergesAgreeing inputs (Malformed m) = IsMalformedAt inputs m
+MergesAgreeing inputs (Malformed m) = HoldMalformed inputs m
 
 -- the byte strings hold well-formed shards under one key, each two of which agree, and these are the
 -- bytes of their join under the key, with all tables, creation 0 and no expiry

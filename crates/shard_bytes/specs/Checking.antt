@@ -219,5 +219,5 @@ IsNote _ = ⊥
 
 -- the bytes hold a well-formed shard: of such bytes of one key, if they agree, each tree of unions
 -- gives the same bytes
-abbrev pub HoldsOne : List ℕ → Type 0
-HoldsOne bytes = (key : DataHash) × (s : Shard) × HoldsShard key s bytes
+abbrev pub HoldsSomeShard : List ℕ → Type 0
+HoldsSomeShard bytes = (key : DataHash) × (s : Shard) × HoldsShard key s bytes

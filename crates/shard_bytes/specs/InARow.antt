@@ -5,7 +5,7 @@ use Rattle.xet_core_structures.specs.Shard.{Shard}
 use Rattle.xet_core_structures.specs.WrittenShard.{IsBytesWithoutExpiry}
 
 -- the bytes are those of the shard that has the records of these, in their order
-pub record IsRowOf (shards : List Shard) (bytes : List ℕ) : Type 0 where
+pub record IsConcatenation (shards : List Shard) (bytes : List ℕ) : Type 0 where
   pub all : Shard
   pub row : AreInARow shards all
   pub is_bytes : IsBytesWithoutExpiry all bytes

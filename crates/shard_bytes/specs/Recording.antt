@@ -41,8 +41,8 @@ CanAddXorbs s [] = ⊤
 CanAddXorbs s (r ∷ rs) = CanAddXorb s r × CanAddXorbs (add_xorb s r) rs
 
 -- records of which there is a shard
-abbrev pub CanRecord : List MDBFileInfo → List MDBXorbInfo → Type 0
-CanRecord files xorbs =
+abbrev pub CanAddRecords : List MDBFileInfo → List MDBXorbInfo → Type 0
+CanAddRecords files xorbs =
     CanAddFiles empty_shard files × CanAddXorbs (with_files empty_shard files) xorbs
 
 -- the result of a call that enters records one after another: a value if they can be entered, and
@@ -64,8 +64,8 @@ pub record HasRecords (bytes : List ℕ) (found : Records) : Type 0 where
 
 -- why the records are not read: header and footer are not read, or they are, and then a section is
 -- not
-abbrev pub NotRecorded : List ℕ → CoreError → Type 0
-NotRecorded bytes e =
+abbrev pub RefusesRecords : List ℕ → CoreError → Type 0
+RefusesRecords bytes e =
     LoadRefusal bytes e
     ⊎ ((info : MDBShardInfo) × HasHeaderAndFooter bytes info
     × (BadSection (files_of info) (drop info.metadata.file_info_offset bytes) e

@@ -10,7 +10,7 @@ ghost use Rattle.xet_core_structures.specs.Ends.{HasHeaderAndFooter};
 ghost use Rattle.xet_core_structures.specs.TwoShards.ByteResults.{LoadRefusal};
 ghost use Rattle.xet_core_structures.specs.Hash.{hash_cmp};
 ghost use Rattle.shard_bytes.specs.declared.check.Finding.{Finding};
-ghost use Rattle.shard_bytes.specs.Checking.{IsWhole, IsIntact, IsFinding, IsNote, IsOutOfOrder, IsSamePart, HoldsOne};
+ghost use Rattle.shard_bytes.specs.Checking.{IsWhole, IsIntact, IsFinding, IsNote, IsOutOfOrder, IsSamePart, HoldsSomeShard};
 ghost use Rattle.shard_bytes.specs.Steps.Checking.{IsReport, IsUnloaded, IsUnreadable, AddsPart, AddsTable, FindsInTable, AddsSize, AddsDisorder, AddsDifferences, Compares, IsWritten, IsWrittenTable};
 
 mod malformed;
@@ -106,7 +106,7 @@ impl Finding {
 pub fn check_bytes(alloc: Global, bytes: &[u8]) -> Result<Vec<Finding>>
     ensures whole { IfOk result (λ findings. (findings.items ≡ []) ↔ IsWhole bytes.now) }
     ensures intact { IfOk result (λ findings. All IsNote findings.items ↔ IsIntact bytes.now) }
-    ensures shard { IfOk result (λ findings. All IsNote findings.items → HoldsOne bytes.now) }
+    ensures shard { IfOk result (λ findings. All IsNote findings.items → HoldsSomeShard bytes.now) }
     ensures each { IfOk result (λ findings. All (IsFinding bytes.now) findings.items) }
     ensures all { IfOk result
         (λ findings. (f : Finding) → IsFinding bytes.now f → Contains findings.items f) }

@@ -10,7 +10,7 @@ ghost use Rattle.xet_core_structures.specs.Trees.RangeTrees.{IsHeldLayout};
 ghost use Rattle.xet_core_structures.specs.TwoShards.ByteResults.{keyed_layout};
 ghost use Rattle.xet_core_structures.specs.declared.error.CoreError.{CoreError};
 ghost use Rattle.xet_core_structures.specs.declared.merklehash.DataHash.{DataHash};
-ghost use Rattle.shard_bytes.specs.InARow.{IsRowOf};
+ghost use Rattle.shard_bytes.specs.InARow.{IsConcatenation};
 ghost use Rattle.shard_bytes.specs.Outcomes.{InMemory};
 
 use crate::memory::in_memory;
@@ -43,7 +43,7 @@ pub fn concatenate(alloc: Global, shards: &[&[u8]]) -> Result<Vec<u8>>
         → map bytes_of_part parts ≡ map (λ x. x.now) shards.now
         → IfErr result (λ e. e ≡ CoreError.OutOfMemory) }
     ensures shard { (written : List Shard) → AreBytesOf written (map (λ x. x.now) shards.now)
-        → IfOk result (λ bytes. IsRowOf written bytes.items) }
+        → IfOk result (λ bytes. IsConcatenation written bytes.items) }
     ensures shard_succeeds { (written : List Shard) → (all : Shard) → IsShard all
         → AreInARow written all → AreBytesOf written (map (λ x. x.now) shards.now)
         → 0 < length shards.now → IfErr result (λ e. e ≡ CoreError.OutOfMemory) }
@@ -72,7 +72,7 @@ fn concatenate_parts(alloc: Global, shards: &[&[u8]]) -> Result<Vec<u8>>
         → map bytes_of_part parts ≡ map (λ x. x.now) shards.now
         → IfErr result (λ e. e ≡ CoreError.OutOfMemory) }
     ensures shard { (written : List Shard) → AreBytesOf written (map (λ x. x.now) shards.now)
-        → IfOk result (λ bytes. IsRowOf written bytes.items) }
+        → IfOk result (λ bytes. IsConcatenation written bytes.items) }
     ensures shard_succeeds { (written : List Shard) → (all : Shard) → IsShard all
         → AreInARow written all → AreBytesOf written (map (λ x. x.now) shards.now)
         → 0 < length shards.now → IfErr result (λ e. e ≡ CoreError.OutOfMemory) }

@@ -58,7 +58,7 @@ fn search_starts(alloc: Global, table: &[u8], word: u64, rows: &mut [u32; 8]) ->
     let mut info = MDBShardInfo::default();
     info.metadata.file_lookup_num_entry = rows_in(table, 12)?;
     let mut source = MemorySource::new(table);
-    info.get_file_info_index_by_hash(alloc, &mut source, &beginning_with(word), rows)
+    info.get_file_info_index_by_hash(alloc, &mut source, &hash_with_word(word), rows)
 }
 
 /// Looks in the bytes of a chunk table for rows with this first word of a chunk's hash, and puts
@@ -95,7 +95,7 @@ fn search_chunks(
     let mut info = MDBShardInfo::default();
     info.metadata.chunk_lookup_num_entry = rows_in(table, 16)?;
     let mut source = MemorySource::new(table);
-    info.get_xorb_info_index_by_chunk(alloc, &mut source, &beginning_with(word), places)
+    info.get_xorb_info_index_by_chunk(alloc, &mut source, &hash_with_word(word), places)
 }
 
 // The number of rows of a table, each of so many bytes. `InvalidArguments` if they are not whole.
@@ -114,7 +114,7 @@ fn rows_in(table: &[u8], row_size: u64) -> Result<u64>
 }
 
 // A hash with this first word, which is all that a table has of hashes.
-fn beginning_with(word: u64) -> MerkleHash
+fn hash_with_word(word: u64) -> MerkleHash
     ensures { result ≡ record { word0 = word; word1 = 0; word2 = 0; word3 = 0 } }
 {
     MerkleHash::from([word, 0, 0, 0])

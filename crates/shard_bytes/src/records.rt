@@ -6,7 +6,7 @@ ghost use Rattle.xet_core_structures.specs.declared.error.CoreError.{CoreError};
 ghost use Rattle.xet_core_structures.specs.Layout.{layout};
 ghost use Rattle.xet_core_structures.specs.Shard.{Shard, IsShard};
 ghost use Rattle.xet_core_structures.specs.WrittenShard.{IsBytesOf};
-ghost use Rattle.shard_bytes.specs.Recording.{with_files, with_xorbs, shard_of, CanAddFiles, CanAddXorbs, CanRecord, AdmitsAll, HasRecords, NotRecorded};
+ghost use Rattle.shard_bytes.specs.Recording.{with_files, with_xorbs, shard_of, CanAddFiles, CanAddXorbs, CanAddRecords, AdmitsAll, HasRecords, RefusesRecords};
 
 use std::alloc::Global;
 use xet_core_structures::error::{CoreError, Result};
@@ -39,7 +39,7 @@ pub fn write_records(
     ensures shard { IfOk result (λ _. IsShard (shard_of files.items xorbs.items)) }
     ensures readable { IfOk result
         (λ bytes. IsBytesOf (shard_of files.items xorbs.items) bytes.items) }
-    ensures admitted { AdmitsAll (CanRecord files.items xorbs.items) result }
+    ensures admitted { AdmitsAll (CanAddRecords files.items xorbs.items) result }
 {
     let mut shard = MDBInMemoryShard::new(alloc);
     add_files(alloc, &mut shard, files)?;
@@ -90,7 +90,7 @@ fn bytes_of(alloc: Global, shard: &MDBInMemoryShard, expiry: Option<u64>) -> Res
 /// The errors are those of [`MDBShardInfo::load_from_reader`],
 /// [`MDBShardInfo::read_all_file_info_sections`] and [`MDBShardInfo::read_all_xorb_blocks_full`].
 pub fn read_records(alloc: Global, bytes: &[u8]) -> Result<Records>
-    ensures any_bytes { MatchResult result (HasRecords bytes.now) (NotRecorded bytes.now) }
+    ensures any_bytes { MatchResult result (HasRecords bytes.now) (RefusesRecords bytes.now) }
     ensures written { (s : Shard) → IsBytesOf s bytes.now
         → MatchResult result
         (λ found. (found.files.items ≡ finite.values s.files)
@@ -108,7 +108,7 @@ pub fn read_records(alloc: Global, bytes: &[u8]) -> Result<Records>
 /// [`read_records`] gives them, are admitted by [`write_records`] and make this shard again.
 pub fn read_records_are_written_again()
     ensures admitted { (s : Shard) → IsShard s
-        → CanRecord (finite.values s.files) (finite.values s.xorbs) }
+        → CanAddRecords (finite.values s.files) (finite.values s.xorbs) }
     ensures again { (s : Shard) → IsShard s
         → shard_of (finite.values s.files) (finite.values s.xorbs) ≡ s }
 {}

@@ -7,7 +7,7 @@ use Rattle.shard_bytes.specs.declared.check.Part.TheVariants.{Header, FileSectio
 use Rattle.shard_bytes.specs.declared.check.Section.{Section}
 use Rattle.shard_bytes.specs.declared.check.Section.TheVariants.{Files, Xorbs}
 use Rattle.shard_bytes.specs.declared.format.Format.TheVariants.{NoTag, OtherVersion, NoFooter}
-use Rattle.shard_bytes.specs.Checking.{IsWhole, IsIntact, IsFinding, IsNote, HoldsOne}
+use Rattle.shard_bytes.specs.Checking.{IsWhole, IsIntact, IsFinding, IsNote, HoldsSomeShard}
 use Rattle.xet_c.specs.declared.check.XetFinding.{XetFinding}
 
 -- the number of a section, equal to that of the part which it is
@@ -49,5 +49,5 @@ pub record ShowsFindings (bytes : List ℕ) (shown : List XetFinding) : Type 0 w
   pub all : (f : Finding) → IsFinding bytes f → Contains findings f
   pub whole : (findings ≡ []) ↔ IsWhole bytes
   pub intact : All IsNote findings ↔ IsIntact bytes
-  pub shard : All IsNote findings → HoldsOne bytes
+  pub shard : All IsNote findings → HoldsSomeShard bytes
   pub shown_are : shown ≡ map c_finding findings

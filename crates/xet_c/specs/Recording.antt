@@ -10,7 +10,7 @@ use Rattle.xet_core_structures.specs.FileRecord.{has_verification, has_metadata_
 use Rattle.xet_core_structures.specs.Hash.{words_of}
 use Rattle.xet_core_structures.specs.Layout.{layout}
 use Rattle.shard_bytes.specs.declared.records.Records.{Records}
-use Rattle.shard_bytes.specs.Recording.{shard_of, CanRecord}
+use Rattle.shard_bytes.specs.Recording.{shard_of, CanAddRecords}
 use Rattle.xet_c.specs.declared.listed.XetListedFile.{XetListedFile}
 use Rattle.xet_c.specs.declared.listed.XetListedXorb.{XetListedXorb}
 use Rattle.xet_c.specs.declared.records.XetCounts.{XetCounts}
@@ -103,7 +103,7 @@ pub record WritesListed (fs : List XetListedFile) (segments : List XetFileSegmen
   pub xorbs : List MDBXorbInfo
   pub files_are : AreListedFiles fs segments files
   pub xorbs_are : AreListedXorbs xs chunks xorbs
-  pub can : CanRecord files xorbs
+  pub can : CanAddRecords files xorbs
   pub bytes_are : bytes ≡ layout (shard_of files xorbs) (Some expiry)
 
 -- why lists are not written: an allocation failed, counts do not add up, or no shard has the records
@@ -115,7 +115,7 @@ RefusesListed fs segments xs chunks e =
     ⊎ ((e ≡ InvalidArguments)
     × ((¬ AddUp (λ f. f.segments) fs segments) ⊎ (¬ AddUp (λ x. x.chunks) xs chunks)
     ⊎ ((files : List MDBFileInfo) × (xorbs : List MDBXorbInfo) × AreListedFiles fs segments files
-    × AreListedXorbs xs chunks xorbs × (¬ CanRecord files xorbs))))
+    × AreListedXorbs xs chunks xorbs × (¬ CanAddRecords files xorbs))))
 
 -- items were written to the front of an output that has room for them, and what is behind stays
 abbrev pub IsPut : {X : Type 0} → List X → (old new : List X) → Type 0

@@ -1,4 +1,4 @@
-//! One shard of shards whose records come one after another.
+//! Shards whose records come one after another, put together to one.
 
 ghost use Rattle.std.specs.Prelude.{◌≡◌, ◌<◌, ⊤, List, All, None, map, length};
 ghost use Rattle.std.specs.List.{AllZip};
@@ -9,7 +9,7 @@ ghost use Rattle.xet_core_structures.specs.Shard.{Shard, IsShard};
 ghost use Rattle.xet_core_structures.specs.Trees.RangeTrees.{IsHeldLayout};
 ghost use Rattle.xet_core_structures.specs.TwoShards.ByteResults.{keyed_layout};
 ghost use Rattle.xet_core_structures.specs.declared.merklehash.DataHash.{DataHash};
-ghost use Rattle.shard_bytes.specs.InARow.{IsRowOf};
+ghost use Rattle.shard_bytes.specs.InARow.{IsConcatenation};
 ghost use Rattle.shard_bytes.specs.Outcomes.{InMemory};
 ghost use Rattle.xet_c.specs.Output.{Outcome};
 
@@ -41,12 +41,12 @@ pub extern "C" fn xet_concatenate(
         → Outcome (λ bytes. bytes ≡ layout_of (files_in parts) (xorbs_in parts) (options_under key))
         (λ e. e ≡ CoreError.OutOfMemory) out.old out.new written.new result }
     ensures shard { (written_of : List Shard) → AreBytesOf written_of (map (λ x. x.now) shards.now)
-        → Outcome (IsRowOf written_of) (InMemory (RefusesShardsInARow (map (λ x. x.now) shards.now))) out.old
+        → Outcome (IsConcatenation written_of) (InMemory (RefusesShardsInARow (map (λ x. x.now) shards.now))) out.old
         out.new written.new result }
     ensures shard_succeeds { (written_of : List Shard) → (all : Shard) → IsShard all
         → AreInARow written_of all → AreBytesOf written_of (map (λ x. x.now) shards.now)
         → 0 < length shards.now
-        → Outcome (IsRowOf written_of) (λ e. e ≡ CoreError.OutOfMemory) out.old out.new written.new
+        → Outcome (IsConcatenation written_of) (λ e. e ≡ CoreError.OutOfMemory) out.old out.new written.new
         result }
     ensures ranges { (key : DataHash) → (cuts : List DataHash) → (join : Shard) → (parts : List Shard)
         → IsShard join → AreCuts None cuts None

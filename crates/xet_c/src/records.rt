@@ -3,7 +3,7 @@
 ghost use Rattle.std.specs.Prelude.{◌≡◌, ◌⊎◌, ◌++◌, ◌≤◌, length, map, IfOk, IfErr, OnOk, MatchResult};
 ghost use Rattle.xet_core_structures.specs.Errors.{CoreResult};
 ghost use Rattle.shard_bytes.specs.declared.records.Records.{Records};
-ghost use Rattle.shard_bytes.specs.Recording.{HasRecords, NotRecorded};
+ghost use Rattle.shard_bytes.specs.Recording.{HasRecords, RefusesRecords};
 ghost use Rattle.xet_c.specs.Walking.{c_chunk};
 ghost use Rattle.xet_c.specs.Recording.{c_listed_file, c_listed_xorb, all_segments, all_chunks, IsPut, no_counts, ShowsRecords};
 
@@ -41,7 +41,7 @@ pub extern "C" fn xet_records(
     counts: &mut XetCounts,
 ) -> u32
     ensures { (found : CoreResult Records)
-        × MatchResult found (HasRecords shard.now) (NotRecorded shard.now)
+        × MatchResult found (HasRecords shard.now) (RefusesRecords shard.now)
         × (ShowsRecords found
         (record { files = files.old; segments = segments.old; xorbs = xorbs.old; chunks = chunks.old })
         (record { files = files.new; segments = segments.new; xorbs = xorbs.new; chunks = chunks.new })

@@ -83,11 +83,11 @@ fn has_few_bytes(xorb: &MDBXorbInfo) -> bool
     requires { HasItsChunks xorb.now }
     ensures { IsTrue result ↔ (size_of_chunks xorb.now ≤ 4294967295) }
 {
-    bytes_of(xorb) <= u64::from(u32::MAX)
+    size_of_chunks(xorb) <= u64::from(u32::MAX)
 }
 
 // The bytes of a xorb's chunks.
-fn bytes_of(xorb: &MDBXorbInfo) -> u64
+fn size_of_chunks(xorb: &MDBXorbInfo) -> u64
     requires { HasItsChunks xorb.now }
     ensures { result ≡ size_of_chunks xorb.now }
 {

@@ -16,7 +16,7 @@ use Rattle.xet_shards.specs.Content.Shard.{Shard}
 use Rattle.xet_shards.specs.Export.InARow.{AreInARow}
 use Rattle.xet_shards.proofs.Content.Maps.{both_left, both_right}
 use Rattle.xet_shards.proofs.ShardInMemory.Sums.{all_of_map}
-use Rattle.xet_core_structures.specs.Records.Ranges.{KeepsThose, IsPartOf, is_from, is_before, is_up_to, is_within, ranges_between, AreCuts}
+use Rattle.xet_core_structures.specs.Records.Ranges.{IsRestriction, IsPartOf, is_from, is_before, is_up_to, is_within, ranges_between, AreCuts}
 use Rattle.xet_core_structures.proofs.Records.Parts.{kept}
 use Rattle.xet_core_structures.proofs.Records.Within.{one_part, part_of, part_of_is}
 
@@ -116,8 +116,8 @@ module _ {X : Type 0} where
   high_part b true o x is = absurd (true≢false (sym (kept false o x is).0))
 
   module _ (from : Option DataHash) (k : DataHash) (to : Option DataHash) (high : is_from from k ≡ true) (up : is_up_to to k ≡ true) (m n a b : FinMap hash_cmp X)
-      (whole : KeepsThose (is_within (record { from = from; to = to })) m n) (first : KeepsThose (is_within (record { from = from; to = Some k })) m a)
-      (second : KeepsThose (is_within (record { from = Some k; to = to })) m b) where
+      (whole : IsRestriction (is_within (record { from = from; to = to })) m n) (first : IsRestriction (is_within (record { from = from; to = Some k })) m a)
+      (second : IsRestriction (is_within (record { from = Some k; to = to })) m b) where
     sorted : T (is_sorted hash_cmp (entries a ++ entries b))
     sorted = sorted_both k (entries a) (entries b)
         (recursion_from_All (λ (e : DataHash × X). hash_cmp e.0 k ≡ Less) (entries a) (all_of_map hash_cmp-IsTotalOrder hash_cmp-IsAntisymmetric (λ e. hash_cmp e.0 k ≡ Less) a

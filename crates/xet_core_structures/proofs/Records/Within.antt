@@ -18,7 +18,7 @@ use Rattle.xet_shards.proofs.Content.Unions.{same_shard}
 use Rattle.xet_shards.proofs.ShardInMemory.FileUnions.{holds_in_map}
 use Rattle.xet_shards.proofs.ShardInMemory.Sums.{all_of_map, sub-sum}
 use Rattle.xet_core_structures.specs.Records.RecordPairs.{key_of_record, with_hash}
-use Rattle.xet_core_structures.specs.Records.Ranges.{KeepsThose, IsPartOf, those_records}
+use Rattle.xet_core_structures.specs.Records.Ranges.{IsRestriction, IsPartOf, records_passing}
 use Rattle.xet_core_structures.specs.Steps.ByteResults.{Records}
 use Rattle.xet_core_structures.proofs.Records.ListMaps.{list_map, get-list_map, shard_of}
 use Rattle.xet_core_structures.proofs.Records.Parts.{kept, join_of_parts, parts_agree}
@@ -26,7 +26,7 @@ use Rattle.xet_core_structures.proofs.Trees.MappedJoins.{PreservesJoins}
 
 module _ {H R : Type 0} (K : RecordKind H R) (passes : DataHash → Bool) where
   abbrev those : List R → List R
-  those rs = those_records K passes rs
+  those rs = records_passing K passes rs
 
   -- they ascend if all do
   below_those : (k : DataHash) (rs : List R) → AllByRecursion (λ q. hash_cmp k q ≡ Less) (map (key_of_record K) rs) → AllByRecursion (λ q. hash_cmp k q ≡ Less) (map (key_of_record K) (those rs))
@@ -69,7 +69,7 @@ module _ {H R : Type 0} (K : RecordKind H R) (passes : DataHash → Bool) where
       (λ equal. ap passes (sym ((same_key q (key_of_record K r)).0 equal))) (with_hash-those rs q)
 
   -- the map of these is a part of the map of all
-  pub list_map-those : (rs : List R) → Ascends K rs → KeepsThose passes (list_map K rs) (list_map K (those rs))
+  pub list_map-those : (rs : List R) → Ascends K rs → IsRestriction passes (list_map K rs) (list_map K (those rs))
   list_map-those rs ascends q = get-list_map K (those rs) (those_ascend rs ascends) q ∙ with_hash-those rs q ∙ ap (λ o. if passes q then o else None) (sym (get-list_map K rs ascends q))
 
   -- if they are placed, those are
@@ -87,13 +87,13 @@ module _ {H R : Type 0} (K : RecordKind H R) (passes : DataHash → Bool) where
 
 module _ (passes : DataHash → Bool) where
   -- what a part has, its whole has
-  pub in_whole : {X : Type 0} (m n : FinMap hash_cmp X) → KeepsThose passes m n → (q : DataHash) (x : X) → get n q ≡ Some x → get m q ≡ Some x
+  pub in_whole : {X : Type 0} (m n : FinMap hash_cmp X) → IsRestriction passes m n → (q : DataHash) (x : X) → get n q ≡ Some x → get m q ≡ Some x
   in_whole m n keeps q x at = (kept (passes q) (get m q) x (sym (keeps q) ∙ at)).1
 
-  all_of_part : {X : Type 0} (P : DataHash × X → Type 0) (m n : FinMap hash_cmp X) → KeepsThose passes m n → All P (entries m) → All P (entries n)
+  all_of_part : {X : Type 0} (P : DataHash × X → Type 0) (m n : FinMap hash_cmp X) → IsRestriction passes m n → All P (entries m) → All P (entries n)
   all_of_part P m n keeps all = all_of_map hash_cmp-IsTotalOrder hash_cmp-IsAntisymmetric P n (λ q x at. holds_in_map P m q x all (in_whole m n keeps q x at))
 
-  pub sum_of_part : {X : Type 0} (f : X → ℕ) (m n : FinMap hash_cmp X) → KeepsThose passes m n → sum_by f (values n) ≤ sum_by f (values m)
+  pub sum_of_part : {X : Type 0} (f : X → ℕ) (m n : FinMap hash_cmp X) → IsRestriction passes m n → sum_by f (values n) ≤ sum_by f (values m)
   sum_of_part f m n keeps = sub-sum hash_cmp-IsTotalOrder hash_cmp-IsAntisymmetric f n m (in_whole m n keeps)
 
   -- a part of a shard is one
@@ -118,7 +118,7 @@ module _ (passes : DataHash → Bool) where
   abbrev pub part_of : Shard → Shard
   part_of s = record { files = retain_keys s.files passes; xorbs = retain_keys s.xorbs passes }
 
-  retained : {X : Type 0} (m : FinMap hash_cmp X) → KeepsThose passes m (retain_keys m passes)
+  retained : {X : Type 0} (m : FinMap hash_cmp X) → IsRestriction passes m (retain_keys m passes)
   retained m q = get-retain_keys m passes q (λ x equal. ap passes (sym (hash_cmp-IsAntisymmetric q x equal)))
 
   pub part_of_is : (s : Shard) → IsPartOf passes s (part_of s)
@@ -126,7 +126,7 @@ module _ (passes : DataHash → Bool) where
 
   -- the shard of those records of both lists is a part of that of all
   pub part_of_lists : (records : Records) → Ascends file_records records.files → Ascends xorb_records records.xorbs
-      → IsPartOf passes (shard_of records) (shard_of (record { files = those_records file_records passes records.files; xorbs = those_records xorb_records passes records.xorbs }))
+      → IsPartOf passes (shard_of records) (shard_of (record { files = records_passing file_records passes records.files; xorbs = records_passing xorb_records passes records.xorbs }))
   part_of_lists records files xorbs = record {
     files = list_map-those file_records passes records.files files;
     xorbs = list_map-those xorb_records passes records.xorbs xorbs;

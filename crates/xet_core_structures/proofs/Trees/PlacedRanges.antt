@@ -14,7 +14,7 @@ use Rattle.xet_shards.specs.Write.Section.{total_rows}
 use Rattle.xet_shards.proofs.Write.Sections.{files_laws}
 use Rattle.xet_core_structures.specs.declared.set_operations.trees.parts.PlacedShard.{PlacedShard}
 use Rattle.xet_core_structures.specs.declared.set_operations.ranges.HashRange.{HashRange}
-use Rattle.xet_core_structures.specs.Records.Ranges.{IsPartOf, is_within, those_records}
+use Rattle.xet_core_structures.specs.Records.Ranges.{IsPartOf, is_within, records_passing}
 use Rattle.xet_core_structures.specs.Records.ShardContents.{Holds}
 use Rattle.xet_core_structures.specs.Steps.ByteResults.{Records}
 use Rattle.xet_core_structures.specs.Steps.Parts.{PlacesShard, IsUnited}
@@ -42,13 +42,13 @@ part_readable passes x info s t holds part few_files few_xorbs = record {
 }
 
 module _ (range : HashRange) (x : List ℕ) (info : MDBShardInfo) (ends : HasHeaderAndFooter x info) (shard cut : PlacedShard) (places : PlacesShard x info shard)
-    (files : PlacesAll file_records cut.files.items (those_records file_records (is_within range) places.records.files))
-    (xorbs : PlacesAll xorb_records cut.xorbs.items (those_records xorb_records (is_within range) places.records.xorbs)) (same_key : cut.key ≡ shard.key) where
+    (files : PlacesAll file_records cut.files.items (records_passing file_records (is_within range) places.records.files))
+    (xorbs : PlacesAll xorb_records cut.xorbs.items (records_passing xorb_records (is_within range) places.records.xorbs)) (same_key : cut.key ≡ shard.key) where
   abbrev test : DataHash → Bool
   test = is_within range
 
   abbrev left : Records
-  left = record { files = those_records file_records test places.records.files; xorbs = those_records xorb_records test places.records.xorbs }
+  left = record { files = records_passing file_records test places.records.files; xorbs = records_passing xorb_records test places.records.xorbs }
 
   whole_files : values (shard_of places.records).files ≡ places.records.files
   whole_files = values-list_map file_records places.records.files places.lists.files.writable.ascends

@@ -53,8 +53,8 @@ abbrev pub HoldShards : List (List ℕ) → Type 0
 HoldShards inputs = (i : ℕ) → i < length inputs → (s : Shard) × HoldsAt inputs i s × IsShard s
 
 -- the shard that an input holds has a record that no shard may have
-abbrev pub IsMalformedAt : List (List ℕ) → MalformedRecord → Type 0
-IsMalformedAt inputs m = (s : Shard) × HoldsAt inputs m.input s × HasMalformed s m.record_hash
+abbrev pub HoldMalformed : List (List ℕ) → MalformedRecord → Type 0
+HoldMalformed inputs m = (s : Shard) × HoldsAt inputs m.input s × HasMalformed s m.record_hash
 
 -- why no shard is read from bytes: header and footer are not read; or they are, and then a section
 -- is not read
@@ -131,4 +131,4 @@ abbrev pub IsMerged : List (List ℕ) → MergePlan → Merged → Type 0
 IsMerged inputs plan (Bytes bytes) =
     HoldShards inputs × InputsAgree inputs × TreeWrites inputs plan bytes.items
 IsMerged inputs plan (Disagreed d) = InputsDisagree inputs d
-IsMerged inputs plan (Malformed m) = IsMalformedAt inputs m
+IsMerged inputs plan (Malformed m) = HoldMalformed inputs m

@@ -11,13 +11,13 @@ use Rattle.xet_core_structures.specs.declared.set_operations.ranges.HashRange.{H
 use Rattle.xet_core_structures.specs.Records.RecordPairs.{key_of_record}
 
 -- a map has the values of another under the hashes that pass a test
-abbrev pub KeepsThose : {X : Type 0} → (DataHash → Bool) → FinMap hash_cmp X → FinMap hash_cmp X → Type 0
-KeepsThose passes whole part = (q : DataHash) → get part q ≡ (if passes q then get whole q else None)
+abbrev pub IsRestriction : {X : Type 0} → (DataHash → Bool) → FinMap hash_cmp X → FinMap hash_cmp X → Type 0
+IsRestriction passes whole part = (q : DataHash) → get part q ≡ (if passes q then get whole q else None)
 
 -- a shard has the records of another whose hashes pass a test
 pub record IsPartOf (passes : DataHash → Bool) (whole part : Shard) : Type 0 where
-  pub files : KeepsThose passes whole.files part.files
-  pub xorbs : KeepsThose passes whole.xorbs part.xorbs
+  pub files : IsRestriction passes whole.files part.files
+  pub xorbs : IsRestriction passes whole.xorbs part.xorbs
 
 -- whether a hash is not below another, if there is one
 abbrev pub is_from : Option DataHash → DataHash → Bool
@@ -34,8 +34,8 @@ abbrev pub is_within : HashRange → DataHash → Bool
 is_within range q = is_from range.from q && is_before range.to q
 
 -- the records of a list whose hashes pass a test
-abbrev pub those_records : {H R : Type 0} → RecordKind H R → (DataHash → Bool) → List R → List R
-those_records K passes rs = filter (λ r. passes (key_of_record K r)) rs
+abbrev pub records_passing : {H R : Type 0} → RecordKind H R → (DataHash → Bool) → List R → List R
+records_passing K passes rs = filter (λ r. passes (key_of_record K r)) rs
 
 -- whether a hash is not above another, if there is one
 abbrev pub is_up_to : Option DataHash → DataHash → Bool

@@ -14,7 +14,7 @@
 ghost use Rattle.std.specs.Prelude.{◌≡◌, ◌⊎◌, ◌<◌, ◌++◌, ℕ, List, length, map, Some, slice_get, MatchOption, MatchResult, OnOk, IfErr};
 ghost use Rattle.xet_base.specs.declared.error.CoreError.TheVariants.{OutOfMemory};
 ghost use Rattle.xet_core_structures.specs.Trees.MergeTrees.{TreeRefusal};
-ghost use Rattle.xet_core_structures.specs.Agreement.Agreement.{InputsAgree, InputsDisagree, HasAllDisagreements, InputsRefusal, ShardRefusal, HoldShards, IsMalformedAt, IsMerged, disagreement_of};
+ghost use Rattle.xet_core_structures.specs.Agreement.Agreement.{InputsAgree, InputsDisagree, HasAllDisagreements, InputsRefusal, ShardRefusal, HoldShards, HoldMalformed, IsMerged, disagreement_of};
 ghost use Rattle.xet_core_structures.specs.Steps.Agreement.{ArePlaced, IsPlacedOf, FindsMalformedIn};
 
 mod differing;
@@ -131,7 +131,7 @@ pub fn find_disagreement(alloc: Global, inputs: &[&[u8]]) -> Result<Option<Disag
 pub fn find_malformed(alloc: Global, inputs: &[&[u8]]) -> Result<Option<MalformedRecord>>
     ensures { MatchResult result
         (λ found. MatchOption found (HoldShards (map (λ x. x.now) inputs.now))
-        (IsMalformedAt (map (λ x. x.now) inputs.now)))
+        (HoldMalformed (map (λ x. x.now) inputs.now)))
         (InputsRefusal (map (λ x. x.now) inputs.now)) }
 {
     let mut at = 0;

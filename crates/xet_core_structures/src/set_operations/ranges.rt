@@ -6,7 +6,7 @@ ghost use Rattle.std.specs.Prelude.{◌≡◌, List, ℕ, map, MatchResult};
 ghost use Rattle.xet_base.specs.declared.error.CoreError.TheVariants.{OutOfMemory};
 ghost use Rattle.xet_base.specs.declared.merklehash.DataHash.{DataHash};
 ghost use Rattle.xet_shards.specs.Content.Shard.{Shard};
-ghost use Rattle.xet_core_structures.specs.Records.Ranges.{is_from, is_before, is_within, those_records};
+ghost use Rattle.xet_core_structures.specs.Records.Ranges.{is_from, is_before, is_within, records_passing};
 ghost use Rattle.xet_core_structures.specs.Steps.Parts.{IsPart};
 ghost use Rattle.xet_core_structures.specs.Steps.Placed.{PlacesAll};
 ghost use Rattle.xet_core_structures.specs.Trees.Filling.{FillsWith};
@@ -199,16 +199,16 @@ fn records_within<'a, R: SectionRecord>(
     range: HashRange,
 ) -> Result<Vec<PlacedRecord<'a, R::Header>>>
     ensures { MatchResult result
-        (λ kept. (rs : List R) → PlacesAll R.kind placed.now rs
-        → PlacesAll R.kind kept.items (those_records R.kind (is_within range) rs))
+        (λ within. (rs : List R) → PlacesAll R.kind placed.now rs
+        → PlacesAll R.kind within.items (records_passing R.kind (is_within range) rs))
         (λ e. e ≡ OutOfMemory) }
 {
     R::laws();
-    let mut kept = Vec::new(alloc);
+    let mut within = Vec::new(alloc);
     for record in placed {
         if range.contains(&R::hash(&record.header)) {
-            kept.push(copied(record))?;
+            within.push(copied(record))?;
         }
     }
-    Ok(kept)
+    Ok(within)
 }

@@ -1,7 +1,7 @@
 use Rattle.std.proofs.Common.{◌≡◌, ◌↔◌, [], ◌∷◌}
 use Rattle.std.specs.Prelude.{All, Contains}
 use Rattle.shard_bytes.specs.declared.check.Finding.{Finding}
-use Rattle.shard_bytes.specs.Checking.{IsWhole, IsIntact, IsFinding, IsNote, HoldsOne}
+use Rattle.shard_bytes.specs.Checking.{IsWhole, IsIntact, IsFinding, IsNote, HoldsSomeShard}
 use Rattle.shard_bytes.specs.Steps.Checking.{IsReport}
 use Rattle.shard_bytes.proofs.Checking.{if_ok}
 use Rattle.shard_bytes.proofs.Reading.{not_loaded}
@@ -43,14 +43,14 @@ returns-in-Err-clause-intact c =
 pub returns-in-Ok-clause-shard : goal.returns-in-Ok-clause-shard
 returns-in-Ok-clause-shard c =
     let bytes = c.args.bytes.now in
-    if_ok c.check_sections.result (λ found. IsReport bytes found.items) (λ found. All IsNote found.items → HoldsOne bytes)
+    if_ok c.check_sections.result (λ found. IsReport bytes found.items) (λ found. All IsNote found.items → HoldsSomeShard bytes)
     (λ found report notes. holds_one bytes (report.notes notes)) c.check_sections.ensures.report
 
 pub returns-in-Err-clause-shard : goal.returns-in-Err-clause-shard
 returns-in-Err-clause-shard c =
     let bytes = c.args.bytes.now in
     let f = c.unloaded.result in
-    if_ok c.only.result (λ found. found.items ≡ f ∷ []) (λ found. All IsNote found.items → HoldsOne bytes)
+    if_ok c.only.result (λ found. found.items ≡ f ∷ []) (λ found. All IsNote found.items → HoldsSomeShard bytes)
     (λ found one notes.
     let report : IsReport bytes found.items = not_loaded bytes f found.items c.unloaded.ensures one in
     holds_one bytes (report.notes notes))

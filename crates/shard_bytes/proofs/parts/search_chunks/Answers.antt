@@ -15,8 +15,8 @@ returns c =
     let footer = c.default-info.result.metadata in
     let same : c.new-source.result.bytes.now ≡ table = ap (λ (s : Source). s.bytes) c.new-source.ensures in
     let front : footer.chunk_lookup_offset ≡ 0 = ap (λ (f : MDBShardFileFooter). f.chunk_lookup_offset) c.default-info.ensures.1 in
-    let word : (under_key footer.chunk_hash_hmac_key c.beginning_with.result).word0 ≡ c.args.word =
-    ap (λ (f : MDBShardFileFooter). (under_key f.chunk_hash_hmac_key c.beginning_with.result).word0) c.default-info.ensures.1 ∙ ap (λ (h : DataHash). h.word0) c.beginning_with.ensures in
+    let word : (under_key footer.chunk_hash_hmac_key c.hash_with_word.result).word0 ≡ c.args.word =
+    ap (λ (f : MDBShardFileFooter). (under_key f.chunk_hash_hmac_key c.hash_with_word.result).word0) c.default-info.ensures.1 ∙ ap (λ (h : DataHash). h.word0) c.hash_with_word.ensures in
     let looks = subst (λ p. p) (λ i. Searches (record { bytes = same i; start = front i; rows = c.in_ok-info.ensures.1 i; width = 8 }) (word i) IsRowAndIndex 8 c.args.places.now call.new.dest (in_memory c.new-source.result) (in_memory call.new.source) call.result)
     call.ensures.looks in
     places_found table c.args.word c.args.places.now call.new.dest c.new-source.result call.new.source call.result same c.in_ok-info.ensures.2 c.in_ok-info.ensures.0 looks

@@ -13,7 +13,7 @@ returns c =
     let call = c.get_file_info_index_by_hash in
     let same : c.new-source.result.bytes.now ≡ table = ap (λ (s : Source). s.bytes) c.new-source.ensures in
     let front : c.default-info.result.metadata.file_lookup_offset ≡ 0 = ap (λ (f : MDBShardFileFooter). f.file_lookup_offset) c.default-info.ensures.1 in
-    let word : c.beginning_with.result.word0 ≡ c.args.word = ap (λ (h : DataHash). h.word0) c.beginning_with.ensures in
+    let word : c.hash_with_word.result.word0 ≡ c.args.word = ap (λ (h : DataHash). h.word0) c.hash_with_word.ensures in
     let looks = subst (λ p. p) (λ i. LooksUpIndex (record { bytes = same i; start = front i; rows = c.in_ok-info.ensures.1 i; width = 4 }) (word i) c.args.rows.now call.new.dest (in_memory c.new-source.result) (in_memory call.new.source) call.result)
     call.ensures.looks in
     rows_found table c.args.word c.args.rows.now call.new.dest c.new-source.result call.new.source call.result same c.in_ok-info.ensures.2 c.in_ok-info.ensures.0 looks

@@ -21,7 +21,7 @@ use xet_records::record_reader::SectionRecord;
 use xet_records::xorb_structs::{MDBXorbInfo, XorbChunkSequenceHeader};
 
 /// Which records a shard may have, of those that are read.
-pub trait Allowed<R: SectionRecord> {
+pub trait RecordRule<R: SectionRecord> {
     ghost allowed: { R → Type 0 };
 
     /// Whether a shard may have the record.
@@ -32,7 +32,7 @@ pub trait Allowed<R: SectionRecord> {
 }
 
 /// The hash of the first of these records that no shard may have.
-pub fn find_malformed_record<R: SectionRecord, A: Allowed<R>>(
+pub fn find_malformed_record<R: SectionRecord, A: RecordRule<R>>(
     alloc: Global,
     placed: &[PlacedRecord<'_, R::Header>],
 ) -> Result<Option<MerkleHash>>
@@ -49,7 +49,7 @@ pub fn find_malformed_record<R: SectionRecord, A: Allowed<R>>(
     Ok(None)
 }
 
-impl Allowed<MDBFileInfo> for OfUnion {
+impl RecordRule<MDBFileInfo> for OfUnion {
     ghost allowed = { IsPlainFile };
 
     fn is_allowed(
@@ -67,7 +67,7 @@ fn is_plain(header: &FileDataSequenceHeader) -> bool
     header.file_flags == header.known_flags() && header._unused == 0
 }
 
-impl Allowed<MDBXorbInfo> for OfUnion {
+impl RecordRule<MDBXorbInfo> for OfUnion {
     ghost allowed = { HasFewBytes };
 
     fn is_allowed(
@@ -92,11 +92,11 @@ fn has_few_bytes(xorb: &MDBXorbInfo) -> bool
     requires { HasItsChunks xorb.now }
     ensures { IsTrue result ↔ HasFewBytes xorb.now }
 {
-    bytes_of(xorb) <= u64::from(u32::MAX)
+    size_of_chunks(xorb) <= u64::from(u32::MAX)
 }
 
 // The bytes of a xorb's chunks.
-fn bytes_of(xorb: &MDBXorbInfo) -> u64
+fn size_of_chunks(xorb: &MDBXorbInfo) -> u64
     requires { HasItsChunks xorb.now }
     ensures { result ≡ size_of_chunks xorb.now }
 {

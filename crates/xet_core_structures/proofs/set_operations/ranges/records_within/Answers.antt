@@ -1,7 +1,7 @@
 use Rattle.std.proofs.Common.{◌≤◌, length, rules, sym, ap, ◌∙◌, subst}
 use Rattle.std.specs.List.{filter}
 use Rattle.std.proofs.lemmas.List.{take_all}
-use Rattle.xet_core_structures.specs.Records.Ranges.{is_within, those_records}
+use Rattle.xet_core_structures.specs.Records.Ranges.{is_within, records_passing}
 use Rattle.xet_core_structures.specs.Steps.Placed.{Places, PlacesAll, hash_at}
 use Rattle.xet_core_structures.proofs.Records.Within.{zipped_those}
 use Rattle.xet_core_structures.proofs.Trees.PlacedUnions.{key_placed}
@@ -13,5 +13,5 @@ returns g c = λ rs places.
     let test = is_within c.args.range in
     let past : length c.args.placed.now ≤ c.loop-record.record-index = search rules in
     let all = take_all c.loop-record.record-index c.args.placed.now past in
-    subst (λ ps. PlacesAll K ps (those_records K test rs)) (sym (c.loop-record.invariant ∙ ap (filter (λ p. test (hash_at K p))) all))
+    subst (λ ps. PlacesAll K ps (records_passing K test rs)) (sym (c.loop-record.invariant ∙ ap (filter (λ p. test (hash_at K p))) all))
     (zipped_those K test (Places K) (hash_at K) (λ p r is. sym (key_placed K c.laws.ensures p r is)) c.args.placed.now rs places)

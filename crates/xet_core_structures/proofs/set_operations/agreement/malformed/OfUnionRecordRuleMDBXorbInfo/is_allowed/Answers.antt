@@ -7,7 +7,7 @@ use Rattle.xet_core_structures.specs.Steps.Agreement.{HasFewBytes}
 use Rattle.xet_core_structures.proofs.Agreement.Malformed.{chunks_read}
 use Rattle.xet_core_structures.proofs.TwoShards.InMemory.{in_memory}
 use Rattle.xet_core_structures.proofs.Trees.PlacedWriting.{placed_read}
-use Rattle.xet_core_structures.proofs.set_operations.agreement.malformed.OfUnionAllowedMDBXorbInfo.is_allowed.Goals as goal
+use Rattle.xet_core_structures.proofs.set_operations.agreement.malformed.OfUnionRecordRuleMDBXorbInfo.is_allowed.Goals as goal
 
 pub has_few_bytes-requires : goal.has_few_bytes-requires
 has_few_bytes-requires c = chunks_read c.args.placed.now.header _ c.in-Ok.xorb c.in-Ok.ensures
