@@ -262,8 +262,8 @@ pub fn lookups_on_trees()
 /// shard in either version (`written`), its layout with any options whose version has its files
 /// (`any_options`), and its exports under the key, in either version, with any tables and
 /// timestamps (`exports`); and what a tree writes is such again (`again`). So two trees with a
-/// union, each over its own inputs, write the same bytes if the leaves of each hold every shard
-/// that those of the other hold, in whatever order and however often, and each two agree (`same`).
+/// union, each over its own inputs, write the same bytes if their leaves hold the same shards, in
+/// whatever order and however often, under one key, and these agree pairwise (`same`).
 pub fn trees_of_held_shards()
     ensures written { (s : Shard) → (bytes : List ℕ) → IsBytesOf s bytes
         → HoldsShard no_key s bytes }
@@ -353,7 +353,7 @@ pub fn unions_with_differences()
         → UnitesBytes a_1 b_1 x → UnitesBytes a_2 d_1 y → x ≡ y }
 {}
 
-/// The keyed hash of a hash is that of its 32 bytes.
+/// The hash of a hash under a key is the keyed BLAKE3 hash of its 32 bytes.
 pub fn hmac_hashes_the_bytes()
     ensures { (key hash : DataHash) → hmac key hash ≡ keyed_hash key (hash_bytes hash) }
 {}

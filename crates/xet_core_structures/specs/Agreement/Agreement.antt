@@ -48,11 +48,11 @@ abbrev pub HasMalformed : Shard → RecordHash → Type 0
 HasMalformed s (File q) = (r : MDBFileInfo) × (get s.files q ≡ Some r) × (¬ IsWellFormed r)
 HasMalformed s (Xorb q) = (r : MDBXorbInfo) × (get s.xorbs q ≡ Some r) × (¬ IsXorb r)
 
--- each input holds a shard, which is well-formed
+-- each input holds a well-formed shard
 abbrev pub HoldShards : List (List ℕ) → Type 0
 HoldShards inputs = (i : ℕ) → i < length inputs → (s : Shard) × HoldsAt inputs i s × IsShard s
 
--- the shard that an input holds has a record that no shard may have
+-- the shard that the input with this number holds has, under this hash, a record that no shard may have
 abbrev pub HoldMalformed : List (List ℕ) → MalformedRecord → Type 0
 HoldMalformed inputs m = (s : Shard) × HoldsAt inputs m.input s × HasMalformed s m.record_hash
 
@@ -126,7 +126,7 @@ HaveKey inputs plan key =
     → HasKey bytes key
 
 -- what a merge of inputs that have to agree gives: the bytes that the tree writes, if the inputs hold
--- well-formed shards and these agree
+-- well-formed shards and these agree; else two that do not agree, or a record that no shard may have
 abbrev pub IsMerged : List (List ℕ) → MergePlan → Merged → Type 0
 IsMerged inputs plan (Bytes bytes) =
     HoldShards inputs × InputsAgree inputs × TreeWrites inputs plan bytes.items

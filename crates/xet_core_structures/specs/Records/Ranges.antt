@@ -1,4 +1,4 @@
--- Shards with the records of others whose hashes pass a test, as that of being within a range.
+-- The records of a shard whose hashes pass a test, such as being in a range.
 use Rattle.std.specs.Prelude.{◌≡◌, ⊤, Bool, true, not, ◌&&◌, List, [], ◌∷◌, Option, None, Some, if◌then◌else◌}
 use Rattle.std.specs.FinMap.{FinMap, get}
 use Rattle.std.specs.List.{filter}
@@ -10,7 +10,7 @@ use Rattle.xet_shards.specs.Content.Shard.{Shard}
 use Rattle.xet_core_structures.specs.declared.set_operations.ranges.HashRange.{HashRange}
 use Rattle.xet_core_structures.specs.Records.RecordPairs.{key_of_record}
 
--- a map has the values of another under the hashes that pass a test
+-- a map is the restriction of another to the hashes that pass a test
 abbrev pub IsRestriction : {X : Type 0} → (DataHash → Bool) → FinMap hash_cmp X → FinMap hash_cmp X → Type 0
 IsRestriction passes whole part = (q : DataHash) → get part q ≡ (if passes q then get whole q else None)
 
@@ -42,12 +42,13 @@ abbrev pub is_up_to : Option DataHash → DataHash → Bool
 is_up_to None q = true
 is_up_to (Some k) q = not (is_lt (hash_cmp k q))
 
--- the ranges between hashes that follow one another, from a bound to a bound
+-- the ranges into which a range, given by its two bounds, is cut at these hashes
 abbrev pub ranges_between : Option DataHash → List DataHash → Option DataHash → List HashRange
 ranges_between from [] to = record { from = from; to = to } ∷ []
 ranges_between from (k ∷ ks) to = record { from = from; to = Some k } ∷ ranges_between (Some k) ks to
 
--- none of the hashes is below the one before it, and all are within the bounds
+-- a range, given by its two bounds, can be cut at these hashes: none is below the one before it, and
+-- all are within the bounds
 abbrev pub AreCuts : Option DataHash → List DataHash → Option DataHash → Type 0
 AreCuts from [] to = ⊤
 AreCuts from (k ∷ ks) to = (is_from from k ≡ true) × (is_up_to to k ≡ true) × AreCuts (Some k) ks to

@@ -49,7 +49,7 @@ module _ {H R : Type 0} (K : RecordKind H R) where
     pub rows : K.row_count r ≤ rows_in a + rows_in b
     pub hash : (x : R) → ((a ≡ Some x) ⊎ (b ≡ Some x)) → key_of_record r ≡ key_of_record x
 
-  -- no record of a list has a smaller hash
+  -- no record of a list has a smaller hash than this one
   abbrev pub ComeFrom : DataHash → List R → Type 0
   ComeFrom k rs =
       AllByRecursion (λ r. (hash_cmp k (key_of_record r) ≡ Less) ⊎ (key_of_record r ≡ k)) rs

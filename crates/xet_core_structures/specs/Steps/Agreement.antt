@@ -42,15 +42,16 @@ pub record ArePlaced (inputs : List (List ℕ)) (placed : PlacedInputs) : Type 0
 abbrev pub IsPlainHeader : FileDataSequenceHeader → Type 0
 IsPlainHeader h = (h.file_flags ≡ flags_of (announces h.file_flags)) × (h._unused ≡ 0)
 
--- of a file that is read, this is all that a shard wants beside
+-- what a shard asks of a file beside what reading it ensures
 abbrev pub IsPlainFile : MDBFileInfo → Type 0
 IsPlainFile r = IsPlainHeader r.metadata
 
--- of a xorb that is read, this is all that a shard wants beside
+-- what a shard asks of a xorb beside what reading it ensures: the sizes of its chunks add up to a
+-- number that fits `u32`
 abbrev pub HasFewBytes : MDBXorbInfo → Type 0
 HasFewBytes r = size_of_chunks r ≤ 4294967295
 
--- all records in place are allowed, or this is the hash of one that is not
+-- all records at these places are allowed, or this is the hash of one that is not
 abbrev pub FindsMalformed : {H R : Type 0} → RecordKind H R → (R → Type 0) → List (PlacedRecord H)
     → Option DataHash → Type 0
 FindsMalformed {R = R} K allowed placed found =
@@ -58,7 +59,7 @@ FindsMalformed {R = R} K allowed placed found =
     → MatchOption found (All allowed rs)
     (λ q. (r : R) × Contains rs r × (key_of_record K r ≡ q) × (¬ allowed r))
 
--- bytes hold a well-formed shard, or one with a record with this hash that no shard may have
+-- bytes hold a well-formed shard, or one that has, under this hash, a record that no shard may have
 abbrev pub FindsMalformedIn : List ℕ → Option RecordHash → Type 0
 FindsMalformedIn bytes found =
     MatchOption found ((s : Shard) × HasShard s bytes × IsShard s)

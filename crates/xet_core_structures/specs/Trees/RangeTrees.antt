@@ -1,4 +1,4 @@
--- Trees of unions of which only the records in a range of hashes are written.
+-- What trees of unions write of the records in a range of hashes.
 use Rattle.std.specs.Prelude.{◌≡◌, ◌⊎◌, ℕ, ◌≤◌, List, map, length, All, Contains}
 use Rattle.std.specs.List.{AllZip}
 use Rattle.xet_base.specs.declared.error.CoreError.{CoreError}
@@ -19,7 +19,7 @@ use Rattle.xet_core_structures.specs.TwoShards.ByteResults.{keyed_layout, key_of
 use Rattle.xet_core_structures.specs.Trees.MergeTrees.{leaves, InputIs}
 use Rattle.xet_core_structures.specs.Trees.Parts.{SectionsRefusal}
 
--- bytes hold a shard, and others are the layout, under their key, of its records in a range
+-- bytes hold a shard, and other bytes are the layout, under its key, of its records in a range
 pub record IsRangeOf (range : HashRange) (x out : List ℕ) : Type 0 where
   -- the shard that the bytes hold
   pub whole : Shard
@@ -30,7 +30,7 @@ pub record IsRangeOf (range : HashRange) (x out : List ℕ) : Type 0 where
   pub bytes_are : out ≡ keyed_layout part (key_of has.info)
   pub holds : HasShard part out
 
--- why the records of bytes are not read: the ends are not, or they are and the sections are not
+-- why the records of bytes are not read: header and footer are not read, or a section is not
 abbrev pub ReadRefusal : List ℕ → CoreError → Type 0
 ReadRefusal x e = LoadRefusal x e ⊎ ((info : MDBShardInfo) × HasHeaderAndFooter x info × SectionsRefusal x info e)
 
@@ -54,7 +54,7 @@ RangeRefusal range inputs (Both' p left q right) e =
     ⊎ ((y : List ℕ) × RangeWrites range inputs right y × BytesRefusal x y e)))
 
 -- the inputs at the leaves of a tree hold these well-formed shards under one key, from left to
--- right; each two of the shards agree, this is their join, and this has its records in a range
+-- right; each two of the shards agree, `join` is their join, and `part` has its records in a range
 pub record IsRangeMerge (range : HashRange) (key : DataHash) (inputs : List (List ℕ)) (plan : MergePlan)
     (shards : List Shard) (join part : Shard) : Type 0 where
   pub inputs_are : AllZip (λ i s. InputIs inputs (HoldsShard key s) i) (leaves plan) shards
@@ -62,13 +62,13 @@ pub record IsRangeMerge (range : HashRange) (key : DataHash) (inputs : List (Lis
   pub is_join : IsJoinOf (Contains shards) join
   pub is_part : IsPartOf (is_within range) join part
 
--- the bytes of a shard under a key, which hold it
+-- the bytes are the layout of a shard under a key, and hold it
 pub record IsHeldLayout (key : DataHash) (s : Shard) (bytes : List ℕ) : Type 0 where
   pub bytes_are : bytes ≡ keyed_layout s key
   pub holds : HoldsShard key s bytes
 
--- the byte strings are parts under a key, one after another, of which the layout of this shard is
--- written; if it is a shard, they are in a row
+-- the byte strings are those of parts under a key, and the layout of the records of all parts is that
+-- of this shard; if the shard is well-formed, the parts are in a row
 pub record AreRangesOf (key : DataHash) (whole : Shard) (bytes : List (List ℕ)) : Type 0 where
   pub parts : List ShardPart
   pub fit : All (IsPartUnder key) parts

@@ -14,7 +14,8 @@ ghost use Rattle.xet_core_structures.specs.Trees.MergeTrees.{leaves, HasUnion, T
 /// Of inputs, each of which holds a shard, either each two agree or two do not. If they agree, the
 /// bytes that a tree with a union writes are the layout, under the key that all its leaves have, of
 /// the join of the shards that its leaves hold, whatever tables, timestamps and sums the inputs
-/// have. What inputs hold is well-formed if `find_malformed` finds nothing in them (`formed`).
+/// have (`joined`). If `find_malformed` finds nothing, the shards that inputs hold are well-formed
+/// (`formed`).
 pub fn merges_of_agreeing_inputs()
     ensures not_both { (inputs : List (List ℕ)) → (d : Disagreement) → InputsDisagree inputs d
         → ¬ InputsAgree inputs }

@@ -1,4 +1,4 @@
-//! Laws of unions of parts of shards that are apart.
+//! Laws of merges that are made range by range, and of shards that are cut into ranges of hashes.
 
 ghost use Rattle.std.specs.Prelude.{◌≡◌, ℕ, ◌+◌, ◌*◌, ◌≤◌, Bool, List, ◌++◌, length, flat_map, Contains, Option, None};
 ghost use Rattle.std.specs.FinMap.{values};
@@ -24,8 +24,8 @@ ghost use Rattle.xet_shards.specs.Content.Joins.{IsJoinOf};
 ghost use Rattle.xet_shards.specs.Content.SetOperations.{ShardsAgree};
 ghost use Rattle.xet_shards.specs.Content.Shard.{Shard};
 
-/// The union of two lists, each cut at one hash, is the union of what comes before it and then that
-/// of the rest, whether the lists agree or not.
+/// Cut two lists of records at one hash: the union of the records before it, followed by the union
+/// of the others, is the union of both lists, whether they agree or not.
 pub fn unions_of_ranges_follow_one_another()
     ensures files { (k : DataHash) → (xs ys zs us vs ws : List MDBFileInfo)
         → AreApart file_records xs ys zs us vs ws k
@@ -37,8 +37,8 @@ pub fn unions_of_ranges_follow_one_another()
         → Combines xorb_records IsEitherXorb (xs ++ us) (ys ++ vs) (zs ++ ws) }
 {}
 
-/// Of shards that agree, the records whose hashes pass a test, as that of being within a range,
-/// agree too, and their join has those of the join.
+/// Take of each shard the records whose hashes pass a test, such as being in a range. If the shards
+/// agree, so do these parts (`agree`), and the join of the parts is that part of the join (`join`).
 pub fn joins_pass_to_parts()
     ensures join { (passes : DataHash → Bool) → (shards parts : List Shard) → (join part : Shard)
         → AllZip (IsPartOf passes) shards parts → IsPartOf passes join part
@@ -47,10 +47,10 @@ pub fn joins_pass_to_parts()
         → IsPartOf passes b d → ShardsAgree a b → ShardsAgree c d }
 {}
 
-/// A shard has one part in each range. Its parts in ranges of hashes that follow one another have
-/// together its records in the range from the first bound to the last, each once, and one part
-/// after another. With no bound these are all of its records, so that the bytes of a shard are the
-/// layout of the records of its parts, one part after another.
+/// A shard has exactly one part in each range (`exist`, `one`). Its parts in ranges that follow one
+/// another are its records in the range from the first bound to the last, each once and in order
+/// (`range`). With no bounds these are all of its records (`all`). So the layout of a shard is the
+/// layout of the records of its parts, one part after another (`bytes`).
 pub fn ranges_have_all_records()
     ensures exist { (range : HashRange) → (all : Shard)
         → (part : Shard) × IsPartOf (is_within range) all part }
@@ -70,9 +70,10 @@ pub fn ranges_have_all_records()
         (flat_map (λ s. values s.xorbs) parts) (keyed_options key) }
 {}
 
-/// What `merge_range` writes of the ranges between hashes that ascend, none of which is left out, are
-/// parts in a row: so `shards_in_a_row` writes of them the layout of the join, as the one merge does,
-/// or fails for memory. Without a key that is what `serialize_from` writes of it without expiry.
+/// `merge_range` makes parts in a row of ranges that follow one another and leave no hash out. So
+/// `shards_in_a_row` writes the layout of the join from them, as the one merge does, or fails for
+/// lack of memory (`parts`). Without a key, `serialize_from` writes this layout of the join without
+/// expiry (`no_key`).
 pub fn ranges_concatenate()
     ensures parts { (key : DataHash) → (cuts : List DataHash) → (join : Shard) → (parts : List Shard)
         → (bytes : List (List ℕ)) → AreCuts None cuts None
@@ -81,9 +82,9 @@ pub fn ranges_concatenate()
     ensures no_key { (join : Shard) → keyed_layout join no_key ≡ layout join None }
 {}
 
-/// A part of a shard in a range has at most its rows. So what a tree with a union writes of a range
-/// has at most 344 bytes and 8/3 of the inputs' at its leaves, as what it writes of all. A range of
-/// one input, united with itself, counts it once.
+/// The part of a shard in a range has at most the rows of the shard (`rows`). So a tree with a
+/// union writes of a range at most 344 bytes and 8/3 of the inputs' at its leaves (`bytes`). If one
+/// input is united with itself, it is counted once (`repetition`).
 pub fn ranges_are_bounded()
     ensures rows { (range : HashRange) → (all part : Shard) → IsPartOf (is_within range) all part
         → rows_of_shard part ≤ rows_of_shard all }

@@ -56,11 +56,12 @@ pub struct Disagreement {
     pub second: usize,
 }
 
-/// A record that no shard may have: a file whose header has flags beside those of its parts, or a
-/// reserved word that is not zero, or a xorb whose chunks have more than 4294967295 bytes together.
+/// A record that no shard may have: a file whose header has flags beside those of its optional
+/// parts, or a reserved word that is not zero, or a xorb whose chunks have more than 4294967295
+/// bytes together.
 #[derive(Clone, Copy)]
 pub struct MalformedRecord {
-    /// The hash, and whose it is.
+    /// The hash of the record, and whether it is of a file or of a xorb.
     pub record_hash: RecordHash,
     /// The number of the input that holds it.
     pub input: usize,
@@ -125,9 +126,11 @@ pub fn find_disagreement(alloc: Global, inputs: &[&[u8]]) -> Result<Option<Disag
     Ok(Some(found[0]))
 }
 
-/// A record that no shard may have, of the first input that holds one, or `None` if each input
-/// holds a well-formed shard. Of such shards, if they agree, each tree of unions gives the same
-/// bytes.
+/// A record that no shard may have, of the first input that holds one: a file, if it holds such a
+/// file. `None` if each input holds a well-formed shard. If such shards agree pairwise, under one
+/// key, each tree with a union over all of them gives the same bytes.
+///
+/// The errors are those of [`find_disagreements`].
 pub fn find_malformed(alloc: Global, inputs: &[&[u8]]) -> Result<Option<MalformedRecord>>
     ensures { MatchResult result
         (λ found. MatchOption found (HoldShards (map (λ x. x.now) inputs.now))
@@ -150,7 +153,7 @@ pub fn find_malformed(alloc: Global, inputs: &[&[u8]]) -> Result<Option<Malforme
     Ok(None)
 }
 
-// The hash of a record of a shard that no shard may have.
+// The hash of a record of this shard that no shard may have, of a file rather than of a xorb.
 fn malformed_in(alloc: Global, shard: &PlacedShard<'_>) -> Result<Option<RecordHash>>
     ensures { MatchResult result
         (λ found. (bytes : List ℕ) → IsPlacedOf shard.now bytes → FindsMalformedIn bytes found)
@@ -209,12 +212,14 @@ pub enum Merged {
     Bytes(Vec<u8>),
     /// Two inputs that do not agree.
     Disagreement(Disagreement),
-    /// A record that no shard may have.
+    /// A record that no shard may have, of the first input that holds one.
     Malformed(MalformedRecord),
 }
 
-/// Unites the inputs at the leaves of a tree, if each input holds a well-formed shard and each two
-/// of these agree.
+/// Unites the inputs at the leaves of a tree, if each input holds a well-formed shard and these
+/// agree pairwise. A malformed record is looked for first.
+///
+/// The errors are those of [`find_disagreements`] and [`shard_union_tree`].
 pub fn merge_agreeing(alloc: Global, plan: &MergePlan, inputs: &[&[u8]]) -> Result<Merged>
     ensures { MatchResult result
         (IsMerged (map (λ x. x.now) inputs.now) plan.now)

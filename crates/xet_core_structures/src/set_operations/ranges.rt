@@ -1,6 +1,6 @@
-//! The records of a tree of unions whose hashes are in a range. So a merge may be made range by
-//! range, each in the memory that its own records need, by as many threads or machines as there are
-//! ranges.
+//! Merges of the records whose hashes are in a range. So a merge may be made range by range, by as
+//! many threads or machines as there are ranges. Each needs memory for its own records, and for the
+//! places of all records of one input at a time.
 
 ghost use Rattle.std.specs.Prelude.{◌≡◌, List, ℕ, map, MatchResult};
 ghost use Rattle.xet_base.specs.declared.error.CoreError.TheVariants.{OutOfMemory};
@@ -29,11 +29,12 @@ use xet_records::record_reader::SectionRecord;
 use xet_records::xorb_structs::MDBXorbInfo;
 use xet_shards::shard_format::MDBShardInfo;
 
-/// A range of hashes: those that are not below the first, if there is one, and are below the
-/// second, if there is one.
+/// The hashes from `from` on and below `to`. There is none if `to` is not above `from`.
 #[derive(Clone, Copy, Debug, PartialEq, Eq)]
 pub struct HashRange {
+    /// The least hash of the range, or `None` if it has no lower bound.
     pub from: Option<MerkleHash>,
+    /// The hash that ends the range, or `None` if it has no upper bound.
     pub to: Option<MerkleHash>,
 }
 
@@ -66,19 +67,20 @@ fn is_before(to: &Option<MerkleHash>, hash: &MerkleHash) -> bool
     }
 }
 
-/// Unites the records of the inputs at the leaves of a tree whose hashes are in a range, files and
-/// xorbs each by their own hash, as [`shard_union_tree`](super::shard_union_tree) unites them all.
-/// Each input is read whole, and what is held of it are the places of its records in the range. A
-/// tree of one leaf writes the records of its input anew.
+/// Unites the records in a range of the inputs at the leaves of a tree, as
+/// [`shard_union_tree`](super::shard_union_tree) unites all records. Files and xorbs are each taken
+/// by their own hash. The result has version 3, all tables, creation 0, no expiry and the key that
+/// the inputs at the leaves have; a tree of one leaf is written so too, and not copied.
 ///
-/// So inputs that agree, all under one key, give the records of their join that are in the range,
-/// and of ranges that follow one another each record of the join in one. What is given holds a
-/// shard under this key, and may be merged again.
+/// If the inputs hold well-formed shards under one key that agree pairwise, the result holds, under
+/// this key, the records of their join in the range, and may be merged again. So ranges that follow
+/// one another without a gap give each record of the join once.
 ///
-/// The error is that of the first leaf or union that fails, left sides first: `InvalidArguments` if
-/// a leaf has no input; `ShardVersion` or `UnexpectedEof` if the header or the footer of an input is
-/// unsupported or truncated, or an error of `shard_set_union`, but that of records outside of the
-/// range no union is asked for. `OutOfMemory` if an allocation fails.
+/// The error is that of the first leaf or union that fails, left sides first. `InvalidArguments` if
+/// a leaf has no input, or the keys differ. `ShardVersion` or `UnexpectedEof` if the header or the
+/// footer of an input is unsupported or truncated. Errors of a section, also outside of the range,
+/// and of a union of the records in it, are those of [`shard_set_union`](super::shard_set_union).
+/// `OutOfMemory` if an allocation fails.
 pub fn merge_range(
     alloc: Global,
     plan: &MergePlan,
@@ -114,7 +116,7 @@ pub fn merge_range_into(
     merge_into(alloc, plan, inputs, range, out)
 }
 
-// The same, without the clause on inputs that agree.
+// `merge_range` without its clause on inputs that agree.
 fn merge<'a>(
     alloc: Global,
     plan: &MergePlan,
@@ -130,7 +132,7 @@ fn merge<'a>(
     part_bytes(alloc, part)
 }
 
-// The same to a slice.
+// `merge_range_into` without its clause on inputs that agree.
 fn merge_into<'a>(
     alloc: Global,
     plan: &MergePlan,
@@ -146,7 +148,7 @@ fn merge_into<'a>(
     fill_with_part(alloc, part, out)
 }
 
-// What a tree gives of a range. Records that are in no input are placed in the arena.
+// The records in a range that a tree gives. Records that are in no input are placed in the arena.
 fn place_range<'a>(
     alloc: Global,
     arena: &'a Bump,
@@ -174,7 +176,7 @@ fn place_range<'a>(
     }
 }
 
-// The records of an input in a range, as a shard of its own.
+// The records of an input in a range, as a part of a tree.
 fn place_within<'a>(alloc: Global, bytes: &'a [u8], range: HashRange) -> Result<Part<'a>>
     ensures { MatchResult result
         (λ part. (out : List ℕ) × IsRangeOf range bytes.now out × IsPart out part)

@@ -98,7 +98,7 @@ impl Agreement<MDBFileInfo> for OfUnion {
     } };
 }
 
-// Whether the first has a part if the second has it.
+// Whether the first record has an optional part, or the second has none.
 fn has_if(first_has: bool, second_has: bool) -> bool
     ensures { IsTrue result → IsTrue second_has → IsTrue first_has }
 {

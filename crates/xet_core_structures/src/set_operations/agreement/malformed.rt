@@ -1,7 +1,7 @@
-//! Records that no shard may have, though reading passes over them: a file whose flags say more
-//! than its parts, or whose header's reserved word is not zero, and a xorb whose chunks have more
-//! than 4294967295 bytes together. A union keeps flags and reserved words of one of its inputs, so
-//! of such files its bytes depend on the order.
+//! Records that no shard may have, though they can be read: a file whose header has flags beside
+//! those of its optional parts, or a reserved word that is not zero, and a xorb whose chunks have
+//! more than 4294967295 bytes together. A union takes flags and reserved words from one of its
+//! inputs, so with such files the bytes of a merge depend on the order of its inputs.
 
 ghost use Rattle.std.specs.Prelude.{◌≡◌, ◌↔◌, IsTrue, MatchResult};
 ghost use Rattle.xet_base.specs.declared.error.CoreError.TheVariants.{OutOfMemory};
@@ -20,7 +20,7 @@ use xet_records::file_structs::{FileDataSequenceHeader, MDBFileInfo};
 use xet_records::record_reader::SectionRecord;
 use xet_records::xorb_structs::{MDBXorbInfo, XorbChunkSequenceHeader};
 
-/// Which records a shard may have, of those that are read.
+/// The rule by which a shard may have a record that can be read.
 pub trait RecordRule<R: SectionRecord> {
     ghost allowed: { R → Type 0 };
 
@@ -31,7 +31,8 @@ pub trait RecordRule<R: SectionRecord> {
             (λ e. e ≡ OutOfMemory) };
 }
 
-/// The hash of the first of these records that no shard may have.
+/// The hash of the first of these records that no shard may have. `OutOfMemory` if an allocation
+/// fails.
 pub fn find_malformed_record<R: SectionRecord, A: RecordRule<R>>(
     alloc: Global,
     placed: &[PlacedRecord<'_, R::Header>],
@@ -60,7 +61,7 @@ impl RecordRule<MDBFileInfo> for OfUnion {
     }
 }
 
-// Whether the flags announce parts and nothing else, and the reserved word is zero.
+// Whether the flags announce optional parts and nothing else, and the reserved word is zero.
 fn is_plain(header: &FileDataSequenceHeader) -> bool
     ensures { IsTrue result ↔ IsPlainHeader header.now }
 {
@@ -81,13 +82,13 @@ impl RecordRule<MDBXorbInfo> for OfUnion {
             placed.header,
         ) {
             Ok(xorb) => Ok(has_few_bytes(&xorb)),
-            // The rows are there to be read.
+            // The rows were read before, so only memory can be lacking.
             Err(_) => Err(CoreError::OutOfMemory),
         }
     }
 }
 
-// Whether the bytes of a xorb's chunks fit `u32`.
+// Whether the sizes of a xorb's chunks add up to a number that fits `u32`.
 fn has_few_bytes(xorb: &MDBXorbInfo) -> bool
     requires { HasItsChunks xorb.now }
     ensures { IsTrue result ↔ HasFewBytes xorb.now }
@@ -95,7 +96,7 @@ fn has_few_bytes(xorb: &MDBXorbInfo) -> bool
     size_of_chunks(xorb) <= u64::from(u32::MAX)
 }
 
-// The bytes of a xorb's chunks.
+// The sizes of a xorb's chunks, added up, in bytes.
 fn size_of_chunks(xorb: &MDBXorbInfo) -> u64
     requires { HasItsChunks xorb.now }
     ensures { result ≡ size_of_chunks xorb.now }
