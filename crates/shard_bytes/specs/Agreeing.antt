@@ -11,8 +11,8 @@ use Rattle.shard_bytes.specs.declared.agree.AgreeingMerge.{AgreeingMerge}
 use Rattle.shard_bytes.specs.declared.agree.AgreeingMerge.TheVariants.{Bytes, Disagreements, Malformed}
 use Rattle.shard_bytes.specs.Merging.{MergesBytes}
 
--- what the merge gives: its bytes, if each input holds a well-formed shard and each two agree; else
--- all that disagrees, or a record that no shard may have
+-- what the merge gives: its bytes, if each input holds a well-formed shard and these agree
+-- pairwise; else all records that disagree, or one that no shard may have
 abbrev pub MergesAgreeing : List (List ℕ) → AgreeingMerge → Type 0
 MergesAgreeing inputs (Bytes bytes) =
     HoldShards inputs × InputsAgree inputs × MergesBytes inputs bytes.items
@@ -20,7 +20,7 @@ MergesAgreeing inputs (Disagreements found) =
     (0 < length found.items) × HasAllDisagreements inputs found.items
 MergesAgreeing inputs (Malformed m) = HoldMalformed inputs m
 
--- the byte strings hold well-formed shards under one key, each two of which agree, and these are the
+-- the byte strings hold well-formed shards under one key that agree pairwise, and `out` are the
 -- bytes of their join under the key, with all tables, creation 0 and no expiry
 pub record IsMergeOfAgreeing (inputs : List (List ℕ)) (out : List ℕ) : Type 0 where
   pub key : DataHash
@@ -31,13 +31,13 @@ pub record IsMergeOfAgreeing (inputs : List (List ℕ)) (out : List ℕ) : Type 
   pub is_join : IsJoinOf (Contains shards) join
   pub bytes_are : out ≡ keyed_layout join key
 
--- shards that the byte strings hold are not all well-formed, or do not agree pairwise
+-- the shards that the byte strings hold are not all well-formed, or do not agree pairwise
 abbrev pub HoldNoneAgreeing : List (List ℕ) → Type 0
 HoldNoneAgreeing inputs =
     (shards : List Shard) → AllZip HasShard shards inputs → ¬ AgreePairwise (Contains shards)
 
--- the merge gives bytes of inputs that hold well-formed shards which agree pairwise, those of the
--- shards' join, and of other inputs none
+-- the merge gives the bytes of the shards' join, if the inputs hold well-formed shards that agree
+-- pairwise, and of other inputs no bytes
 abbrev pub GivesJoin : List (List ℕ) → AgreeingMerge → Type 0
 GivesJoin inputs (Bytes bytes) = IsMergeOfAgreeing inputs bytes.items
 GivesJoin inputs (Disagreements found) = HoldNoneAgreeing inputs

@@ -1,5 +1,6 @@
--- The bytes of a shard that are, byte for byte, what the library writes of the records in them; those
--- that are so but for the order of rows of the chunk table; and what is wrong with bytes that are not.
+-- The bytes of a shard that are, byte for byte, what the library writes of the records in them;
+-- those that are so but for the order of rows of the chunk table; and what is wrong with bytes that
+-- are not.
 use Rattle.std.specs.Prelude.{◌≡◌, ◌≢◌, ⊤, ℕ, ◌+◌, ◌-◌, ◌^◌, ◌<◌, ◌≤◌, List, ◌++◌, length, map, flat_map, drop, All, Some, slice_get, slice_index_or}
 use Rattle.std.specs.List.{slice_range}
 use Rattle.std.specs.List.Sorted.{IsPermutation}
@@ -55,19 +56,19 @@ pub record IsWhole (bytes : List ℕ) : Type 0 where
   pub content : IsContent files xorbs options
   pub bytes_are : bytes ≡ layout_of files xorbs options
 
--- the first word of no row is less than that of the row before it
+-- no row has a smaller first word than the row before it
 abbrev pub WordsAscend : List ChunkTableRow → Type 0
 WordsAscend rows =
     (k : ℕ) (d : ChunkTableRow) → k + 1 < length rows
     → (slice_index_or rows k d).word ≤ (slice_index_or rows (k + 1) d).word
 
--- rows in another order, or in the same, in which their first words ascend: it can differ from
--- another such order only among rows with one first word
+-- the rows of a list in any order in which their first words ascend: two such orders differ only
+-- among rows with the same first word
 pub record IsReordering (rows others : List ChunkTableRow) : Type 0 where
   pub moved : IsPermutation rows others
   pub ascends : WordsAscend others
 
--- the layout of files and xorbs with layout options, but with these rows for the chunk table's
+-- the layout of files and xorbs with layout options, but with these rows in the chunk table
 unfoldable pub layout_with : List MDBFileInfo → List MDBXorbInfo → LayoutOptions → List ChunkTableRow
     → List ℕ
 layout_with files xorbs options rows =
@@ -78,8 +79,8 @@ layout_with files xorbs options rows =
     ++ if_included options.chunk_table (flat_map chunk_table_row_bytes rows))
     ++ shard_footer_bytes (footer_value files xorbs options)
 
--- the bytes are the layout, with layout options, of files and xorbs, but for the order of rows of the
--- chunk table with one first word
+-- the bytes are the layout, with layout options, of files and xorbs, but for the order of rows of
+-- the chunk table with the same first word
 pub record IsIntact (bytes : List ℕ) : Type 0 where
   pub files : List MDBFileInfo
   pub xorbs : List MDBXorbInfo
@@ -103,12 +104,12 @@ pub record IsOutOfOrder (n : ℕ) (hashes : List DataHash) : Type 0 where
   pub first : (k : ℕ) (d : DataHash) → k + 1 < n
       → hash_cmp (slice_index_or hashes k d) (slice_index_or hashes (k + 1) d) ≡ Less
 
--- the record at an index is none of those that a shard may have
+-- the record at an index is one that no shard may have
 abbrev pub IsMalformedAt : {R : Type 0} → (R → Type 0) → List R → ℕ → Type 0
 IsMalformedAt {R = R} IsFormed rs n = (r : R) × (slice_get rs n ≡ Some r) × (¬ IsFormed r)
 
--- the record at an index of a section is one that no shard may have. What is asked of it as it is
--- stored, with the reserved words of all its rows
+-- the record at an index of a section is one that no shard may have; it is judged as it is stored,
+-- with the reserved words of all its rows
 abbrev pub IsMalformedIn : Section → List MDBFileInfo → List MDBXorbInfo → ℕ → Type 0
 IsMalformedIn Files files xorbs n = IsMalformedAt IsWellFormed files n
 IsMalformedIn Xorbs files xorbs n = IsMalformedAt IsXorb xorbs n
@@ -150,8 +151,8 @@ pub record IsReorderedTable (written found : List ℕ) : Type 0 where
   pub widths : All (λ row. FitsTriple (triple_of row)) rows
   pub reordering : IsReordering rows others
 
--- a part of the bytes is that of the bytes that were written, but for the order of rows of the chunk
--- table with one first word
+-- a part of the bytes is that of the bytes that were written, but for the order of rows of the
+-- chunk table with the same first word
 abbrev pub IsAlikePart : Part → List ℕ → MDBShardInfo → List ℕ → MDBShardFileFooter → Type 0
 IsAlikePart ChunkTable bytes info written f =
     IsReorderedTable (slice_range written f.chunk_lookup_offset f.footer_offset)
@@ -212,12 +213,11 @@ IsFinding bytes (Size n) =
     (n ≡ length (layout_of files xorbs (options_of info))) × (length bytes ≢ n))
     bytes
 
--- a finding that is a note: nothing is lost
+-- a finding that is a note: the bytes have all that the library would write, in another order
 abbrev pub IsNote : Finding → Type 0
 IsNote Reordered = ⊤
 IsNote _ = ⊥
 
--- the bytes hold a well-formed shard: of such bytes of one key, if they agree, each tree of unions
--- gives the same bytes
+-- the bytes hold a well-formed shard, under some key
 abbrev pub HoldsSomeShard : List ℕ → Type 0
 HoldsSomeShard bytes = (key : DataHash) × (s : Shard) × HoldsShard key s bytes

@@ -10,8 +10,8 @@ use Rattle.xet_shards.specs.Read.TruncatedHashes.{ReadsHashes, HashesFail}
 use Rattle.xet_shards.specs.Write.Tables.{chunk_table}
 use Rattle.shard_bytes.specs.Outcomes.{HasOutcome}
 
--- the rows of the chunk table; without one, those that it would have for the xorbs of the section,
--- in their order
+-- the rows of the chunk table; if there is none, those of the chunks of the xorb section, in their
+-- order there
 abbrev pub HasChunkRows : List ℕ → List (ℕ × (ℕ × ℕ)) → Type 0
 HasChunkRows bytes found =
     HasOutcome bytes
@@ -23,7 +23,8 @@ HasChunkRows bytes found =
     → ReadsHashes before after info.metadata.xorb_info_offset info.metadata.file_lookup_offset
     found))
 
--- header and footer are not read, or the table is not, or without one the section is not
+-- why no rows are returned: header and footer are not read, or the table is not, or, if there is
+-- none, the section is not
 abbrev pub RefusesChunkRows : List ℕ → CoreError → Type 0
 RefusesChunkRows bytes e =
     LoadRefusal bytes e

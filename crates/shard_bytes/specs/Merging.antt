@@ -64,8 +64,8 @@ RefusesRange range inputs e =
     ((e ≡ InvalidArguments) × (inputs ≡ [])) ⊎ (e ≡ OutOfMemory)
     ⊎ ((plan : MergePlan) × IsMergePlan (length inputs) plan × RangeRefusal range inputs plan e)
 
--- the byte strings hold these shards, under one key; there is at least one, each two of the shards
--- agree, this is their join, and this has its records in a range
+-- the byte strings, at least one, hold these well-formed shards under one key; each two of the
+-- shards agree, `join` is their join, and `part` has its records in a range
 pub record IsRangeMergeOfList (range : HashRange) (key : DataHash) (inputs : List (List ℕ)) (shards : List Shard)
     (join part : Shard) : Type 0 where
   pub some : 0 < length inputs

@@ -21,25 +21,25 @@ use Rattle.shard_bytes.specs.Walking.{IsAtRow, NotAtRow}
 abbrev pub ends_of : List ℕ → List ℕ
 ends_of bytes = take 48 bytes ++ last_bytes bytes
 
--- so many bytes of a shard, from an offset on
+-- part of a shard: this many bytes from an offset on
 pub record IsCut (shard : List ℕ) (start count : ℕ) (part : List ℕ) : Type 0 where
   pub rest : List ℕ
   pub there : drop start shard ≡ part ++ rest
   pub size : length part ≡ count
 
--- the table whose rows are these bytes, each of a first word and so many bytes of a value
+-- the table whose rows are these bytes; each row has a first word, and a value of `width` bytes
 abbrev pub table_of : List ℕ → ℕ → Table
 table_of bytes width =
     record { bytes = bytes; start = 0; rows = length bytes / (8 + width); width = width }
 
--- the bytes are the whole rows of a table of starts, and the row numbers behind the word, fewer than
--- eight, were put in front
+-- the bytes are the whole rows of a table of starts, and the row numbers behind the word, fewer
+-- than eight, were put in front
 pub record FindsRowsIn (bytes : List ℕ) (word : ℕ) (old new : List ℕ) (count : ℕ) : Type 0 where
   pub whole : length bytes % 12 ≡ 0
   pub finds : IndexFinds (table_of bytes 4) word old new count
 
--- why no rows of a file table or a xorb table are returned: its rows of 12 bytes are not whole, or
--- eight of them have the word
+-- why no rows of a file table or a xorb table are returned: its size is no multiple of 12 bytes, or
+-- eight or more of its rows have the word
 abbrev pub RefusesRows : List ℕ → ℕ → CoreError → Type 0
 RefusesRows bytes word e =
     ((e ≡ InvalidArguments) × (length bytes % 12 ≢ 0))
@@ -50,27 +50,27 @@ abbrev pub CollidesAmong : {H R : Type 0} → RecordKind H R → List R → ℕ 
 CollidesAmong K records word e =
     (e ≡ TruncatedHashCollision word) × (8 ≤ length (with_first_word K word records))
 
--- the bytes are the whole rows of a chunk table, and the places of different rows with the word were
--- put in front: of all such rows, or of eight if they are more, where the table is sorted
+-- the bytes are the whole rows of a chunk table, and the places of different rows with the word
+-- were put in front: of all such rows, or of eight if they are more, where the table is sorted
 pub record FindsPlaces (bytes : List ℕ) (word : ℕ) (old new : List (ℕ × ℕ)) (count : ℕ)
     : Type 0 where
   pub whole : length bytes % 16 ≡ 0
   pub found : Finds (table_of bytes 8) word IsRowAndIndex old new count
   pub all : IsSorted (table_of bytes 8) → count ≡ min (hits (table_of bytes 8) word) 8
 
--- why no rows of a chunk table are returned: its rows of 16 bytes are not whole
+-- why no rows of a chunk table are returned: its size is no multiple of 16 bytes
 abbrev pub RefusesPlaces : List ℕ → CoreError → Type 0
 RefusesPlaces bytes e = (e ≡ InvalidArguments) × (length bytes % 16 ≢ 0)
 
--- the rows at which those of the records start whose hashes have this first word, fewer than eight
+-- the rows at which the records with this first word of a hash start, fewer than eight
 pub record AreStartsWith {H R : Type 0} (K : RecordKind H R) (records : List R) (word : ℕ) (rows : List ℕ)
     : Type 0 where
   pub few : length rows < 8
   pub number : length rows ≡ length (with_first_word K word records)
   pub are_starts : AreStarts K records word rows
 
--- the places of different chunks of xorbs whose hashes have this first word: of all, or of eight if
--- they are more
+-- the places of different chunks of xorbs with this first word of a hash: of all such chunks, or of
+-- eight if there are more
 pub record ArePlacesAmong (xorbs : List MDBXorbInfo) (word : ℕ) (places : List (ℕ × ℕ)) : Type 0 where
   pub found : List ChunkTableRow
   pub all : length found ≡ min (length (rows_with_word word xorbs)) 8
@@ -85,7 +85,7 @@ HasFileIn number bytes found =
     × IsAtRow (file_records_in version) bytes 0 0 found
 
 -- why no file is read at the front of bytes: the number is that of no version, or neither a record
--- nor the bookend is read
+-- nor a bookend is read
 abbrev pub RefusesFileIn : ℕ → List ℕ → CoreError → Type 0
 RefusesFileIn number bytes e =
     ((e ≡ InvalidArguments) × (¬ IsVersion number))

@@ -23,13 +23,13 @@ RefusesQuery bytes hashes e =
     FormatCase IsUnsupported IsTooShort bytes e
     ⊎ HasOutcome bytes (λ info before after. QueryRefused info.metadata hashes before after e)
 
--- what a query for a run that begins at the chunk at an index of the xorb at a row returns
+-- the answer to a query for a run that begins at the chunk at an index of the xorb at a row
 abbrev pub AnswersQueryAt : List ℕ → List DataHash → (row index : ℕ)
     → Option (ℕ × FileDataSequenceEntry) → Type 0
 AnswersQueryAt bytes hashes row index answer =
     WithEnds bytes (λ info. AnswerAt (query_at info.metadata hashes (row, index)) bytes answer)
 
--- why it has no answer: header and footer are not read, or the query is refused
+-- why such a query has no answer: header and footer are not read, or the query is refused
 abbrev pub RefusesQueryAt : List ℕ → List DataHash → (row index : ℕ) → CoreError → Type 0
 RefusesQueryAt bytes hashes row index e =
     LoadRefusal bytes e
@@ -37,7 +37,8 @@ RefusesQueryAt bytes hashes row index e =
     (λ info before after. RefusedAt (λ e. e ≡ InvalidArguments)
     (query_at info.metadata hashes (row, index)) before after e)
 
--- why a query at a chunk of this xorb has no answer: there is a hash, and the xorb has no such chunk
+-- why a query at a chunk of this xorb has no answer: it asks for a hash, and the xorb has no chunk
+-- at the index
 abbrev pub HasNoChunkAt : List DataHash → MDBXorbInfo → ℕ → CoreError → Type 0
 HasNoChunkAt hashes xorb index e =
     (hashes ≢ []) × (e ≡ InvalidArguments) × (length xorb.chunks ≤ index)

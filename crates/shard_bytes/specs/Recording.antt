@@ -1,4 +1,4 @@
--- All records of a shard: what is written of a list of them, and what is read.
+-- The shard that is written from lists of records, and the records that are read of a shard.
 use Rattle.std.specs.Prelude.{◌≡◌, ◌⊎◌, ⊤, ℕ, List, [], ◌∷◌, map, drop, MatchResult}
 use Rattle.xet_core_structures.specs.declared.error.CoreError.{CoreError}
 use Rattle.xet_core_structures.specs.declared.error.CoreError.TheVariants.{InvalidArguments, OutOfMemory}
@@ -15,38 +15,40 @@ use Rattle.xet_core_structures.specs.TwoShards.ByteResults.{LoadRefusal}
 use Rattle.xet_core_structures.specs.XorbRecord.{xorb_records}
 use Rattle.shard_bytes.specs.declared.records.Records.{Records}
 
--- a shard with files inserted or replaced, one after another
+-- a shard into which files are inserted one after another; of two with one hash the later counts
 abbrev pub with_files : Shard → List MDBFileInfo → Shard
 with_files s [] = s
 with_files s (r ∷ rs) = with_files (add_file s r) rs
 
--- a shard with xorbs inserted or replaced, one after another
+-- a shard into which xorbs are inserted one after another; of two with one hash the later counts
 abbrev pub with_xorbs : Shard → List MDBXorbInfo → Shard
 with_xorbs s [] = s
 with_xorbs s (r ∷ rs) = with_xorbs (add_xorb s r) rs
 
--- the shard that has these records, and of two with one hash the later
+-- the shard that has these records, of two with one hash the later
 abbrev pub shard_of : List MDBFileInfo → List MDBXorbInfo → Shard
 shard_of files xorbs = with_xorbs (with_files empty_shard files) xorbs
 
--- files that can be inserted one after another: each is well-formed, and the rows fit `u32`
+-- files that can be inserted one after another: each is well-formed, and the rows fit `u32` after
+-- each
 abbrev pub CanAddFiles : Shard → List MDBFileInfo → Type 0
 CanAddFiles s [] = ⊤
 CanAddFiles s (r ∷ rs) = CanAddFile s r × CanAddFiles (add_file s r) rs
 
--- xorbs that can be inserted one after another: each may be put into a shard, and the rows fit
--- `u32`
+-- xorbs that can be inserted one after another: each is one that a shard may have, and the rows fit
+-- `u32` after each
 abbrev pub CanAddXorbs : Shard → List MDBXorbInfo → Type 0
 CanAddXorbs s [] = ⊤
 CanAddXorbs s (r ∷ rs) = CanAddXorb s r × CanAddXorbs (add_xorb s r) rs
 
--- records of which there is a shard
+-- files, and then xorbs, that can be inserted one after another into the empty shard
 abbrev pub CanAddRecords : List MDBFileInfo → List MDBXorbInfo → Type 0
 CanAddRecords files xorbs =
     CanAddFiles empty_shard files × CanAddXorbs (with_files empty_shard files) xorbs
 
--- the result of a call that enters records one after another: a value if they can be entered, and
--- else `InvalidArguments`; or an allocation failed before that was known
+-- the result of a call that inserts records one after another: a value only if they can be
+-- inserted, `InvalidArguments` only if not, or `OutOfMemory`, if an allocation fails before that is
+-- known
 abbrev pub AdmitsAll : {T : Type 0} → Type 0 → CoreResult T → Type 0
 AdmitsAll Can result =
     MatchResult result (λ _. Can) (λ e. ((e ≡ InvalidArguments) × (¬ Can)) ⊎ (e ≡ OutOfMemory))
@@ -62,8 +64,7 @@ pub record HasRecords (bytes : List ℕ) (found : Records) : Type 0 where
   pub xorb_section : IsSection xorb_records (drop info.metadata.xorb_info_offset bytes)
       found.xorbs.items
 
--- why the records are not read: header and footer are not read, or they are, and then a section is
--- not
+-- why the records are not read: header and footer are not read, or a section is not
 abbrev pub RefusesRecords : List ℕ → CoreError → Type 0
 RefusesRecords bytes e =
     LoadRefusal bytes e

@@ -16,7 +16,7 @@ use xet_core_structures::set_operations::{
 /// What a merge of shards that have to agree gives.
 #[derive(Drop)]
 pub enum AgreeingMerge {
-    /// The bytes of the merge: each input holds a well-formed shard, and each two of these agree.
+    /// The bytes of the merge: each input holds a well-formed shard, and these agree pairwise.
     Bytes(Vec<u8>),
     /// The hashes under which two of the shards have records that do not agree, with two such
     /// shards for each: at least one.
@@ -26,9 +26,9 @@ pub enum AgreeingMerge {
 }
 
 /// The bytes of the union of one shard or more, from their bytes, as [`merge_bytes`] makes it, if
-/// each input holds a well-formed shard and each two of these agree. Then they are the bytes of the
-/// join, under the key that all have, whatever the order of the list: nothing need be known of the
-/// inputs. What is wrong with a record that no shard may have comes first, then what disagrees.
+/// each input holds a well-formed shard and these agree pairwise. Then they are the bytes of the
+/// join, under the key that all have, in any order of the list. Nothing need be known of the
+/// inputs. A malformed record is looked for first, then records that disagree.
 ///
 /// `InvalidArguments` if the list is empty or the keys differ. Else the errors are those of
 /// [`find_disagreements`] and [`merge_bytes`].

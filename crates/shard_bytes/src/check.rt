@@ -67,23 +67,24 @@ pub enum Finding {
     /// The hash of the record at this index, from 0 on, is not greater than that of the record
     /// before it. It is the first such record of the section.
     OutOfOrder(Section, usize),
-    /// The record at this index, from 0 on, is one that no shard may have: a file with flags beside
-    /// those of its parts, or with a reserved word that is not zero, in its header or in a row of
-    /// an optional part, or a xorb whose chunks have more than 4294967295 bytes together.
+    /// The record at this index, from 0 on, is one that no shard may have. A file is one if it has
+    /// flags beside those of its optional parts, or a reserved word that is not zero, in its header
+    /// or in a row of such a part; a xorb, if its chunks have more than 4294967295 bytes together.
     Malformed(Section, usize),
     /// The part is not the one that the records give: of a section this is its bookend, since its
     /// records are those that are read.
     Differs(Part),
-    /// The chunk table has the rows that the records give, but those with one first word stand in
-    /// another order than the library writes. It is a note: nothing is lost, and the original
-    /// leaves such rows in any order.
+    /// The chunk table has the rows that the records give, but rows with the same first word stand
+    /// in another order than the library writes. It is a note: nothing is lost, and the original
+    /// implementation leaves such rows in any order.
     Reordered,
     /// The size is not this one, in bytes, which the records give.
     Size(usize),
 }
 
 impl Finding {
-    /// Whether this is a note: nothing is lost.
+    /// Whether this is a note: the bytes differ from what the library would write, but nothing is
+    /// lost.
     pub fn is_note(&self) -> bool
         ensures { IsTrue result ↔ IsNote self.now }
     {
@@ -94,13 +95,14 @@ impl Finding {
     }
 }
 
-/// What is wrong with the bytes of a shard. The list is empty if they are, byte for byte, what the
-/// library would write of the records in them, which a shard may have, with strictly ascending
-/// hashes, in their version and with their key, their timestamps and the tables that the footer says
-/// have rows. It has nothing but notes if they are so but for the order of rows of the chunk table
-/// with one first word. Then they hold a well-formed shard, and of such bytes under one key, if they
-/// agree, each tree of unions gives the same. If the bytes cannot be read, nothing else is looked
-/// for.
+/// All findings about the bytes of a shard. If they cannot be read, this is the only finding.
+///
+/// There is none exactly if the bytes are, byte for byte, what the library would write of the
+/// records in them: records that a shard may have, with strictly ascending hashes, in the version
+/// of the bytes, with their key, their timestamps and the tables that the footer says have rows.
+/// There are only notes exactly if that is so but for the order of rows of the chunk table with the
+/// same first word. Then the bytes hold a well-formed shard. If such shards have one key and agree
+/// pairwise, each tree with a union over all of them gives the same bytes.
 ///
 /// `OutOfMemory` if an allocation fails. No other error.
 pub fn check_bytes(alloc: Global, bytes: &[u8]) -> Result<Vec<Finding>>
@@ -304,7 +306,7 @@ fn push_part(
     push_unless(findings, same, Finding::Differs(part))
 }
 
-// Adds that the chunk table differs, or that its rows stand in another order.
+// Adds the chunk table, if it differs, or if its rows stand in another order.
 fn push_chunk_table(
     alloc: Global,
     findings: &mut Vec<Finding>,
@@ -326,7 +328,7 @@ fn push_chunk_table(
     }
 }
 
-// What is to be said of a chunk table, beside the one that was written.
+// The finding about a chunk table, compared with the one that was written.
 fn table_finding(alloc: Global, written: &[u8], found: &[u8]) -> Result<Option<Finding>>
     requires { IsWrittenTable written.now }
     ensures { MatchResult result (FindsInTable written.now found.now)

@@ -1,4 +1,4 @@
-//! Where the chunks of a shard are: what an index over many shards is made of.
+//! The places of all chunks of a shard, from which an index over many shards can be made.
 
 ghost use Rattle.std.specs.Prelude.{◌≡◌, MatchResult};
 ghost use Rattle.xet_core_structures.specs.declared.error.CoreError.{CoreError};
@@ -11,9 +11,10 @@ use xet_core_structures::error::{CoreError, Result};
 use xet_core_structures::shard_format::MDBShardInfo;
 use xet_core_structures::source::MemorySource;
 
-/// For each chunk of a shard the first word of its hash, the row of the xorb section at which its
-/// xorb starts, and its index in the xorb: the rows of the chunk table, or, if there is none, the
-/// chunks of the xorb section in order. The hashes are under the shard's key.
+/// For each chunk of a shard, the first word of its hash, and as a pair the row of the xorb section
+/// at which its xorb starts and its index in the xorb. These are the rows of the chunk table, or,
+/// if the shard has none, the chunks of the xorb section in order. Hashes are under the shard's
+/// key, if it has one.
 ///
 /// The errors are those of [`MDBShardInfo::load_from_reader`] and
 /// [`MDBShardInfo::read_all_truncated_hashes`].

@@ -1,4 +1,4 @@
-//! Shards whose records come one after another, put together to one.
+//! The concatenation of shards whose records come one after another.
 
 ghost use Rattle.std.specs.Prelude.{◌≡◌, List, All, map, length, None, ◌<◌, IfOk, IfErr, MatchResult};
 ghost use Rattle.std.specs.List.{AllZip};
@@ -19,15 +19,16 @@ use std::alloc::Global;
 use xet_core_structures::error::Result;
 use xet_shards::shard_writer::shards_in_a_row;
 
-/// The bytes of the shard that has the records of all shards, in their order: so files and xorbs,
-/// each by their own hash, have to ascend from each shard to the next. It is under the key of all,
-/// in version 3, with all tables and without timestamps. Beside the result, memory is needed for
-/// some hundred bytes a shard.
+/// The bytes of the shard that has the records of one shard or more, in their order. The hashes of
+/// files, and those of xorbs, have to ascend from each shard to the next. The result is under the
+/// key that all shards have, in version 3, with all tables, creation 0 and no expiry. Beside it,
+/// the call needs a few hundred bytes of memory a shard.
 ///
-/// So a merge may be made range by range, by any machine, and then be put together: of what
-/// `merge_range_bytes` gives of ranges that follow one another, without a gap, these are the bytes
-/// that the one merge gives. Records are copied and not checked; `check_bytes` checks what is made
-/// of shards that are not trusted.
+/// So a merge may be made range by range, on many machines, and then be put together. If the merged
+/// shards are well-formed, have one key and agree pairwise, the results of
+/// [`merge_range_bytes`](crate::merge::merge_range_bytes) for ranges that follow one another
+/// without a gap give the bytes of the one merge. Sections and tables are copied and not checked:
+/// if shards are not trusted, [`check_bytes`](crate::check::check_bytes) checks the result.
 ///
 /// The errors are those of [`shards_in_a_row`], and `OutOfMemory` if an allocation fails.
 pub fn concatenate(alloc: Global, shards: &[&[u8]]) -> Result<Vec<u8>>
@@ -58,7 +59,7 @@ pub fn concatenate(alloc: Global, shards: &[&[u8]]) -> Result<Vec<u8>>
     concatenate_parts(alloc, shards)
 }
 
-// The same, without the clause on ranges.
+// `concatenate` without its clause on ranges.
 fn concatenate_parts(alloc: Global, shards: &[&[u8]]) -> Result<Vec<u8>>
     ensures parts { (key : DataHash) → (parts : List ShardPart) → All (IsPartUnder key) parts
         → map bytes_of_part parts ≡ map (λ x. x.now) shards.now
@@ -85,7 +86,7 @@ fn concatenate_parts(alloc: Global, shards: &[&[u8]]) -> Result<Vec<u8>>
     }
 }
 
-// The bytes of all shards: what is made of them has no more.
+// The size of all shards together, in bytes. Their concatenation has no more.
 fn total_length(shards: &[&[u8]]) -> usize {
     let mut total = 0usize;
     for shard in shards {

@@ -21,8 +21,8 @@ pub fn load_bytes(alloc: Global, bytes: &[u8]) -> Result<MDBShardInfo>
     MDBShardInfo::load_from_reader(alloc, &mut source)
 }
 
-/// Does nothing. Its contract says that header and footer of bytes are those of their two ends, 48
-/// and 200 bytes: so [`load_bytes`] of these reads what it reads of the whole.
+/// Does nothing. Its contract says that bytes and their two ends, the first 48 and the last 200
+/// bytes put together, have the same header and footer. So [`load_bytes`] reads the same from both.
 pub fn ends_are_enough()
     ensures { (bytes : List ℕ) → 200 ≤ length bytes → (info : MDBShardInfo)
         → HasHeaderAndFooter (ends_of bytes) info ↔ HasHeaderAndFooter bytes info }

@@ -14,8 +14,7 @@ use crate::memory::in_memory;
 use crate::room::with_room;
 use crate::sorted_hashes::SortedHashes;
 use std::alloc::{AllocError, Global};
-use std::io;
-use std::io::{ErrorKind, Write};
+use std::io::{self, ErrorKind, Write};
 use xet_core_structures::error::{CoreError, Result};
 use xet_core_structures::file_structs::KeptParts;
 use xet_core_structures::merklehash::MerkleHash;
@@ -70,8 +69,8 @@ pub struct Subset {
 /// The bytes of the minimal shard of a shard, with these parts of its files, from its bytes: at
 /// most 200 more.
 ///
-/// The errors are those of [`MDBMinimalShard::from_reader`], and of [`MDBMinimalShard::serialize`]
-/// or [`MDBMinimalShard::serialize_without_aux`].
+/// The errors are those of [`MDBMinimalShard::from_reader`]; `Io` of kind `Other` if verification
+/// rows are to be kept and a file has none; `OutOfMemory` if an allocation fails.
 pub fn minimal_bytes(alloc: Global, bytes: &[u8], now: u64, kept: KeptParts) -> Result<Vec<u8>>
     ensures minimal { MatchResult result (λ minimal. MinimalBytes kept now bytes.now minimal.items)
         (RefusesMinimalBytes kept bytes.now) }

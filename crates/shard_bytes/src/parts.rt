@@ -1,9 +1,9 @@
-//! Lookups in parts of a shard that were read by themselves: in the bytes of a lookup table, and of
-//! a record in the bytes from its row on.
+//! Lookups in parts of a shard that were read by themselves: in the bytes of a lookup table, or in
+//! the bytes from the row of a record on.
 //!
-//! [`load_bytes`](crate::load::load_bytes) reads both ends of a shard, 48 and 200 bytes, without
-//! what lies between them, and the footer says where tables and sections are. So a file is found in
-//! a shard that is far away by three reads: the two ends, the file table, and the record.
+//! The first 48 and the last 200 bytes of a shard, put together, are enough for
+//! [`load_bytes`](crate::load::load_bytes), and the footer says where tables and sections are. So a
+//! file of a remote shard is found by few reads: its two ends, the file table, and the record.
 
 ghost use Rattle.std.specs.Prelude.{◌≡◌, ◌≢◌, ◌<◌, ◌*◌, ◌%◌, ◌/◌, ◌^◌, ℕ, List, length, IfOk, IsOkAnd, MatchResult};
 ghost use Rattle.std.specs.FinMap as finite;
@@ -29,12 +29,12 @@ use xet_core_structures::source::MemorySource;
 use xet_core_structures::xorb_structs::MDBXorbInfo;
 use xet_records::record_reader::FormatVersion;
 
-/// Looks in the bytes of a file table, or of a xorb table, for the rows with this first word of a
-/// hash, and puts the rows of the section at which their records start at the front of `rows`.
-/// Returns how many these are; entries past them are unchanged.
+/// Looks for the first word of a hash in the bytes of a file table or a xorb table. Puts the rows
+/// of the section at which the records with this word start at the front of `rows`, and returns how
+/// many these are, fewer than eight. Entries past them are unchanged.
 ///
-/// `InvalidArguments` if the bytes are no whole rows, which have 12 bytes each;
-/// `TruncatedHashCollision` of the word if eight or more rows have it.
+/// `InvalidArguments` if the size of the table is no multiple of 12 bytes, the size of a row.
+/// `TruncatedHashCollision` with the word if eight or more rows have it.
 pub fn find_rows(alloc: Global, table: &[u8], word: u64, rows: &mut [u32; 8]) -> Result<usize>
     ensures table { MatchResult result (FindsRowsIn table.now word rows.old rows.new)
         (RefusesRows table.now word) }
@@ -50,7 +50,7 @@ pub fn find_rows(alloc: Global, table: &[u8], word: u64, rows: &mut [u32; 8]) ->
     search_starts(alloc, table, word, rows)
 }
 
-// Searches a table of starts.
+// Searches a file table or a xorb table.
 fn search_starts(alloc: Global, table: &[u8], word: u64, rows: &mut [u32; 8]) -> Result<usize>
     ensures { MatchResult result (FindsRowsIn table.now word rows.old rows.new)
         (RefusesRows table.now word) }
@@ -61,12 +61,12 @@ fn search_starts(alloc: Global, table: &[u8], word: u64, rows: &mut [u32; 8]) ->
     info.get_file_info_index_by_hash(alloc, &mut source, &hash_with_word(word), rows)
 }
 
-/// Looks in the bytes of a chunk table for rows with this first word of a chunk's hash, and puts
-/// what up to eight of them say at the front of `places`: the row of the xorb section at which the
-/// xorb starts, and the index of the chunk in it. Returns how many these are; entries past them are
-/// unchanged. The words of the table are those of hashes under the shard's key.
+/// Looks for the first word of a chunk's hash in the bytes of a chunk table. Puts the places of up
+/// to eight chunks with this word at the front of `places`: the row of the xorb section at which
+/// the xorb starts, and the index of the chunk in it. Returns how many these are; entries past them
+/// are unchanged. The table has the words of hashes under the shard's key, if it has one.
 ///
-/// `InvalidArguments` if the bytes are no whole rows, which have 16 bytes each.
+/// `InvalidArguments` if the size of the table is no multiple of 16 bytes, the size of a row.
 pub fn find_places(
     alloc: Global,
     table: &[u8],
@@ -98,7 +98,7 @@ fn search_chunks(
     info.get_xorb_info_index_by_chunk(alloc, &mut source, &hash_with_word(word), places)
 }
 
-// The number of rows of a table, each of so many bytes. `InvalidArguments` if they are not whole.
+// The number of rows of a table, each of `row_size` bytes. `InvalidArguments` if the last is cut.
 fn rows_in(table: &[u8], row_size: u64) -> Result<u64>
     requires { 0 < row_size }
     ensures { MatchResult result
@@ -113,19 +113,19 @@ fn rows_in(table: &[u8], row_size: u64) -> Result<u64>
     Ok(size / row_size)
 }
 
-// A hash with this first word, which is all that a table has of hashes.
+// A hash with this first word; a search in a table looks at no other.
 fn hash_with_word(word: u64) -> MerkleHash
     ensures { result ≡ record { word0 = word; word1 = 0; word2 = 0; word3 = 0 } }
 {
     MerkleHash::from([word, 0, 0, 0])
 }
 
-/// The file's record at the front of some bytes, or `None` if a section's bookend is there: of the
-/// bytes from a row of a file section on, and of any that are enough of them, it is the record at
-/// this row. The version is that of the shard.
+/// The file whose record begins these bytes, or `None` if a section's bookend does. The version is
+/// the number in the shard's header. The bytes of a shard from a row of its file section on, and as
+/// far as the record goes, give the file at this row.
 ///
-/// `InvalidArguments` if the version is neither 2 nor 3. Else the errors of
-/// [`MDBShardInfo::read_file_info`]; `UnexpectedEof` says that more bytes are needed.
+/// `InvalidArguments` if the version is neither 2 nor 3, `UnexpectedEof` if the record does not end
+/// in these bytes. Else the errors are those of [`MDBShardInfo::read_file_info`].
 pub fn file_in(alloc: Global, version: u64, bytes: &[u8]) -> Result<Option<MDBFileInfo>>
     ensures any_bytes { MatchResult result (HasFileIn version bytes.now)
         (RefusesFileIn version bytes.now) }
@@ -137,7 +137,7 @@ pub fn file_in(alloc: Global, version: u64, bytes: &[u8]) -> Result<Option<MDBFi
     read_file(alloc, version, bytes)
 }
 
-// Reads the file at the front of some bytes.
+// Reads the file whose record begins these bytes.
 fn read_file(alloc: Global, version: u64, bytes: &[u8]) -> Result<Option<MDBFileInfo>>
     ensures { MatchResult result (HasFileIn version bytes.now) (RefusesFileIn version bytes.now) }
 {
@@ -152,12 +152,12 @@ fn read_file(alloc: Global, version: u64, bytes: &[u8]) -> Result<Option<MDBFile
     unless_bookend(info.read_file_info(alloc, &mut source, 0))
 }
 
-/// The xorb's record at the front of some bytes, or `None` if a section's bookend is there: of the
-/// bytes from a row of a xorb section on, and of any that are enough of them, it is the record at
-/// this row.
+/// The xorb whose record begins these bytes, or `None` if a section's bookend does. The bytes of a
+/// shard from a row of its xorb section on, and as far as the record goes, give the xorb at this
+/// row.
 ///
-/// The errors are those of [`MDBShardInfo::read_xorb_info`]; `UnexpectedEof` says that more bytes
-/// are needed.
+/// `UnexpectedEof` if the record does not end in these bytes. Else the errors are those of
+/// [`MDBShardInfo::read_xorb_info`].
 pub fn xorb_in(alloc: Global, bytes: &[u8]) -> Result<Option<MDBXorbInfo>>
     ensures any_bytes { MatchResult result (HasXorbIn bytes.now) (RefusesXorbIn bytes.now) }
     ensures in_shard { (shard : List ℕ) → (info : MDBShardInfo) → (row : ℕ)
@@ -168,7 +168,7 @@ pub fn xorb_in(alloc: Global, bytes: &[u8]) -> Result<Option<MDBXorbInfo>>
     read_xorb(alloc, bytes)
 }
 
-// Reads the xorb at the front of some bytes.
+// Reads the xorb whose record begins these bytes.
 fn read_xorb(alloc: Global, bytes: &[u8]) -> Result<Option<MDBXorbInfo>>
     ensures { MatchResult result (HasXorbIn bytes.now) (RefusesXorbIn bytes.now) }
 {

@@ -38,9 +38,10 @@ pub fn query_chunks(
     info.chunk_hash_dedup_query(alloc, &mut source, hashes)
 }
 
-/// The run of these chunks from the chunk at an index on of the xorb at a row of the xorb section:
-/// its number of chunks, and their segment; or `None` if the chunk has another hash than the first.
-/// So a place that an index has for the first word of a hash is looked at.
+/// The run of chunks with these hashes that begins at one place: at the chunk at `index`, from 0
+/// on, of the xorb at `row` of the xorb section. Returns its number of chunks, and their segment,
+/// or `None` if no hash is given or that chunk has another hash than the first. So the places that
+/// an index of chunks has for the first word of a hash can be tried.
 ///
 /// The errors are those of [`MDBShardInfo::load_from_reader`] and
 /// [`MDBShardInfo::chunk_hash_dedup_query_direct`].

@@ -1,4 +1,4 @@
-//! All records of a shard, written and read in one call.
+//! Writing a shard from lists of its records, and reading all its records, in one call each.
 
 ghost use Rattle.std.specs.Prelude.{◌≡◌, ◌⊎◌, ◌^◌, ◌<◌, ℕ, List, Option, IfOk, IfErr, IfSome, OnOk, MatchResult};
 ghost use Rattle.std.specs.FinMap as finite;
@@ -16,18 +16,19 @@ use xet_core_structures::shard_in_memory::MDBInMemoryShard;
 use xet_core_structures::source::MemorySource;
 use xet_core_structures::xorb_structs::MDBXorbInfo;
 
-/// The records of a shard.
+/// The records of a shard, files and xorbs each in the order of their section.
 #[derive(Debug, PartialEq, Drop)]
 pub struct Records {
     pub files: Vec<MDBFileInfo>,
     pub xorbs: Vec<MDBXorbInfo>,
 }
 
-/// The bytes of the shard that has these records, in version 3, with an expiry in seconds or none.
-/// The records may be in any order; of two files, or two xorbs, with one hash the later one counts.
+/// The bytes of the shard that has these records, in version 3, with all tables, without a key,
+/// with creation 0 and with an expiry in seconds or none. The records may be in any order; of two
+/// files, or two xorbs, with one hash the later one counts.
 ///
-/// `InvalidArguments` if a record is ill-formed, or the rows of the files, or those of the xorbs,
-/// would pass 4294967295; `OutOfMemory` if an allocation fails.
+/// `InvalidArguments` if a record is one that no shard may have, or if at some record the rows of
+/// the files so far, or those of the xorbs, pass 4294967295. `OutOfMemory` if an allocation fails.
 pub fn write_records(
     alloc: Global,
     files: Vec<MDBFileInfo>,
@@ -47,7 +48,7 @@ pub fn write_records(
     bytes_of(alloc, &shard, expiry)
 }
 
-// Adds files to a shard, one after another.
+// Adds files to a shard in memory, one after another.
 fn add_files(alloc: Global, shard: &mut MDBInMemoryShard, files: Vec<MDBFileInfo>) -> Result<()>
     ensures ok { OnOk result (shard.new.content ≡ with_files shard.old.content files.items) }
     ensures admitted { AdmitsAll (CanAddFiles shard.old.content files.items) result }
@@ -58,7 +59,7 @@ fn add_files(alloc: Global, shard: &mut MDBInMemoryShard, files: Vec<MDBFileInfo
     Ok(())
 }
 
-// Adds xorbs to a shard, one after another.
+// Adds xorbs to a shard in memory, one after another.
 fn add_xorbs(alloc: Global, shard: &mut MDBInMemoryShard, xorbs: Vec<MDBXorbInfo>) -> Result<()>
     ensures ok { OnOk result (shard.new.content ≡ with_xorbs shard.old.content xorbs.items) }
     ensures admitted { AdmitsAll (CanAddXorbs shard.old.content xorbs.items) result }
@@ -84,8 +85,9 @@ fn bytes_of(alloc: Global, shard: &MDBInMemoryShard, expiry: Option<u64>) -> Res
     }
 }
 
-/// The records of the sections to which the footer of a shard's bytes leads, in their order there,
-/// also of a shard without tables, and with chunk hashes under the shard's key.
+/// The records of the sections at the offsets in the footer of a shard's bytes, in their order. No
+/// table is read, so the shard may have none. Chunk hashes are as stored: under the shard's key, if
+/// it has one.
 ///
 /// The errors are those of [`MDBShardInfo::load_from_reader`],
 /// [`MDBShardInfo::read_all_file_info_sections`] and [`MDBShardInfo::read_all_xorb_blocks_full`].
@@ -104,8 +106,10 @@ pub fn read_records(alloc: Global, bytes: &[u8]) -> Result<Records>
     Ok(Records { files, xorbs })
 }
 
-/// Does nothing. Its contract says that the records of a shard, in the order in which
-/// [`read_records`] gives them, are admitted by [`write_records`] and make this shard again.
+/// Does nothing. Its contract says that [`write_records`] admits the records of a well-formed shard
+/// in the order in which [`read_records`] gives them, and that they make this shard again. So the
+/// bytes of a shard in version 3, with all tables, without a key and with creation 0, are written
+/// again from what is read of them, given their expiry.
 pub fn read_records_are_written_again()
     ensures admitted { (s : Shard) → IsShard s
         → CanAddRecords (finite.values s.files) (finite.values s.xorbs) }

@@ -35,16 +35,16 @@ use Rattle.shard_bytes.specs.declared.check.Finding.{Finding}
 use Rattle.shard_bytes.specs.declared.check.Finding.TheVariants.{Unsupported, TooShort, Cut, Refused, OutOfOrder, Malformed, Differs, Reordered, Size}
 use Rattle.shard_bytes.specs.Checking.{IsFinding, IsNote, IsOutOfOrder, IsMalformedAt, IsSamePart, IsAlikePart, IsReorderedTable, IsWhole, IsIntact}
 
--- these are all findings that are true of the bytes; there is none only if the bytes are whole, and
--- nothing but notes only if they are intact
+-- these are all findings that are true of the bytes; if there is none, the bytes are whole, and if
+-- there are only notes, they are intact
 pub record IsReport (bytes : List ℕ) (findings : List Finding) : Type 0 where
   pub each : All (IsFinding bytes) findings
   pub all : (f : Finding) → IsFinding bytes f → Contains findings f
   pub none : findings ≡ [] → IsWhole bytes
   pub notes : All IsNote findings → IsIntact bytes
 
--- the findings for which `IsSo` holds were added; none was only if the first holds, and nothing but
--- notes only if the second does
+-- the findings for which `IsSo` holds were added; if none was, `Well` holds, and if only notes
+-- were, `Fair` does
 pub record Adds (Well Fair : Type 0) (IsSo : Finding → Type 0) (old new : List Finding) : Type 0 where
   pub more : List Finding
   pub added : new ≡ old ++ more
@@ -93,7 +93,7 @@ pub record IsOneRead (bytes : List ℕ) (stored found : MDBFileInfo) : Type 0 wh
 abbrev pub IsPlainHeader : FileDataSequenceHeader → Type 0
 IsPlainHeader h = (h.file_flags ≡ flags_of (announces h.file_flags)) × (h._unused ≡ 0)
 
--- these xorbs are stored
+-- these xorbs are stored in a section
 pub record AreXorbs (xorbs : List MDBXorbInfo) : Type 0 where
   pub stored : All IsStoredXorb xorbs
   pub rows : total_rows xorb_records xorbs ≤ MAX_ROWS
@@ -138,8 +138,8 @@ pub record IsWritten (bytes : List ℕ) (footer : MDBShardFileFooter) : Type 0 w
   pub bytes_are : bytes ≡ layout_of files xorbs options
   pub footer_is : footer ≡ footer_value files xorbs options
 
--- what is to be said of a chunk table: nothing of the one that was written, that it is reordered, or
--- that it differs
+-- the finding about a chunk table: none if it is the one that was written, else that it is
+-- reordered, or that it differs
 abbrev pub FindsInTable : List ℕ → List ℕ → Option Finding → Type 0
 FindsInTable written found finding =
     MatchOption finding (found ≡ written)
@@ -147,7 +147,7 @@ FindsInTable written found finding =
     × (((f ≡ Reordered) × IsReorderedTable written found)
     ⊎ ((f ≡ Differs ChunkTable) × (¬ IsReorderedTable written found))))
 
--- what is true of the chunk table, if anything, was added
+-- the finding about the chunk table, if there is one, was added
 abbrev pub AddsTable : List ℕ → MDBShardInfo → List ℕ → MDBShardFileFooter → List Finding
     → List Finding → Type 0
 AddsTable bytes info written footer =
@@ -178,7 +178,8 @@ IsSame bytes info written footer =
     ((part : Part) → IsSamePart part bytes info written footer)
     × (length bytes ≡ length written)
 
--- they are so but for the order of rows of the chunk table
+-- all parts and the size are those of the bytes that were written, but for the order of rows of the
+-- chunk table
 abbrev pub IsAlike : List ℕ → MDBShardInfo → List ℕ → MDBShardFileFooter → Type 0
 IsAlike bytes info written footer =
     ((part : Part) → IsAlikePart part bytes info written footer)

@@ -1,6 +1,6 @@
-//! Records that no shard may have, though they are read: a file whose flags say more than its parts,
-//! or with a reserved word that is not zero, in its header or in a row of an optional part; and a
-//! xorb whose chunks have more than 4294967295 bytes together.
+//! Records that no shard may have, though they can be read: a file with flags beside those of its
+//! optional parts, or with a reserved word that is not zero, in its header or in a row of such a
+//! part; and a xorb whose chunks have more than 4294967295 bytes together.
 
 ghost use Rattle.std.specs.Prelude.{◌≡◌, ◌↔◌, ◌≤◌, List, IsTrue, OnOk, IfErr, MatchResult};
 ghost use Rattle.xet_core_structures.specs.declared.error.CoreError.{CoreError};
@@ -16,7 +16,7 @@ use xet_core_structures::error::{CoreError, Result};
 use xet_core_structures::file_structs::{FileDataSequenceHeader, MDBFileInfo};
 use xet_core_structures::xorb_structs::MDBXorbInfo;
 
-/// Adds each of these files that no shard may have. The bytes begin with the rows of all of them.
+/// Adds each of these files that no shard may have. `stored` begins with the rows of all files.
 pub(super) fn push_malformed_files(
     alloc: Global,
     findings: &mut Vec<Finding>,
@@ -39,8 +39,9 @@ pub(super) fn push_malformed_files(
     Ok(())
 }
 
-// Whether a shard may have a file with these rows. Reading returns reserved words of the rows of
-// optional parts as zero, so if they are, the rows that are written are those that were read.
+// Whether a shard may have the file that was read from these rows. Reading returns the reserved
+// words of the rows of optional parts as zero: so if these words are zero as stored, and only then,
+// the file is written as the rows that it was read from.
 fn is_well_formed(alloc: Global, file: &MDBFileInfo, rows: &[u8]) -> Result<bool>
     requires { (r : MDBFileInfo) × IsOneRead rows.now r file.now }
     ensures { MatchResult result (λ yes. (r : MDBFileInfo) → IsOneRead rows.now r file.now
@@ -57,7 +58,7 @@ fn is_well_formed(alloc: Global, file: &MDBFileInfo, rows: &[u8]) -> Result<bool
     }
 }
 
-// Whether the flags announce parts and nothing else, and the reserved word is zero.
+// Whether the flags announce optional parts and nothing else, and the reserved word is zero.
 fn is_plain(header: &FileDataSequenceHeader) -> bool
     ensures { IsTrue result ↔ IsPlainHeader header.now }
 {
@@ -78,7 +79,7 @@ pub(super) fn push_malformed_xorbs(findings: &mut Vec<Finding>, xorbs: &[MDBXorb
     Ok(())
 }
 
-// Whether the bytes of a xorb's chunks fit `u32`.
+// Whether the sizes of a xorb's chunks add up to a number that fits `u32`.
 fn has_few_bytes(xorb: &MDBXorbInfo) -> bool
     requires { HasItsChunks xorb.now }
     ensures { IsTrue result ↔ (size_of_chunks xorb.now ≤ 4294967295) }
@@ -86,7 +87,7 @@ fn has_few_bytes(xorb: &MDBXorbInfo) -> bool
     size_of_chunks(xorb) <= u64::from(u32::MAX)
 }
 
-// The bytes of a xorb's chunks.
+// The sizes of a xorb's chunks, added up, in bytes.
 fn size_of_chunks(xorb: &MDBXorbInfo) -> u64
     requires { HasItsChunks xorb.now }
     ensures { result ≡ size_of_chunks xorb.now }

@@ -1,6 +1,6 @@
-//! Whether a chunk table has the rows of the one that was written, in an order in which their first
-//! words ascend. The original sorts rows by their first words alone, by a sort that leaves rows with
-//! one first word in any order.
+//! Whether a chunk table has the rows that the library writes, in any order in which their first
+//! words ascend. The original implementation sorts rows by their first words alone, by a sort that
+//! leaves rows with the same first word in any order.
 
 ghost use Rattle.std.specs.Prelude.{◌≡◌, ◌≤◌, ◌+◌, ◌++◌, ◌↔◌, IsTrue, IfOk, IfErr, MatchResult, length};
 ghost use Rattle.xet_core_structures.specs.declared.error.CoreError.{CoreError};
@@ -14,11 +14,11 @@ use xet_base::fields::{split_u32, split_u64};
 use xet_core_structures::error::{CoreError, Result};
 use xet_shards::shard_writer::ChunkTableRow;
 
-/// The bytes of a row.
+/// The size of a row, in bytes.
 const ROW_SIZE: usize = 16;
 
-/// Whether the bytes of a chunk table that was found have the rows of the one that was written, in
-/// an order in which their first words ascend. `OutOfMemory` if an allocation fails.
+/// Whether the chunk table `found` has the rows of the one that was written, in any order in which
+/// their first words ascend. `OutOfMemory` if an allocation fails.
 pub fn is_reordered(alloc: Global, written: &[u8], found: &[u8]) -> Result<bool>
     requires { IsWrittenTable written.now }
     ensures { MatchResult result
@@ -37,7 +37,7 @@ pub fn is_reordered(alloc: Global, written: &[u8], found: &[u8]) -> Result<bool>
     Ok(are_equal(sorted.as_slice(), written.as_slice()))
 }
 
-// The rows of a table, as far as its bytes are whole rows.
+// The whole rows of a table; a cut row at its end is left out.
 fn rows_of(alloc: Global, table: &[u8]) -> Result<Vec<ChunkTableRow>>
     ensures ok { IfOk result (λ rows. ReadsRows table.now rows.items) }
     ensures causes { IfErr result (λ e. e ≡ CoreError.OutOfMemory) }

@@ -52,7 +52,8 @@ HasMalformed s (Xorb q) = (r : MDBXorbInfo) × (get s.xorbs q ≡ Some r) × (¬
 abbrev pub HoldShards : List (List ℕ) → Type 0
 HoldShards inputs = (i : ℕ) → i < length inputs → (s : Shard) × HoldsAt inputs i s × IsShard s
 
--- the shard that the input with this number holds has, under this hash, a record that no shard may have
+-- the shard that the input with this number holds has, under this hash, a record that no shard may
+-- have
 abbrev pub HoldMalformed : List (List ℕ) → MalformedRecord → Type 0
 HoldMalformed inputs m = (s : Shard) × HoldsAt inputs m.input s × HasMalformed s m.record_hash
 
@@ -125,8 +126,9 @@ HaveKey inputs plan key =
     (i : ℕ) (bytes : List ℕ) → Contains (leaves plan) i → slice_get inputs i ≡ Some bytes
     → HasKey bytes key
 
--- what a merge of inputs that have to agree gives: the bytes that the tree writes, if the inputs hold
--- well-formed shards and these agree; else two that do not agree, or a record that no shard may have
+-- what a merge of inputs that have to agree gives: the bytes that the tree writes, if the inputs
+-- hold well-formed shards and these agree; else two that do not agree, or a record that no shard
+-- may have
 abbrev pub IsMerged : List (List ℕ) → MergePlan → Merged → Type 0
 IsMerged inputs plan (Bytes bytes) =
     HoldShards inputs × InputsAgree inputs × TreeWrites inputs plan bytes.items

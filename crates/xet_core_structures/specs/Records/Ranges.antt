@@ -47,8 +47,8 @@ abbrev pub ranges_between : Option DataHash → List DataHash → Option DataHas
 ranges_between from [] to = record { from = from; to = to } ∷ []
 ranges_between from (k ∷ ks) to = record { from = from; to = Some k } ∷ ranges_between (Some k) ks to
 
--- a range, given by its two bounds, can be cut at these hashes: none is below the one before it, and
--- all are within the bounds
+-- a range, given by its two bounds, can be cut at these hashes: none is below the one before it,
+-- and all are within the bounds
 abbrev pub AreCuts : Option DataHash → List DataHash → Option DataHash → Type 0
 AreCuts from [] to = ⊤
 AreCuts from (k ∷ ks) to = (is_from from k ≡ true) × (is_up_to to k ≡ true) × AreCuts (Some k) ks to

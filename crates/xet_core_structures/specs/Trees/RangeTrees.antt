@@ -67,8 +67,8 @@ pub record IsHeldLayout (key : DataHash) (s : Shard) (bytes : List ℕ) : Type 0
   pub bytes_are : bytes ≡ keyed_layout s key
   pub holds : HoldsShard key s bytes
 
--- the byte strings are those of parts under a key, and the layout of the records of all parts is that
--- of this shard; if the shard is well-formed, the parts are in a row
+-- the byte strings are those of parts under a key, and the layout of the records of all parts is
+-- that of this shard; if the shard is well-formed, the parts are in a row
 pub record AreRangesOf (key : DataHash) (whole : Shard) (bytes : List (List ℕ)) : Type 0 where
   pub parts : List ShardPart
   pub fit : All (IsPartUnder key) parts
