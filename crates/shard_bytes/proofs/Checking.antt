@@ -170,10 +170,7 @@ out_of_order section hashes n old new out is =
         let not_after = first_only hashes n m out other in
         omega (arith, not_before, not_after)
 
--- the chunk table is as it was written, or one thing is to be said of it
-reordered_differs : Reordered ≢ Differs ChunkTable
-reordered_differs same = cc
-
+-- the chunk table is as it was written, or one finding about it is true
 module _ (bytes : List ℕ) (info : MDBShardInfo) (written : List ℕ) (footer : MDBShardFileFooter) (old new : List Finding) where
   abbrev SameTable : Type 0
   SameTable = IsSamePart ChunkTable bytes info written footer

@@ -1,33 +1,29 @@
 -- Records that no shard may have: each of those in bytes is found.
-use Rattle.std.proofs.Common.{◌≡◌, ◌⊎◌, ◌↔◌, inl, inr, Bool, true, ℕ, zero, suc, ◌+◌, ◌*◌, ◌<◌, ◌≤◌, List, [], ◌∷◌, ◌++◌, length, flat_map, drop, get_or, Some, refl, sym, ap, ◌∙◌, subst, append_assoc, add-one, drop-cons, arith}
-use Rattle.std.specs.Prelude.{All, IsTrue, slice_get, sum_by, if◌then◌else◌}
+use Rattle.std.proofs.Common.{◌≡◌, ◌⊎◌, ◌↔◌, inl, inr, Bool, ℕ, ◌+◌, ◌*◌, ◌<◌, ◌≤◌, List, [], ◌∷◌, ◌++◌, length, flat_map, drop, get_or, Some, refl, sym, ap, ◌∙◌, subst, append_assoc, add-one, drop-cons, arith}
+use Rattle.std.specs.Prelude.{All, IsTrue, slice_get, if◌then◌else◌}
 use Rattle.std.proofs.lemmas.List.{length-append, length-map, get_or-map}
 use Rattle.std.proofs.lemmas.List.Concat.{flat_map-cons}
-use Rattle.std.proofs.lemmas.List.Elements.{All-map}
-use Rattle.std.proofs.lemmas.List.Sums.{sum_by-cons}
+use Rattle.std.proofs.lemmas.List.Sums.{get_or-le-sum_by}
 use Rattle.std.proofs.lemmas.Option.{same_Some, slice_get_within, slice_get-get_or}
 use Rattle.xet_base.proofs.Lists.{same_parts}
-use Rattle.xet_records.specs.declared.file_structs.part.OptionalPart.{OptionalPart}
-use Rattle.xet_records.specs.declared.file_structs.rows.HashRow.{HashRow}
-use Rattle.xet_records.specs.FileRow.{clear}
 use Rattle.xet_records.specs.Limits.{MAX_ROWS}
-use Rattle.xet_records.specs.Part.{rows_of, optional_rows}
+use Rattle.xet_records.specs.Part.{optional_rows}
 use Rattle.xet_records.proofs.Lengths.{length-file_record_bytes}
-use Rattle.xet_records.proofs.Parts.{rows_of-returned}
 use Rattle.xet_records.proofs.RecordKinds.{file_laws}
 use Rattle.xet_core_structures.specs.declared.file_structs.MDBFileInfo.{MDBFileInfo}
 use Rattle.xet_core_structures.specs.declared.xorb_structs.MDBXorbInfo.{MDBXorbInfo}
 use Rattle.xet_core_structures.specs.FileRecord.{IsStored, IsWellFormed, FitsItsHeader, as_read, file_record_bytes, row_count}
 use Rattle.xet_core_structures.specs.XorbRecord.{HasItsChunks, IsStoredXorb, IsXorb, size_of_chunks, xorb_row_count}
+use Rattle.xet_core_structures.specs.Steps.Agreement.{IsPlainHeader}
+use Rattle.xet_core_structures.proofs.Agreement.Malformed.{file_clear}
 use Rattle.xet_core_structures.proofs.Records.Items.{below_or_at}
 use Rattle.xet_shards.specs.Steps.FileStore.{AreClear}
 use Rattle.xet_shards.proofs.Read.Readback.{one_as_read}
-use Rattle.xet_shards.proofs.Write.StoredParts.{clear_parts}
 use Rattle.shard_bytes.specs.declared.check.Section.{Section}
 use Rattle.shard_bytes.specs.declared.check.Finding.{Finding}
 use Rattle.shard_bytes.specs.declared.check.Finding.TheVariants.{Malformed}
 use Rattle.shard_bytes.specs.Checking.{IsMalformedAt}
-use Rattle.shard_bytes.specs.Steps.Checking.{AddsFaults, AddsMalformed, AreRead, AreXorbs, IsOneRead, IsPlainHeader}
+use Rattle.shard_bytes.specs.Steps.Checking.{AddsFaults, AddsMalformed, AreRead, AreXorbs, IsOneRead}
 use Rattle.shard_bytes.proofs.Checking.{adds_as, adds_well, adds_then, adds_none, adds_if}
 
 -- what is added of the first records of a list
@@ -85,18 +81,6 @@ module _ {R : Type 0} (IsFormed : R → Type 0) (rs : List R) (section : Section
     where
       all : FormedBefore n → All IsFormed rs
       all formed k d below = formed k (get_or rs k d) (omega (arith, past, below)) (slice_get-get_or rs k d below)
-
--- a number of a list is no more than their sum
-one_of_sum : {X : Type 0} (f : X → ℕ) (xs : List X) (k : ℕ) (d : X) → k < length xs → f (get_or xs k d) ≤ sum_by f xs
-one_of_sum f [] k d below = absurd (omega (arith, below))
-one_of_sum f (y ∷ xs) zero d below = omega (arith, sum_by-cons f y xs)
-one_of_sum f (y ∷ xs) (suc k) d below = omega (arith, sum_by-cons f y xs, one_of_sum f xs k d (omega (arith, below)))
-
--- a file that was read has no reserved words in the rows of its parts
-file_clear : (r : MDBFileInfo) → AreClear (optional_rows (as_read r))
-file_clear r = (clear_parts (as_read r) true ((λ so. each), (λ all. refl))).0 refl where
-  each : (part : OptionalPart) → AreClear (rows_of part (as_read r))
-  each part = subst AreClear (sym (rows_of-returned r part)) (All-map (λ (row : HashRow). row._unused ≡ 0 ∷ 0 ∷ []) clear (rows_of part r) (λ k row below. refl))
 
 -- one file: it is well-formed exactly if its header is plain and it is written as it is stored
 module _ (bytes : List ℕ) (r file : MDBFileInfo) (one : IsOneRead bytes r file) where
@@ -173,7 +157,7 @@ module _ (stored : List ℕ) (rs files : List MDBFileInfo) (read : AreRead store
   fits_header = subst FitsItsHeader is_returned (file_laws.as_read_stored the_file is_stored_file).whole
 
   pub few_rows : row_count file ≤ MAX_ROWS
-  few_rows = omega (arith, one_of_sum row_count rs i file in_rs, read.held.rows, file_laws.same_rows the_file, ap row_count is_returned)
+  few_rows = omega (arith, get_or-le-sum_by row_count rs i file in_rs, read.held.rows, file_laws.same_rows the_file, ap row_count is_returned)
 
   pub enough_left : 48 * row_count file ≤ length rest
   enough_left = omega (arith, size_of_rows, ap length split_rest, length-append (file_record_bytes the_file) after_it)
@@ -184,7 +168,7 @@ module _ (stored : List ℕ) (rs files : List MDBFileInfo) (read : AreRead store
       let parts = same_parts rows (file_record_bytes the_file) after after_it (size ∙ sym size_of_rows) (split ∙ split_rest) in (
         record {
           is_stored = is_stored_file;
-          rows = omega (arith, one_of_sum row_count rs i file in_rs, read.held.rows);
+          rows = omega (arith, get_or-le-sum_by row_count rs i file in_rs, read.held.rows);
           bytes_are = parts.0;
           returned = is_returned;
         },
@@ -208,4 +192,4 @@ xorb_decides xorbs are i x low is few decides = (
     stored = subst IsStoredXorb (sym is) (are.stored i x low)
 
     rows : xorb_row_count x ≤ MAX_ROWS
-    rows = omega (arith, one_of_sum xorb_row_count xorbs i x low, are.rows, ap xorb_row_count is)
+    rows = omega (arith, get_or-le-sum_by xorb_row_count xorbs i x low, are.rows, ap xorb_row_count is)

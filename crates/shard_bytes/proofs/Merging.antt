@@ -1,6 +1,6 @@
 -- A list of byte strings is merged by a tree with each of them at a leaf; of shards that agree it gives the bytes of their
 -- join.
-use Rattle.std.proofs.Common.{◌≡◌, inl, inr, ℕ, zero, suc, ◌+◌, ◌-◌, ◌/◌, ◌<◌, ◌≤◌, List, [], ◌∷◌, ◌++◌, length, map, get_or, Option, refl, sym, ap, ◌∙◌, subst, arith}
+use Rattle.std.proofs.Common.{◌≡◌, inl, inr, ℕ, zero, suc, ◌+◌, ◌-◌, ◌/◌, ◌<◌, ◌≤◌, List, [], ◌∷◌, ◌++◌, length, map, get_or, refl, sym, ap, ◌∙◌, subst, arith}
 use Rattle.std.specs.Prelude.{Contains}
 use Rattle.std.specs.List.{AllZip}
 use Rattle.std.proofs.lemmas.Bool.{cases_lt}
@@ -8,12 +8,12 @@ use Rattle.std.proofs.lemmas.List.Elements.{Contains-push, Contains-append_left,
 use Rattle.xet_core_structures.specs.declared.set_operations.MergePlan.{MergePlan}
 use Rattle.xet_core_structures.specs.declared.set_operations.MergePlan.TheVariants.{Leaf, Both'}
 use Rattle.xet_core_structures.specs.Records.ShardContents.{HoldsShard}
-use Rattle.xet_core_structures.specs.Joins.{HasWhatAnyHas, IsJoinOf}
 use Rattle.xet_core_structures.specs.KeyedHash.{no_key}
 use Rattle.xet_core_structures.specs.Trees.MergeTrees.{leaves, HasUnion, InputIs, IsMerge}
 use Rattle.xet_core_structures.specs.Shard.{Shard, empty_shard}
 use Rattle.xet_shards.proofs.Content.MappedShards.{mapped_member, unmapped_member}
 use Rattle.xet_core_structures.proofs.Records.Zipped.{zipped_made}
+use Rattle.xet_core_structures.proofs.Trees.SameTrees.{join_of_same}
 use Rattle.shard_bytes.specs.Merging.{IsBalanced, IsMergePlan, IsMergeOfList}
 
 only_member : (i j : ℕ) → Contains (j ∷ []) i → j ≡ i
@@ -66,22 +66,6 @@ plan_covers count (Both' p left q right) (inr (more, is)) = record {
   within = λ i member. let found = leaf_within 0 count (Both' p left q right) is i member in omega arith;
   each = λ i below. at_leaf 0 count (Both' p left q right) is i (omega arith) (omega arith);
 }
-
--- a join is that of any set with the same members
-module _ (A B : Shard → Type 0) (into : (s : Shard) → A s → B s) (back : (s : Shard) → B s → A s) (c : Shard) where
-  same_part : {X : Type 0} (part : Shard → Option X) → HasWhatAnyHas A c part → HasWhatAnyHas B c part
-  same_part part has = λ x. (
-    λ is. let found = (has x).0 is in (found.0, into found.0 found.1, found.2),
-    λ found. (has x).1 (found.0, back found.0 found.1, found.2),
-  )
-
-  pub join_of_same : IsJoinOf A c → IsJoinOf B c
-  join_of_same join = record {
-    xorbs = λ q. same_part _ (join.xorbs q);
-    segments = λ q. same_part _ (join.segments q);
-    parts = λ part q. same_part _ (join.parts part q);
-    follows = join.follows;
-  }
 
 input_at : (all : List Shard) (inputs : List (List ℕ)) → AllZip (HoldsShard no_key) all inputs → (i : ℕ) → i < length all → InputIs inputs (HoldsShard no_key (get_or all i empty_shard)) i
 input_at [] inputs are i below = absurd (omega (arith, below))

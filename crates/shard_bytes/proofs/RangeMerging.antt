@@ -13,8 +13,9 @@ use Rattle.xet_core_structures.specs.Trees.RangeTrees.{IsRangeMerge}
 use Rattle.xet_core_structures.specs.Shard.{Shard, empty_shard}
 use Rattle.xet_shards.proofs.Content.MappedShards.{mapped_member, unmapped_member}
 use Rattle.xet_core_structures.proofs.Records.Zipped.{zipped_made}
+use Rattle.xet_core_structures.proofs.Trees.SameTrees.{join_of_same}
 use Rattle.shard_bytes.specs.Merging.{IsRangeMergeOfList}
-use Rattle.shard_bytes.proofs.Merging.{Covers, within_any, join_of_same}
+use Rattle.shard_bytes.proofs.Merging.{Covers, within_any}
 
 module _ (key : DataHash) where
   input_at : (all : List Shard) (inputs : List (List ℕ)) → AllZip (HoldsShard key) all inputs → (i : ℕ) → i < length all → InputIs inputs (HoldsShard key (get_or all i empty_shard)) i

@@ -17,8 +17,6 @@ use Rattle.xet_core_structures.specs.FileRecord.{IsStored, as_read, file_record_
 use Rattle.xet_core_structures.specs.SectionReading.{HoldsRecords}
 use Rattle.xet_core_structures.specs.WithOptions.{FitsSection}
 use Rattle.xet_core_structures.specs.XorbRecord.{IsStoredXorb, xorb_records}
-use Rattle.xet_records.specs.declared.file_structs.header.FileDataSequenceHeader.{FileDataSequenceHeader}
-use Rattle.xet_records.specs.Part.{announces, flags_of}
 use Rattle.xet_records.specs.Limits.{MAX_ROWS}
 use Rattle.xet_shards.specs.Write.Section.{total_rows}
 use Rattle.xet_shards.specs.declared.shard_writer.LayoutOptions.{LayoutOptions}
@@ -87,11 +85,6 @@ pub record IsOneRead (bytes : List ℕ) (stored found : MDBFileInfo) : Type 0 wh
   pub rows : row_count stored ≤ MAX_ROWS
   pub bytes_are : bytes ≡ file_record_bytes stored
   pub returned : as_read stored ≡ found
-
--- the flags of a file's header announce optional parts and nothing else, and its reserved word is
--- zero
-abbrev pub IsPlainHeader : FileDataSequenceHeader → Type 0
-IsPlainHeader h = (h.file_flags ≡ flags_of (announces h.file_flags)) × (h._unused ≡ 0)
 
 -- these xorbs are stored in a section
 pub record AreXorbs (xorbs : List MDBXorbInfo) : Type 0 where

@@ -6,9 +6,10 @@ ghost use Rattle.std.specs.Prelude.{◌≡◌, ◌↔◌, ◌≤◌, List, IsTru
 ghost use Rattle.xet_core_structures.specs.declared.error.CoreError.{CoreError};
 ghost use Rattle.xet_core_structures.specs.declared.file_structs.MDBFileInfo.{MDBFileInfo};
 ghost use Rattle.xet_core_structures.specs.FileRecord.{IsWellFormed};
+ghost use Rattle.xet_core_structures.specs.Steps.Agreement.{IsPlainHeader};
 ghost use Rattle.xet_core_structures.specs.XorbRecord.{HasItsChunks, IsXorb, size_of_chunks};
 ghost use Rattle.shard_bytes.specs.declared.check.Section.TheVariants.{Files, Xorbs};
-ghost use Rattle.shard_bytes.specs.Steps.Checking.{AddsMalformed, AreRead, AreXorbs, IsOneRead, IsPlainHeader};
+ghost use Rattle.shard_bytes.specs.Steps.Checking.{AddsMalformed, AreRead, AreXorbs, IsOneRead};
 
 use super::{Finding, Section, push_unless};
 use std::alloc::Global;

@@ -1,9 +1,9 @@
 -- Of records that bytes hold, those that no shard may have. Without them the bytes hold a well-formed shard.
-use Rattle.std.proofs.Common.{◌≡◌, inl, inr, ℕ, zero, suc, ◌+◌, ◌<◌, ◌≤◌, List, [], ◌∷◌, length, get_or, true, Some, None, refl, sym, ap, ◌∙◌, subst, arith}
+use Rattle.std.proofs.Common.{◌≡◌, inl, inr, ℕ, ◌+◌, ◌<◌, ◌≤◌, List, [], ◌∷◌, length, get_or, true, Some, None, refl, sym, ap, ◌∙◌, subst, arith}
 use Rattle.std.specs.Prelude.{All, Contains, slice_get, sum_by}
 use Rattle.std.specs.FinMap.{get, entries}
 use Rattle.std.proofs.lemmas.List.Elements.{All-contains, All-map, Contains-get_or}
-use Rattle.std.proofs.lemmas.List.Sums.{sum_by-cons}
+use Rattle.std.proofs.lemmas.List.Sums.{get_or-le-sum_by}
 use Rattle.std.proofs.lemmas.Option.{same_Some, slice_get_within, slice_get-get_or}
 use Rattle.xet_base.specs.declared.merklehash.DataHash.{DataHash}
 use Rattle.xet_records.specs.declared.file_structs.MDBFileInfo.{MDBFileInfo}
@@ -76,11 +76,9 @@ module _ {H R : Type 0} (K : RecordKind H R) (allowed : R → Type 0) (placed : 
       let r = zip_at (Places K) placed rs n p places at in
       (r.0, has_at rs n r.0 r.1, key_placed K laws p r.0 r.2 ∙ sym hash, bad r.0 r.2)
 
--- an item is no more than the sum
+-- the number of an item is no more than the sum
 one_of_sum : {X : Type 0} (f : X → ℕ) (xs : List X) (x : X) → Contains xs x → f x ≤ sum_by f xs
-one_of_sum f [] x has = absurd (omega (arith, has.1))
-one_of_sum f (y ∷ xs) x (zero, low, at) = omega (arith, sum_by-cons f y xs, ap f at)
-one_of_sum f (y ∷ xs) x (suc i, low, at) = omega (arith, sum_by-cons f y xs, one_of_sum f xs x (i, omega (arith, low), at))
+one_of_sum f xs x (i, low, at) = omega (arith, get_or-le-sum_by f xs i x low, ap f at)
 
 -- what holds of each value of a map of a list holds of its entries
 entries_of_list : {H R : Type 0} (K : RecordKind H R) (Is : R → Type 0) (rs : List R) → Ascends K rs → ((r : R) → Contains rs r → Is r) → All (λ e. Is e.1) (entries (list_map K rs))
@@ -89,7 +87,7 @@ entries_of_list {R = R} K Is rs ascends each = λ k e below.
     each here.1 (subst (λ l. Contains l here.1) (values-list_map K rs ascends) (has_mapped (λ (d : DataHash × R). d.1) (entries (list_map K rs)) here (Contains-get_or (entries (list_map K rs)) k e below)))
 
 -- a file that was read has no reserved words in the rows of its parts
-file_clear : (r : MDBFileInfo) → AreClear (optional_rows (as_read r))
+pub file_clear : (r : MDBFileInfo) → AreClear (optional_rows (as_read r))
 file_clear r = (clear_parts (as_read r) true ((λ so. each), (λ all. refl))).0 refl where
   each : (part : OptionalPart) → AreClear (rows_of part (as_read r))
   each part = subst AreClear (sym (rows_of-returned r part)) (All-map (λ (row : HashRow). row._unused ≡ 0 ∷ 0 ∷ []) clear (rows_of part r) (λ k row below. refl))

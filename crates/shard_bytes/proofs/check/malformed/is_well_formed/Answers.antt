@@ -1,6 +1,6 @@
 use Rattle.std.proofs.Common.{◌≡◌, ◌++◌, IsTrue, false, rules, sym, ap, ◌∙◌, subst}
 use Rattle.xet_core_structures.specs.FileRecord.{file_record_bytes}
-use Rattle.shard_bytes.specs.Steps.Checking.{IsPlainHeader}
+use Rattle.xet_core_structures.specs.Steps.Agreement.{IsPlainHeader}
 use Rattle.shard_bytes.proofs.Malformed.{one_whole, plain_header, same_rows_written, formed_if}
 use Rattle.shard_bytes.proofs.check.malformed.is_well_formed.Goals as goal
 
