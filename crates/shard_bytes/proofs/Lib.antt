@@ -16,7 +16,6 @@ pub mod Keeping
 pub mod Malformed
 pub mod MemoryErrors
 pub mod Merging
-pub mod RangeMerging
 pub mod MinimalSizes
 pub mod Reading
 pub mod Recording

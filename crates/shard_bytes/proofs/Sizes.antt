@@ -1,10 +1,13 @@
 -- How large unions and differences of byte strings are.
-use Rattle.std.proofs.Common.{◌≡◌, inl, inr, ℕ, zero, suc, ◌+◌, ◌-◌, ◌/◌, List, [], ◌∷◌, length, Some, refl, ap, subst, arith}
-use Rattle.std.specs.Prelude.{sum_by, slice_get, slice_index_or}
+use Rattle.std.proofs.Common.{◌≡◌, inl, inr, ℕ, zero, suc, ◌+◌, ◌-◌, ◌/◌, List, [], ◌∷◌, length, Some, Ok, Err, refl, sym, ap, subst, arith}
+use Rattle.std.specs.Prelude.{IfOk, MatchResult, sum_by, slice_get, slice_index_or}
+use Rattle.std.specs.declared.result.Result.{Result}
 use Rattle.std.proofs.lemmas.List.Sums.{sum_by-append, sum_by-cons}
+use Rattle.xet_core_structures.specs.declared.error.CoreError.{CoreError}
 use Rattle.xet_core_structures.specs.declared.set_operations.MergePlan.{MergePlan}
 use Rattle.xet_core_structures.specs.declared.set_operations.MergePlan.TheVariants.{Leaf, Both'}
 use Rattle.xet_core_structures.specs.TwoShards.ByteResults.{UnitesBytes}
+use Rattle.xet_core_structures.specs.Trees.Filling.{FillsWith}
 use Rattle.xet_core_structures.specs.Trees.MergeTrees.{leaves, TreeWrites}
 use Rattle.xet_core_structures.specs.Records.Sizes.{bytes_at}
 use Rattle.xet_core_structures.specs.declared.set_operations.ranges.HashRange.{HashRange}
@@ -91,3 +94,14 @@ size_of_range range inputs (Both' p left q right) out (inl (one, (first, second)
     omega (arith, bytes_of_repeated_range range x_is.0 x y out x_is.2 (subst (λ b. IsRangeOf range b y) same y_is.2) unites, only_input inputs x_is.0 one x_is.1)
 size_of_range range inputs (Both' p left q right) out (inr (more, balanced)) writes =
     omega (arith, bytes_of_range range inputs (Both' p left q right) out tt writes, balanced_bytes inputs 0 (length inputs) (Both' p left q right) balanced, sizes_of_all inputs)
+
+-- what follows of what is made follows of a result
+pub if_made : {T E : Type 0} (r : Result T E) (P Q : T → Type 0) (Refused : E → Type 0) → ((v : T) → P v → Q v) → MatchResult r P Refused → IfOk r Q
+if_made (Ok v) P Q Refused weaker is = weaker v is
+if_made (Err e) P Q Refused weaker is = tt
+
+-- what is said of the size of the bytes is said of the number that is returned
+pub size_returned : (IsMade : List ℕ → Type 0) (IsCause : CoreError → Type 0) (inputs : List (List ℕ)) (old new : List ℕ) (r : Result ℕ CoreError) → ((bytes : List ℕ) → IsMade bytes → IsResultSize inputs (length bytes))
+    → FillsWith IsMade IsCause old new r → IfOk r (IsResultSize inputs)
+size_returned IsMade IsCause inputs old new (Ok n) says (bytes, made, (is, filled)) = subst (IsResultSize inputs) (sym is) (says bytes made)
+size_returned IsMade IsCause inputs old new (Err e) says refused = tt

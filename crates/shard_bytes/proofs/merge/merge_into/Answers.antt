@@ -1,27 +1,17 @@
-use Rattle.std.proofs.Common.{ℕ, List, Ok, Err, length, map, Bor, sym, subst}
-use Rattle.std.specs.Prelude.{IfOk}
-use Rattle.std.specs.declared.result.Result.{Result}
+use Rattle.std.proofs.Common.{ℕ, List, length, map, Bor, sym, subst}
 use Rattle.std.proofs.lemmas.List.{length-map}
-use Rattle.xet_core_structures.specs.declared.error.CoreError.{CoreError}
-use Rattle.xet_core_structures.specs.Trees.Filling.{FillsWith}
+use Rattle.xet_core_structures.specs.KeyedHash.{no_key}
 use Rattle.shard_bytes.specs.Merging.{IsMergePlan}
-use Rattle.shard_bytes.specs.Sizes.{IsResultSize}
 use Rattle.shard_bytes.proofs.Merging.{plan_covers, at_leaves, merges}
-use Rattle.shard_bytes.proofs.Sizes.{size_of_merge}
+use Rattle.shard_bytes.proofs.Sizes.{size_of_merge, size_returned}
 use Rattle.shard_bytes.proofs.merge.merge_into.Goals as goal
-
--- what is said of the size of the bytes is said of the number that is returned
-size_returned : (IsMade : List ℕ → Type 0) (IsCause : CoreError → Type 0) (inputs : List (List ℕ)) (old new : List ℕ) (r : Result ℕ CoreError) → ((bytes : List ℕ) → IsMade bytes → IsResultSize inputs (length bytes))
-    → FillsWith IsMade IsCause old new r → IfOk r (IsResultSize inputs)
-size_returned IsMade IsCause inputs old new (Ok n) says (bytes, made, (is, filled)) = subst (IsResultSize inputs) (sym is) (says bytes made)
-size_returned IsMade IsCause inputs old new (Err e) says refused = tt
 
 pub returns-clause-one_byte_string : goal.returns-clause-one_byte_string
 returns-clause-one_byte_string c = λ all join have.
     let inputs = map (λ (x : Bor (List ℕ)). x.now) c.args.shards.now in
     let covers = plan_covers (length inputs) c.in_ok-plan.plan
     (subst (λ n. IsMergePlan n c.in_ok-plan.plan) (sym (length-map c.args.shards.now (λ (x : Bor (List ℕ)). x.now))) c.in_ok-plan.ensures.ok) in
-    c.shard_union_tree_into.ensures.one_byte_string (at_leaves all inputs join have c.in_ok-plan.plan covers) join (merges all inputs join have c.in_ok-plan.plan covers)
+    c.shard_union_tree_into.ensures.one_byte_string (at_leaves no_key all inputs have.are_held c.in_ok-plan.plan covers) join (merges all inputs join have c.in_ok-plan.plan covers)
 
 pub returns-clause-size : goal.returns-clause-size
 returns-clause-size c =
