@@ -137,17 +137,13 @@ pub fn find_malformed(alloc: Global, inputs: &[&[u8]]) -> Result<Option<Malforme
         (HoldMalformed (map (λ x. x.now) inputs.now)))
         (InputsRefusal (map (λ x. x.now) inputs.now)) }
 {
-    let mut at = 0;
-    while at < inputs.len() {
+    for at in 0..inputs.len() {
         let shard = place_input(alloc, input_at(inputs, at))?;
-        match malformed_in(alloc, &shard)? {
-            Some(record_hash) => {
-                return Ok(Some(MalformedRecord {
-                    record_hash,
-                    input: at,
-                }));
-            }
-            None => at += 1,
+        if let Some(record_hash) = malformed_in(alloc, &shard)? {
+            return Ok(Some(MalformedRecord {
+                record_hash,
+                input: at,
+            }));
         }
     }
     Ok(None)
@@ -160,13 +156,13 @@ fn malformed_in(alloc: Global, shard: &PlacedShard<'_>) -> Result<Option<RecordH
         (λ e. e ≡ OutOfMemory) }
 {
     let file = find_malformed_record::<MDBFileInfo, OfUnion>(alloc, shard.files.as_slice())?;
+    if let Some(hash) = file {
+        return Ok(Some(RecordHash::File(hash)));
+    }
     let xorb = find_malformed_record::<MDBXorbInfo, OfUnion>(alloc, shard.xorbs.as_slice())?;
-    match file {
-        Some(hash) => Ok(Some(RecordHash::File(hash))),
-        None => match xorb {
-            Some(hash) => Ok(Some(RecordHash::Xorb(hash))),
-            None => Ok(None),
-        },
+    match xorb {
+        Some(hash) => Ok(Some(RecordHash::Xorb(hash))),
+        None => Ok(None),
     }
 }
 

@@ -1,10 +1,7 @@
-use Rattle.std.proofs.Common.{ℕ, ◌-◌, ◌<◌, length, map}
+use Rattle.std.proofs.Common.{ℕ, ◌<◌, map}
 use Rattle.xet_shards.specs.Content.Shard.{Shard, IsShard}
 use Rattle.xet_core_structures.specs.Agreement.Agreement.{HoldsAt}
 use Rattle.xet_core_structures.proofs.set_operations.agreement.find_malformed.Given as goal
 
 abbrev pub invariant-loop-at : goal.invariant-loop-at
 invariant-loop-at l = (i : ℕ) → i < l.at → (s : Shard) × HoldsAt (map (λ x. x.now) l.inputs) i s × IsShard s
-
-abbrev pub decreases-loop-at : goal.decreases-loop-at
-decreases-loop-at l = length l.inputs - l.at
