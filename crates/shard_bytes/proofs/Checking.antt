@@ -97,7 +97,7 @@ adds_as Well Fair One Other a b to from adds = record {
   notes = adds.notes;
 }
 
--- what follows from their absence
+-- facts that follow from those that hold if no finding, or only notes, were added
 pub adds_well : (P F Q G : Type 0) (IsSo : Finding → Type 0) (a b : List Finding) → (P → Q) → (F → G) → Adds P F IsSo a b → Adds Q G IsSo a b
 adds_well P F Q G IsSo a b well fair adds = record {
   more = adds.more;

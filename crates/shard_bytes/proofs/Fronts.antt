@@ -1,4 +1,4 @@
--- What a lookup put in front of a list, taken from it.
+-- The entries that a lookup put at the front of a list, taken from it.
 use Rattle.std.proofs.Common.{◌≡◌, ℕ, ◌≤◌, List, length, map, take, drop, sym, ap, ◌∙◌, subst, arith}
 use Rattle.std.proofs.lemmas.List.{length-map, length-take-le, take-append-le, take_all}
 use Rattle.xet_core_structures.specs.declared.xorb_structs.MDBXorbInfo.{MDBXorbInfo}

@@ -1,4 +1,4 @@
--- What shards in a row write to memory is what is returned.
+-- The bytes that shards in a row append to an empty vector are the concatenation.
 use Rattle.std.proofs.Common.{◌≡◌, ◌⊎◌, inl, inr, ℕ, List, [], ◌++◌, Some, ap, ◌∙◌}
 use Rattle.std.specs.Io.KnownBytes.{Appends}
 use Rattle.xet_core_structures.specs.declared.error.CoreError.{CoreError}
@@ -8,7 +8,7 @@ use Rattle.xet_core_structures.specs.InARow.{AppendsShardsInARow}
 use Rattle.xet_core_structures.specs.Shard.{Shard}
 use Rattle.shard_bytes.specs.InARow.{IsConcatenation}
 
--- what was appended to nothing is what is there
+-- after bytes were appended to nothing, they are all that is there
 pub appended_is : (items old now : List ℕ) → old ≡ [] → Appends (Some old) (Some now) items → now ≡ items
 appended_is items old now none wrote = wrote ∙ ap (λ xs. xs ++ items) none
 

@@ -1,4 +1,4 @@
--- Records that no shard may have: each of those in bytes is found.
+-- Each record in bytes that no shard may have is found.
 use Rattle.std.proofs.Common.{◌≡◌, ◌⊎◌, ◌↔◌, inl, inr, Bool, ℕ, ◌+◌, ◌*◌, ◌<◌, ◌≤◌, List, [], ◌∷◌, ◌++◌, length, flat_map, drop, get_or, Some, refl, sym, ap, ◌∙◌, subst, append_assoc, add-one, drop-cons, arith}
 use Rattle.std.specs.Prelude.{All, IsTrue, slice_get, if◌then◌else◌}
 use Rattle.std.proofs.lemmas.List.{length-append, length-map, get_or-map}
@@ -108,7 +108,7 @@ module _ (bytes : List ℕ) (r file : MDBFileInfo) (one : IsOneRead bytes r file
         widths = one.is_stored.widths;
       }
 
--- the rows that are left once some files are passed
+-- the rows that are left after the first files
 pub record Left (rs : List MDBFileInfo) (i : ℕ) (rest : List ℕ) : Type 0 where
   pub tail : List ℕ
   pub bytes_are : rest ≡ flat_map file_record_bytes (drop i rs) ++ tail

@@ -1,4 +1,4 @@
--- The records of a shard make it again; and why they are not read.
+-- The records of a shard make it again. Reading them fails for the causes that are stated.
 use Rattle.std.proofs.Common.{◌≡◌, ◌⊎◌, inl, inr, ℕ, ◌+◌, ◌≤◌, List, [], ◌∷◌, map, drop, refl, sym, ap, ◌∙◌, subst, arith}
 use Rattle.std.specs.Prelude.{All, sum_by}
 use Rattle.std.specs.FinMap.{entries, entries_sorted, values, empty, insert}

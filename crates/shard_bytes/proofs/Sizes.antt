@@ -83,7 +83,7 @@ size_of_result Union x y out unites = omega (arith, bytes_of_union x y out unite
 size_of_result Difference x y out (i, j, c, x_ends, y_ends, result, is) =
     omega (arith, ap length is, bytes_of_difference x y i j c x_ends y_ends result, sum_by-cons length y [])
 
--- a range of a merge has no more
+-- a range of a merge has no more bytes than a merge may have
 pub size_of_range : (range : HashRange) (inputs : List (List ℕ)) (plan : MergePlan) (out : List ℕ) → IsMergePlan (length inputs) plan → RangeWrites range inputs plan out → IsResultSize inputs (length out)
 size_of_range range inputs (Leaf i) out (inl (one, none)) writes = absurd none
 size_of_range range inputs (Leaf i) out (inr (more, (one, is))) writes = absurd (omega arith)
@@ -95,7 +95,7 @@ size_of_range range inputs (Both' p left q right) out (inl (one, (first, second)
 size_of_range range inputs (Both' p left q right) out (inr (more, balanced)) writes =
     omega (arith, bytes_of_range range inputs (Both' p left q right) out tt writes, balanced_bytes inputs 0 (length inputs) (Both' p left q right) balanced, sizes_of_all inputs)
 
--- what follows of what is made follows of a result
+-- a fact on each value that is made is one on the result
 pub if_made : {T E : Type 0} (r : Result T E) (P Q : T → Type 0) (Refused : E → Type 0) → ((v : T) → P v → Q v) → MatchResult r P Refused → IfOk r Q
 if_made (Ok v) P Q Refused weaker is = weaker v is
 if_made (Err e) P Q Refused weaker is = tt

@@ -59,8 +59,8 @@ pub fn merge_into(alloc: Global, shards: &[&[u8]], out: &mut [u8]) -> Result<usi
 
 /// The bytes of a shard with the records in a range of the union that [`merge_bytes`] makes, files
 /// and xorbs each by their own hash. Well-formed shards under one key that agree pairwise give, in
-/// any order, the records of their join in the range. They are at most 344 and 8/3 of the inputs'
-/// bytes.
+/// any order, the records of their join in the range. The bytes are at most 344 and 8/3 of the
+/// inputs'.
 ///
 /// `InvalidArguments` if the list is empty. Else the errors are those of [`merge_range`].
 pub fn merge_range_bytes(alloc: Global, shards: &[&[u8]], range: &HashRange) -> Result<Vec<u8>>
