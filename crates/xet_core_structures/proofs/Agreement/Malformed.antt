@@ -1,4 +1,4 @@
--- Of records that bytes hold, those that no shard may have. Without them the bytes hold a well-formed shard.
+-- Records in bytes that no shard may have. Bytes without such records hold a well-formed shard.
 use Rattle.std.proofs.Common.{◌≡◌, inl, inr, ℕ, ◌+◌, ◌<◌, ◌≤◌, List, [], ◌∷◌, length, get_or, true, Some, None, refl, sym, ap, ◌∙◌, subst, arith}
 use Rattle.std.specs.Prelude.{All, Contains, slice_get, sum_by}
 use Rattle.std.specs.FinMap.{get, entries}
@@ -80,7 +80,7 @@ module _ {H R : Type 0} (K : RecordKind H R) (allowed : R → Type 0) (placed : 
 one_of_sum : {X : Type 0} (f : X → ℕ) (xs : List X) (x : X) → Contains xs x → f x ≤ sum_by f xs
 one_of_sum f xs x (i, low, at) = omega (arith, get_or-le-sum_by f xs i x low, ap f at)
 
--- what holds of each value of a map of a list holds of its entries
+-- what holds of each record of a list holds of the entries of its map
 entries_of_list : {H R : Type 0} (K : RecordKind H R) (Is : R → Type 0) (rs : List R) → Ascends K rs → ((r : R) → Contains rs r → Is r) → All (λ e. Is e.1) (entries (list_map K rs))
 entries_of_list {R = R} K Is rs ascends each = λ k e below.
     let here : DataHash × R = get_or (entries (list_map K rs)) k e in
@@ -169,7 +169,7 @@ module _ (shard : PlacedShard) (bytes : List ℕ) (is : IsPlacedOf shard bytes) 
       let bad = found records_in.xorbs united_in.places.xorbs in
       (the_shard, has_shard, (bad.0, under_hash xorb_records records_in.xorbs united_in.xorbs_ascend q bad.0 bad.1 bad.2, λ formed. bad.3 formed.bytes))
 
--- what inputs hold is well-formed, if each holds such
+-- if each input holds a well-formed shard, every shard that an input holds is well-formed
 pub held_formed : (inputs : List (List ℕ)) → HoldShards inputs → (s : Shard) → IsHeld inputs s → IsShard s
 held_formed inputs hold s (i, (x, x_at, has)) =
     let one = hold i (slice_get_within inputs i x x_at) in

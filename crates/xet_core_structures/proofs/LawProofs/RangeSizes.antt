@@ -1,4 +1,4 @@
--- What a tree of unions writes of a range has a bound in the bytes of its inputs.
+-- The bytes that a tree of unions writes of a range are bounded by those of its inputs.
 use Rattle.std.proofs.Common.{◌≡◌, ℕ, ◌+◌, ◌*◌, ◌≤◌, List, [], length, sym, ap, ◌∙◌, subst, arith}
 use Rattle.std.specs.Prelude.{slice_index_or}
 use Rattle.std.proofs.lemmas.List.Sums.{sum_by-append}

@@ -28,7 +28,7 @@ zipped_back R (a ∷ ks) (c ∷ bs) (here, rest) b (zero, low, at) = (a, (0, ome
 zipped_back R (a ∷ ks) (c ∷ bs) (here, rest) b (suc k, low, at) =
     let found = zipped_back R ks bs rest b (k, omega (arith, low), at) in (found.0, Contains-append_right (a ∷ []) ks found.0 found.1, found.2)
 
--- what is kept was there, and passes
+-- a value that is left by a test was there, and the test was passed
 pub kept : {X : Type 0} (b : Bool) (o : Option X) (x : X) → (if b then o else None) ≡ Some x → (b ≡ true) × (o ≡ Some x)
 kept true o x are = (refl, are)
 kept false o x are = absurd (none-some x are)

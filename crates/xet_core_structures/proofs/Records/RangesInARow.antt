@@ -140,7 +140,7 @@ module _ {X : Type 0} where
     values_are : values n ≡ values a ++ values b
     values_are = ap (map (λ (e : DataHash × X). e.1)) entries_are ∙ map-append (λ (e : DataHash × X). e.1) (entries a) (entries b)
 
--- so are those of many
+-- parts in ranges that follow one another have the records of the whole, one part after another
 pub ranges_in_a_row : (from : Option DataHash) (ks : List DataHash) (to : Option DataHash) (all whole : Shard) (parts : List Shard) → AreCuts from ks to → IsPartOf (is_within (record { from = from; to = to })) all whole
     → AllZip (λ range part. IsPartOf (is_within range) all part) (ranges_between from ks to) parts → AreInARow parts whole
 ranges_in_a_row from [] to all whole [] cuts is are = absurd are

@@ -1,4 +1,4 @@
--- What is written of ranges that follow one another are parts in a row.
+-- Layouts of the parts of a shard in ranges that follow one another are parts in a row.
 use Rattle.std.proofs.Common.{◌≡◌, ℕ, ◌<◌, List, [], ◌∷◌, ◌++◌, map, flat_map, length, None, refl, sym, ap, ◌∙◌, subst, arith}
 use Rattle.std.specs.Prelude.{All}
 use Rattle.std.specs.FinMap.{values}
@@ -26,7 +26,7 @@ use Rattle.xet_core_structures.proofs.Records.RangesInARow.{ranges_in_a_row}
 abbrev laid : DataHash → Shard → ShardPart
 laid key s = record { files = values s.files; xorbs = values s.xorbs; version = V3; key = key; creation = 0; expiry = 18446744073709551615 }
 
--- what holds a shard under a key fits
+-- the part of a well-formed shard under a key fits its rows
 part_under : (key : DataHash) (s : Shard) (bytes : List ℕ) → IsHeldLayout key s bytes → IsPartUnder key (laid key s)
 part_under key s bytes is =
     let plain : FitsFooter (footer_value (values s.files) (values s.xorbs) (keyed_options (record { word0 = 0; word1 = 0; word2 = 0; word3 = 0 }))) = plain_widths s is.holds.shard in
@@ -44,7 +44,7 @@ part_under key s bytes is =
       };
     }
 
--- those of many
+-- the parts that are laid out for some shards under a key
 record AreLaid (key : DataHash) (shards : List Shard) (bytes : List (List ℕ)) : Type 0 where
   pub parts : List ShardPart
   pub fit : All (IsPartUnder key) parts
