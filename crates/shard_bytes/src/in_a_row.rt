@@ -27,8 +27,8 @@ use xet_shards::shard_writer::shards_in_a_row;
 /// So a merge may be made range by range, on many machines, and then be put together. If the merged
 /// shards are well-formed, have one key and agree pairwise, the results of
 /// [`merge_range_bytes`](crate::merge::merge_range_bytes) for ranges that follow one another
-/// without a gap give the bytes of the one merge. Sections and tables are copied and not checked:
-/// if shards are not trusted, [`check_bytes`](crate::check::check_bytes) checks the result.
+/// without a gap give the bytes of the one merge. Records are copied and not checked: if shards are
+/// not trusted, [`check_bytes`](crate::check::check_bytes) checks the result.
 ///
 /// The errors are those of [`shards_in_a_row`], and `OutOfMemory` if an allocation fails.
 pub fn concatenate(alloc: Global, shards: &[&[u8]]) -> Result<Vec<u8>>
