@@ -19,7 +19,7 @@ const HEADER_SIZE: usize = 48;
 /// The size of a header and a footer, in bytes.
 const ENDS_SIZE: usize = 248;
 
-/// The bytes of a file that is no shard, or what is left of standard input if the path is `-`.
+/// All bytes of a file, or what is left of standard input if the path is `-`.
 pub fn read<R: Files + Input + AllocGlobal>(rt: &R, path: &str) -> io::Result<Vec<u8>> {
     if path != STANDARD_STREAM {
         return fs::read(rt, path);

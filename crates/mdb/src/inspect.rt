@@ -1,7 +1,7 @@
 //! The commands that print.
 
 use crate::failure::{Failure, Subject};
-use crate::files::{Contents, open_sized, read_ends, read_shard};
+use crate::files::{open_sized, read, read_ends, read_shard};
 use crate::inputs::Inputs;
 use crate::run::{Status, failed};
 use mdb_report::fault::{Fault, fault_of, section_fault};
@@ -113,6 +113,18 @@ fn inspect_file<'a, R: Files + Input + AllocGlobal, W: Write>(
     }
 }
 
+// What is read of a file that is read from its start: for a hash all bytes, also of what is no shard.
+fn read_for<R: Files + Input + AllocGlobal>(
+    rt: &R,
+    inquiry: &Inquiry,
+    file: &str,
+) -> io::Result<Vec<u8>> {
+    match inquiry {
+        Inquiry::Name { .. } | Inquiry::Check { key: Some(_), .. } => read(rt, file),
+        _ => read_shard(rt, file).map(|contents| contents.bytes),
+    }
+}
+
 fn inspect_whole<'a, R: Files + Input + AllocGlobal, W: Write>(
     rt: &R,
     file: &'a str,
@@ -122,8 +134,8 @@ fn inspect_whole<'a, R: Files + Input + AllocGlobal, W: Write>(
     output: &mut W,
 ) -> Result<Answer, Failure<'a>> {
     let alloc = rt.alloc();
-    let bytes = match read_shard(rt, file) {
-        Ok(Contents { bytes, .. }) => bytes,
+    let bytes = match read_for(rt, inquiry, file) {
+        Ok(bytes) => bytes,
         Err(error) => return Err(Failure::on_file(file, Fault::from(error))),
     };
     match print_answer(
