@@ -249,7 +249,7 @@ const INQUIRIES: &[Row] = &[
                 HASH_KEY,
                 "hash-key",
                 Value,
-                "With --name: the key, of 64 hexadecimal digits, under which the bytes have the hash in the name"
+                "Checks too that each name has the hash of the bytes under this key, of 64 hexadecimal digits"
             ),
             JSON,
         ],

@@ -35,8 +35,8 @@ pub enum Inquiry {
     Summary,
     /// The same in a line, without where the parts are.
     Brief,
-    /// What is not as the library would write it, and with `named` whether the file has the name of
-    /// a shard: with a key, the one that its bytes have.
+    /// What is not as the library would write it; with `named` also whether the file has the name of
+    /// a shard, and with a key whether it has the name that its bytes have under this key.
     Check {
         named: bool,
         key: Option<HMACKey>,

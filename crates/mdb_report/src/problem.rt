@@ -194,8 +194,8 @@ pub fn problems_under_key(
     Ok(problems)
 }
 
-/// The problems that a check of a file at a path is to find: those of its bytes, and of its name if
-/// that is to be the name of a shard, under a key if one is given.
+/// The problems that a check of a file at a path is to find: those of its bytes, and, with `named` or
+/// a key, that of its name. With a key the name has to have the hash of the bytes under it.
 ///
 /// The only error is `OutOfMemory`.
 pub fn problems_asked(
@@ -210,12 +210,10 @@ pub fn problems_asked(
         (λ problems. All IsNoted problems.items → IsIntact bytes.now) }
     ensures causes { IfErr result (λ e. e ≡ CoreError.OutOfMemory) }
 {
-    if !named {
-        return problems_of_bytes(alloc, bytes);
-    }
     match key {
         Some(key) => problems_under_key(alloc, file_name(path), key, bytes),
-        None => problems_of(alloc, file_name(path), bytes),
+        None if named => problems_of(alloc, file_name(path), bytes),
+        None => problems_of_bytes(alloc, bytes),
     }
 }
 
