@@ -1,7 +1,7 @@
 //! What a command line asks for.
 
 use crate::request::{
-    Compaction, Dropping, HashList, Making, Merge, Request, Sources, Strictness, Target,
+    Compaction, HashList, Making, Merge, Removal, Request, Sources, Strictness, Target,
 };
 use crate::{command_line, id};
 use clap::error::ErrorKind;
@@ -253,18 +253,18 @@ fn making_in<'a>(
             subset_in(alloc, matches, now)?,
             hash_list_in(matches),
         ),
-        "drop" => Making::Drop(dropping_in(alloc, matches)?),
+        "drop" => Making::Drop(removal_in(alloc, matches)?),
         _ => return Ok(None),
     };
     Ok(Some(making))
 }
 
-fn dropping_in<'a>(alloc: Global, matches: &ArgMatches<'a>) -> Result<Dropping<'a>, Refusal<'a>> {
+fn removal_in<'a>(alloc: Global, matches: &ArgMatches<'a>) -> Result<Removal<'a>, Refusal<'a>> {
     let list = hash_list_in(matches);
     if list.is_none() && !matches.contains_id(id::HASHES) {
         return Err(Refusal::Missing(id::HASHES));
     }
-    Ok(Dropping {
+    Ok(Removal {
         file: text_of(matches, id::FILE)?,
         hashes: given_hashes(alloc, matches, id::HASHES)?,
         list,

@@ -19,7 +19,7 @@ pub fn add_listed<'a, R: Files + Input + AllocGlobal>(
     };
     match request {
         Request::Inspect(_, inquiry, _) => add_to_inquiry(rt, list, inquiry),
-        Request::Make(Making::Drop(dropping), _) => add_from(rt, list, &mut dropping.hashes),
+        Request::Make(Making::Drop(removal), _) => add_from(rt, list, &mut removal.hashes),
         Request::Make(Making::Subset(_, subset, _), _) => {
             let mut listed = Vec::new(rt.alloc());
             add_from(rt, list, &mut listed)?;
@@ -40,7 +40,7 @@ pub fn add_listed<'a, R: Files + Input + AllocGlobal>(
 fn list_of<'a>(request: &Request<'a>) -> Option<HashList<'a>> {
     match request {
         Request::Inspect(sources, _, _) => sources.hashes,
-        Request::Make(Making::Drop(dropping), _) => dropping.list,
+        Request::Make(Making::Drop(removal), _) => removal.list,
         Request::Make(Making::Subset(_, _, list), _) => *list,
         _ => None,
     }

@@ -2,9 +2,9 @@
 
 use crate::beside::leftovers;
 use crate::blame::blamed;
-use crate::dropping::without_records;
 use crate::failure::Failure;
 use crate::files::{Contents, STANDARD_STREAM, read_shard, write};
+use crate::record_removal::remove_records;
 use crate::request::{Making, Target};
 use mdb_report::fault::{Fault, export_fault, fault_of, minimal_fault, version_2_fault};
 use shard_bytes::combine::{Operation, combine_bytes};
@@ -95,7 +95,7 @@ fn made<'a, R: Files + Input + Eprint + AllocGlobal>(
         Making::Export(file, export) => exported(rt, file, export),
         Making::Minimal(file, now, kept) => minimal(rt, file, *now, *kept),
         Making::Subset(file, kept, _) => subset(rt, file, kept),
-        Making::Drop(dropping) => without_records(rt, dropping),
+        Making::Drop(removal) => remove_records(rt, removal),
     }
 }
 

@@ -2,7 +2,7 @@
 
 use crate::blame::{blamed, disagreement, malformed, on_all};
 use crate::compaction::merge_groups;
-use crate::expired::without_expired;
+use crate::expiry::without_expired;
 use crate::failure::Failure;
 use crate::files::{Contents, STANDARD_STREAM};
 use crate::make::{contents_of, in_version, put};

@@ -57,12 +57,12 @@ pub enum Making<'a> {
     Minimal(&'a str, u64, KeptParts),
     /// The xorbs to keep may be listed besides.
     Subset(&'a str, Subset, Option<HashList<'a>>),
-    Drop(Dropping<'a>),
+    Drop(Removal<'a>),
 }
 
-/// The records that are taken out of a shard.
+/// Which records are taken out of a shard.
 #[derive(Drop)]
-pub struct Dropping<'a> {
+pub struct Removal<'a> {
     pub file: &'a str,
     pub hashes: Vec<MerkleHash>,
     /// The list of more of them.

@@ -3,7 +3,7 @@
 use crate::blame::blamed;
 use crate::failure::Failure;
 use crate::make::bytes_of;
-use crate::request::Dropping;
+use crate::request::Removal;
 use crate::rounds::block::{put_bookend, put_footer};
 use mdb_report::fault::{Fault, fault_of};
 use mdb_report::section::Section;
@@ -12,7 +12,7 @@ use shard_bytes::expiry::with_expiry;
 use shard_bytes::load::load_bytes;
 use std::alloc::Global;
 use std::rt::Files;
-use xet_core_structures::error::{CoreError, Result as ShardResult};
+use xet_core_structures::error::Result as ShardResult;
 use xet_core_structures::file_structs::FileDataSequenceHeader;
 use xet_core_structures::merklehash::{HMACKey, MerkleHash};
 use xet_core_structures::shard_format::{MDBShardFileHeader, MDBShardInfo};
@@ -21,52 +21,41 @@ use xet_records::record_reader::FormatVersion;
 
 /// The bytes of a shard without the files and xorbs that have some hashes: its difference from a
 /// shard of records with these hashes. A hash that no record has is reported, and is a failure.
-pub fn without_records<'a, R: Files + Input + Eprint + AllocGlobal>(
+pub fn remove_records<'a, R: Files + Input + Eprint + AllocGlobal>(
     rt: &R,
-    dropping: &Dropping<'a>,
+    removal: &Removal<'a>,
 ) -> Result<Vec<u8>, Failure<'a>> {
     let alloc = rt.alloc();
-    let file = dropping.file;
+    let file = removal.file;
     let bytes = bytes_of(rt, file)?;
-    let dropped = match load_bytes(alloc, bytes.as_slice()) {
-        Ok(info) => {
-            has_records(
-                rt,
-                file,
-                bytes.as_slice(),
-                &info,
-                dropping.hashes.as_slice(),
-            )?;
-            hash_shard(
-                alloc,
-                dropping.hashes.as_slice(),
-                info.metadata.chunk_hash_hmac_key,
-            )
-        }
-        Err(error) => Err(error),
+    let bytes = bytes.as_slice();
+    let hashes = removal.hashes.as_slice();
+    let info = match load_bytes(alloc, bytes) {
+        Ok(info) => info,
+        Err(error) => return Err(Failure::on_file(file, fault_of(alloc, bytes, error))),
     };
-    let dropped = match dropped {
-        Ok(dropped) => dropped,
-        Err(error) => return Err(failed_on(alloc, file, bytes.as_slice(), error)),
-    };
-    let kept = combine_bytes(
-        alloc,
-        Operation::Difference,
-        dropped.as_slice(),
-        bytes.as_slice(),
-    );
-    let written = match (kept, dropping.expiry) {
-        (Ok(kept), Some(expiry)) => with_expiry(alloc, kept, expiry),
-        (kept, _) => kept,
-    };
-    match written {
-        Ok(written) => Ok(written),
-        Err(error) => Err(blamed(alloc, &[file], &[bytes.as_slice()], error)),
+    has_records(rt, file, bytes, &info, hashes)?;
+    match difference(alloc, bytes, &info, hashes, removal.expiry) {
+        Ok(rest) => Ok(rest),
+        Err(error) => Err(blamed(alloc, &[file], &[bytes], error)),
     }
 }
 
-fn failed_on<'a>(alloc: Global, file: &'a str, bytes: &[u8], error: CoreError) -> Failure<'a> {
-    Failure::on_file(file, fault_of(alloc, bytes, error))
+// The difference of a shard, which has this header and footer, from a shard of these hashes, with an
+// expiry if one is wanted.
+fn difference(
+    alloc: Global,
+    bytes: &[u8],
+    info: &MDBShardInfo,
+    hashes: &[MerkleHash],
+    expiry: Option<u64>,
+) -> ShardResult<Vec<u8>> {
+    let removed = hash_shard(alloc, hashes, info.metadata.chunk_hash_hmac_key)?;
+    let rest = combine_bytes(alloc, Operation::Difference, removed.as_slice(), bytes)?;
+    match expiry {
+        Some(expiry) => with_expiry(alloc, rest, expiry),
+        None => Ok(rest),
+    }
 }
 
 // Reports each hash that no record of the shard has, and fails if there is one.
@@ -101,23 +90,53 @@ fn has_records<'a, R: Eprint + AllocGlobal>(
 
 // The hashes of the files and of the xorbs of a shard.
 fn record_hashes(alloc: Global, bytes: &[u8], info: &MDBShardInfo) -> ShardResult<Vec<MerkleHash>> {
-    let mut hashes = Vec::new(alloc);
     let version = FormatVersion::of_header(info.header.version);
-    let mut files = Section::new(bytes_from(bytes, info.metadata.file_info_offset), version);
-    for _ in 0..bytes.len() {
+    let mut hashes = Vec::new(alloc);
+    let files = bytes_from(bytes, info.metadata.file_info_offset);
+    push_file_hashes(
+        alloc,
+        Section::new(files, version),
+        bytes.len(),
+        &mut hashes,
+    )?;
+    let xorbs = bytes_from(bytes, info.metadata.xorb_info_offset);
+    push_xorb_hashes(
+        alloc,
+        Section::new(xorbs, version),
+        bytes.len(),
+        &mut hashes,
+    )?;
+    Ok(hashes)
+}
+
+fn push_file_hashes(
+    alloc: Global,
+    mut files: Section<&[u8]>,
+    most: usize,
+    hashes: &mut Vec<MerkleHash>,
+) -> ShardResult<()> {
+    for _ in 0..most {
         match files.next_file(alloc)? {
             Some(file) => hashes.push(file.metadata.file_hash)?,
             None => break,
         }
     }
-    let mut xorbs = Section::new(bytes_from(bytes, info.metadata.xorb_info_offset), version);
-    for _ in 0..bytes.len() {
+    Ok(())
+}
+
+fn push_xorb_hashes(
+    alloc: Global,
+    mut xorbs: Section<&[u8]>,
+    most: usize,
+    hashes: &mut Vec<MerkleHash>,
+) -> ShardResult<()> {
+    for _ in 0..most {
         match xorbs.next_xorb(alloc)? {
             Some(xorb) => hashes.push(xorb.metadata.xorb_hash)?,
             None => break,
         }
     }
-    Ok(hashes)
+    Ok(())
 }
 
 // The bytes from an offset on; none if it is past the end.
