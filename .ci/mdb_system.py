@@ -423,11 +423,11 @@ def merge_in_parts_wants_regular_files(place):
     os.mkfifo(place.path("pipe"))
     for words, named in ((("-", "-o", "out.mdb"), "-"), (("pipe", "-o", "out.mdb"), "pipe")):
         run = place.run("merge", "both.mdb", *words, "--memory", "1M")
-        said = f"{named}: it is no regular file, so it can't be read in parts\n"
+        said = f"{named}: it is no regular file, which --memory and --to need\n"
         wants(named, (run.returncode, run.stderr.decode()) == (1, said))
     for target, named in (("-", "standard output"), ("pipe", "pipe")):
         run = place.run("merge", "both.mdb", "-o", target, "--memory", "1M")
-        said = f"{named}: it is no regular file, and a merge by --memory is written to one alone\n"
+        said = f"{named}: it is no regular file, which --memory needs to write to\n"
         wants(target, (run.returncode, run.stderr.decode()) == (1, said))
     wants("nothing else is there", place.names() == ["both.mdb", "both_3.mdb", "one_file.mdb", "pipe"])
 

@@ -60,9 +60,9 @@ pub enum Fault {
     LongWord,
     /// Bytes are to be written to a terminal.
     Terminal,
-    /// It is no regular file, so that it can't be read in parts.
+    /// A merge with `--memory` or `--to` is to read what is no regular file.
     NoParts,
-    /// A merge that reads in parts is to be written to what is no regular file.
+    /// A merge with `--memory` is to be written to what is no regular file.
     NoPlace,
     /// The file is not what it was when it was first read.
     Changed,
@@ -126,11 +126,8 @@ impl fmt::Display for Fault {
                 f,
                 "it is a terminal: write the shard to a file, by -o, or to a pipe"
             ),
-            Fault::NoParts => write!(f, "it is no regular file, so it can't be read in parts"),
-            Fault::NoPlace => write!(
-                f,
-                "it is no regular file, and a merge by --memory is written to one alone"
-            ),
+            Fault::NoParts => write!(f, "it is no regular file, which --memory and --to need"),
+            Fault::NoPlace => write!(f, "it is no regular file, which --memory needs to write to"),
             Fault::Changed => write!(f, "it was changed while it was read"),
             Fault::Other(error) => write!(f, "{error}"),
         }
