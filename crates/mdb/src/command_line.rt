@@ -68,8 +68,12 @@ fn arg_of<'a>(alloc: Global, argument: &Argument) -> Result<Arg<'a>, AllocError>
             .short('o')
             .required_unless_present_any(&[id::FOLDER, id::GROUPS]),
         Takes::Folder => arg.conflicts_with(id::OUTPUT),
-        Takes::Groups => arg.conflicts_with_all(&[id::OUTPUT, id::FOLDER]),
+        Takes::Groups => arg
+            .conflicts_with_all(&[id::OUTPUT, id::FOLDER])?
+            .requires_all(&[id::MAX_SIZE, id::HASH_KEY]),
+        Takes::ValueWithGroups => arg.requires_arg(id::GROUPS),
         Takes::ValueWithoutGroups => arg.conflicts_with(id::GROUPS),
+        Takes::ValueWithExpiry => arg.requires_arg(id::DROP_EXPIRED),
         Takes::NothingWithoutCosts => arg.action(ArgAction::SetTrue).conflicts_with(id::COSTS),
         takes => Ok(taking(arg, takes)),
     }

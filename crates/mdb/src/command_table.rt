@@ -44,6 +44,10 @@ pub enum Takes {
     NothingWithoutCosts,
     /// A value that does not go with groups.
     ValueWithoutGroups,
+    /// A value that goes with groups alone.
+    ValueWithGroups,
+    /// A time that goes with leaving out expired shards alone.
+    ValueWithExpiry,
 }
 
 /// A command.
@@ -310,8 +314,8 @@ const MAKINGS: &[Row] = &[
             option!(
                 NOW,
                 "now",
-                Value,
-                "The time by which shards have expired; by default that of the clock"
+                ValueWithExpiry,
+                "With --drop-expired: the time by which shards have expired; by default that of the clock"
             ),
             option!(
                 MEMORY,
@@ -341,13 +345,13 @@ const MAKINGS: &[Row] = &[
             option!(
                 MAX_SIZE,
                 "max-size",
-                Value,
+                ValueWithGroups,
                 "With --to: the most bytes that the files of a group have together, as 64M"
             ),
             option!(
                 HASH_KEY,
                 "hash-key",
-                Value,
+                ValueWithGroups,
                 "With --to: the key of the hashes, of 64 hexadecimal digits"
             ),
             option!(
