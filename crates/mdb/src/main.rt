@@ -5,6 +5,7 @@
 mod arguments;
 mod beside;
 mod blame;
+mod by_key;
 mod command_line;
 mod command_table;
 mod compaction;

@@ -1,6 +1,7 @@
 //! The command that merges shards.
 
 use crate::blame::{blamed, disagreement, malformed, on_all};
+use crate::by_key::{distinct_keys, path_under, values_under};
 use crate::compaction::merge_groups;
 use crate::expiry::without_expired;
 use crate::failure::Failure;
@@ -19,7 +20,7 @@ use std::alloc::{AllocError, Global};
 use std::random::RandomSource;
 use std::rt::{Clock, Files};
 use xet_core_structures::error::CoreError;
-use xet_core_structures::merklehash::MerkleHash;
+use xet_core_structures::merklehash::HMACKey;
 
 /// Writes the merge of the shards in some files to a target. With `by_key` it writes a merge of
 /// those under each key to the folder at the target's path, by the digits of the key; with `memory`
@@ -124,15 +125,11 @@ fn merge_by_key<'a, R: Files + Print + Eprint + RandomSource + AllocGlobal + Clo
 ) -> Result<(), Failure<'a>> {
     let alloc = rt.alloc();
     let keys = keys_of(alloc, files, inputs)?;
-    let mut done: Vec<MerkleHash> = Vec::new(alloc);
-    for key in &keys {
-        if done.as_slice().contains(key) {
-            continue;
-        }
+    let Ok(distinct) = distinct_keys(alloc, keys.as_slice()) else {
+        return Err(on_all(files, Fault::OutOfMemory));
+    };
+    for key in &distinct {
         write_under(rt, files, inputs, keys.as_slice(), key, merge, progress)?;
-        if done.push(*key).is_err() {
-            return Err(on_all(files, Fault::OutOfMemory));
-        }
     }
     Ok(())
 }
@@ -142,17 +139,17 @@ fn write_under<'a, R: Files + Print + Eprint + RandomSource + AllocGlobal + Clon
     rt: &R,
     files: &[&'a str],
     inputs: &[&[u8]],
-    keys: &[MerkleHash],
-    key: &MerkleHash,
+    keys: &[HMACKey],
+    key: &HMACKey,
     merge: Merge<'a>,
     progress: &mut Progress,
 ) -> Result<(), Failure<'a>> {
     let alloc = rt.alloc();
     let folder = merge.target.path;
     let (Ok(files_under), Ok(inputs_under), Ok(path)) = (
-        those_under(alloc, files, keys, key),
-        those_under(alloc, inputs, keys, key),
-        format!(in alloc; "{folder}/{key}.mdb"),
+        values_under(alloc, files, keys, key),
+        values_under(alloc, inputs, keys, key),
+        path_under(alloc, folder, key),
     ) else {
         return Err(on_all(files, Fault::OutOfMemory));
     };
@@ -174,7 +171,7 @@ fn keys_of<'a>(
     alloc: Global,
     files: &[&'a str],
     inputs: &[&[u8]],
-) -> Result<Vec<MerkleHash>, Failure<'a>> {
+) -> Result<Vec<HMACKey>, Failure<'a>> {
     let mut keys = Vec::new(alloc);
     for (file, bytes) in files.iter().zip(inputs) {
         let key = match load_bytes(alloc, bytes) {
@@ -186,22 +183,6 @@ fn keys_of<'a>(
         }
     }
     Ok(keys)
-}
-
-// The values of the shards under a key. The keys are those of all shards.
-fn those_under<T: Copy>(
-    alloc: Global,
-    values: &[T],
-    keys: &[MerkleHash],
-    key: &MerkleHash,
-) -> Result<Vec<T>, AllocError> {
-    let mut found = Vec::new(alloc);
-    for (value, its) in values.iter().zip(keys) {
-        if its == key {
-            found.push(*value)?;
-        }
-    }
-    Ok(found)
 }
 
 /// The union of the inputs, with an expiry if one is wanted, in the version of the target.

@@ -1,10 +1,10 @@
 //! Merging shards of which only parts are in memory at once.
 //!
-//! A union can be made one range of hashes after another. So the shards are merged in rounds, first
-//! their files and then their xorbs. In a round the next records of each shard are read, of as many
-//! bytes as there is room for; those up to the least of the hashes with which these end are all that
-//! any shard has up to there, so their union is the next part of the whole. Its rows are written at
-//! once, and the rows of its tables wait in a second file, which has no name.
+//! The merge is made in rounds, first of the files and then of the xorbs. A round reads the next
+//! records of each shard, as many as there is room for. The least of their last hashes is a limit:
+//! each shard's records up to it are in memory, so their union is the next part of the merge. Its
+//! rows are written at once. The rows of the tables wait in a second file, which is removed from its
+//! folder as soon as it is made.
 
 mod assembly;
 pub mod block;
@@ -15,6 +15,7 @@ pub mod shard_file;
 
 use crate::beside::{NewFile, create_beside, create_private};
 use crate::blame::{obstacle_in_files, on_all};
+use crate::by_key::{distinct_keys, path_under, values_under};
 use crate::failure::Failure;
 use crate::files::{Place, STANDARD_STREAM, is_worth_reading, place_at, rename_over};
 use crate::make::report_leftovers;
@@ -69,8 +70,8 @@ impl<T: Drop> From<AllocFailed<T>> for Stop<'_> {
     }
 }
 
-/// Writes the merge of the shards in some files to a target, in about so much memory. With `by_key`
-/// it writes a merge of those under each key to the folder at the target's path.
+/// Writes the merge of the shards in some files to a target, in about so many bytes of memory. With
+/// `by_key` it writes a merge of those under each key to the folder at the target's path.
 pub fn merge_in_rounds<
     'a,
     R: Files + Input + Clock + Print + Eprint + RandomSource + AllocGlobal + Clone + Drop,
@@ -83,64 +84,36 @@ pub fn merge_in_rounds<
 ) -> Result<(), Failure<'a>> {
     let memory = memory.max(LEAST_MEMORY);
     let shards = open_all(rt, files, merge, progress)?;
+    let shards = shards.as_slice();
     if !merge.by_key {
-        return write_merge(
-            rt,
-            shards.as_slice(),
-            merge,
-            merge.target.path,
-            memory,
-            progress,
-        );
+        return write_merge(rt, shards, merge, merge.target.path, memory, progress);
     }
-    let mut done: Vec<HMACKey> = Vec::new(rt.alloc());
-    for shard in &shards {
-        let key = shard.key();
-        if done.as_slice().contains(&key) {
-            continue;
-        }
-        write_under(rt, shards.as_slice(), key, merge, memory, progress)?;
-        if done.push(key).is_err() {
-            return Err(on_all(files, Fault::OutOfMemory));
-        }
+    let alloc = rt.alloc();
+    let Ok(keys) = keys_of(alloc, shards) else {
+        return Err(on_all(files, Fault::OutOfMemory));
+    };
+    let Ok(distinct) = distinct_keys(alloc, keys.as_slice()) else {
+        return Err(on_all(files, Fault::OutOfMemory));
+    };
+    for key in &distinct {
+        let folder = merge.target.path;
+        let (Ok(under), Ok(path)) = (
+            values_under(alloc, shards, keys.as_slice(), key),
+            path_under(alloc, folder, key),
+        ) else {
+            return Err(Failure::on_file(folder, Fault::OutOfMemory));
+        };
+        write_merge(rt, under.as_slice(), merge, path.as_str(), memory, progress)?;
     }
     Ok(())
 }
 
-// Merges the shards under one key, and writes the merge to a folder.
-fn write_under<
-    'a,
-    R: Files + Input + Clock + Print + Eprint + RandomSource + AllocGlobal + Clone + Drop,
->(
-    rt: &R,
-    shards: &[ShardFile<'a>],
-    key: HMACKey,
-    merge: Merge<'a>,
-    memory: u64,
-    progress: &mut Progress,
-) -> Result<(), Failure<'a>> {
-    let folder = merge.target.path;
-    let (Ok(under), Ok(path)) = (
-        those_under(rt.alloc(), shards, key),
-        format!(in rt.alloc(); "{folder}/{key}.mdb"),
-    ) else {
-        return Err(Failure::on_file(folder, Fault::OutOfMemory));
-    };
-    write_merge(rt, under.as_slice(), merge, path.as_str(), memory, progress)
-}
-
-fn those_under<'a>(
-    alloc: Global,
-    shards: &[ShardFile<'a>],
-    key: HMACKey,
-) -> Result<Vec<ShardFile<'a>>, AllocError> {
-    let mut found = Vec::new(alloc);
+fn keys_of(alloc: Global, shards: &[ShardFile<'_>]) -> Result<Vec<HMACKey>, AllocError> {
+    let mut keys = Vec::new(alloc);
     for shard in shards {
-        if shard.key() == key {
-            found.push(*shard)?;
-        }
+        keys.push(shard.key())?;
     }
-    Ok(found)
+    Ok(keys)
 }
 
 // Reads header and footer of each file.
@@ -234,7 +207,7 @@ fn fill<'a, R: Files + Input + Clock + Eprint + RandomSource + AllocGlobal>(
     progress: &mut Progress,
 ) -> Result<(), Failure<'a>> {
     let named = merge.target.path;
-    let tables = match nameless(rt, target) {
+    let tables = match unlinked_file(rt, target) {
         Ok(tables) => tables,
         Err(error) => return Err(Failure::on_target(named, Fault::from(error))),
     };
@@ -246,14 +219,17 @@ fn fill<'a, R: Files + Input + Clock + Eprint + RandomSource + AllocGlobal>(
     }
 }
 
-// A new file in the folder of a target that has no name, so that nothing is left of it.
-fn nameless<R: Files + RandomSource + AllocGlobal>(rt: &R, target: &str) -> io::Result<R::File> {
+// A new file in the folder of a target, whose name is removed at once, so that nothing is left of it.
+fn unlinked_file<R: Files + RandomSource + AllocGlobal>(
+    rt: &R,
+    target: &str,
+) -> io::Result<R::File> {
     let NewFile { file, path } = create_private(rt, rt.alloc(), target)?;
     fs::remove_file(rt, path.as_str())?;
     Ok(file)
 }
 
-// The share of each of so many parts in a number; all of it if there is none.
+// The quotient of a number by a number of parts; the number itself if there is no part.
 fn share_of(number: u64, parts: u64) -> u64 {
     match number.checked_div(parts) {
         Some(share) => share,
