@@ -3,6 +3,7 @@
 
 use crate::blame::on_all;
 use crate::failure::Failure;
+use crate::inputs::path_in;
 use crate::make::put;
 use crate::merge::{contents_of_all, merged};
 use crate::progress::{Progress, Stage};
@@ -130,7 +131,7 @@ fn write_group<
     };
     progress.show(rt, Stage::Merging(files.len()));
     let bytes = merged(rt, files, inputs.as_slice(), merge, progress)?;
-    let Ok(path) = path_in(alloc, folder, hash_key, bytes.as_slice()) else {
+    let Ok(path) = path_by_hash(alloc, folder, hash_key, bytes.as_slice()) else {
         return Err(on_all(files, Fault::OutOfMemory));
     };
     if let Err(failure) = put(rt, path.as_str(), bytes.as_slice()) {
@@ -143,7 +144,12 @@ fn write_group<
 }
 
 // The path of a shard in a folder, by the hash of its bytes.
-fn path_in(alloc: Global, folder: &str, hash_key: HMACKey, bytes: &[u8]) -> ShardResult<String> {
+fn path_by_hash(
+    alloc: Global,
+    folder: &str,
+    hash_key: HMACKey,
+    bytes: &[u8],
+) -> ShardResult<String> {
     let name = shard_file_name(alloc, &keyed_hash(hash_key, bytes))?;
-    Ok(format!(in alloc; "{folder}/{name}")?)
+    Ok(path_in(alloc, folder, name.as_str())?)
 }

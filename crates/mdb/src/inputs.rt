@@ -193,7 +193,8 @@ fn read_names<R: Files + AllocGlobal>(rt: &R, folder: &str, names: &mut Vec<u8>)
     Ok(())
 }
 
-fn path_in(alloc: Global, folder: &str, name: &str) -> Result<String, AllocError> {
+/// The path of a name in a folder.
+pub fn path_in(alloc: Global, folder: &str, name: &str) -> Result<String, AllocError> {
     if folder.ends_with('/') {
         format!(in alloc; "{folder}{name}")
     } else {
