@@ -371,14 +371,17 @@ def merge_in_parts_is_the_merge(place):
         wants("the same", place.read("parts.mdb") == place.read("one.mdb"))
     run = place.run("merge", "many", "--memory", "1M", "--by-key", ".")
     wants("by keys", (run.returncode, run.stderr) == (0, b""))
+    wants("the same by keys", place.read(f"{'0' * 64}.mdb") == place.read("one.mdb"))
     wants("nothing else is there", len(place.names()) == 7)
 
 
 def merge_in_parts_takes_little_memory(place):
     many_shards(place, 120)
+    # Less than the shards have together, which is over 8 MiB, beside the program itself.
+    room = os.path.getsize(place.program) + (8 << 20)
 
     def little_room():
-        resource.setrlimit(resource.RLIMIT_AS, (12 << 20, 12 << 20))
+        resource.setrlimit(resource.RLIMIT_AS, (room, room))
 
     run = place.run("merge", "many", "-o", "out.mdb", preexec_fn=little_room)
     wants("in one", run.returncode == 1 and run.stderr.endswith(b": out of memory\n"))
@@ -470,10 +473,15 @@ def lists_may_end_with_zero_bytes(place):
 
 def pages_have_all_commands(place):
     subprocess.run([f"{TOP}/.ci/mdb_pages", place.program, place.path("pages")], check=True, timeout=60)
+    about = place.run("--help").stdout.decode()
+    commands = [it for it in re.findall(r"^  ([a-z]+)  ", about, re.MULTILINE) if it != "help"]
+    wants("all commands", len(commands) == 16)
     for page in ("mdb.1", "mdb.bash", "_mdb", "mdb.fish"):
         text = place.read(f"pages/{page}").decode().replace("\\-", "-")
-        for word in ("info", "merge", "drop", "memory", "hashes-from", "output"):
-            wants(f"{word} in {page}", word in text)
+        for command in commands:
+            wants(f"{command} in {page}", re.search(rf"\b{command}\b", text))
+            for option in re.findall(r"--([a-z-]+)", place.run(command, "--help").stdout.decode()):
+                wants(f"{option} of {command} in {page}", re.search(rf"\b{option}\b", text) or option == "help")
     words = "COMP_WORDS=(mdb merge --st); COMP_CWORD=2; _mdb mdb --st merge; echo ${COMPREPLY[@]}"
     run = subprocess.run(
         ["bash", "-c", f". {place.path('pages/mdb.bash')}; {words}"], capture_output=True, check=True, timeout=20
