@@ -128,11 +128,15 @@ pub fn disagreement<'a>(
     let Some(first) = found.as_slice().first() else {
         return Ok(None);
     };
-    Ok(Some(disagreeing(files, first, found.len())))
+    Ok(Some(disagreement_under(files, first, found.len())))
 }
 
 /// What differs in the records of files: that under the first of so many hashes.
-pub fn disagreeing<'a>(files: &[&'a str], first: &Disagreement, count: usize) -> Failure<'a> {
+pub fn disagreement_under<'a>(
+    files: &[&'a str],
+    first: &Disagreement,
+    count: usize,
+) -> Failure<'a> {
     Failure {
         subject: subject_of(files, first),
         fault: Fault::Disagree(count, first.record_hash),
@@ -150,13 +154,13 @@ pub fn malformed<'a>(
         Err(error) => return Err(blamed(alloc, files, inputs, error)),
     };
     match &found {
-        Some(record) => Ok(Some(holding_malformed(files, record))),
+        Some(record) => Ok(Some(malformed_in(files, record))),
         None => Ok(None),
     }
 }
 
 /// The file that has a record which no shard may have, and the record.
-pub fn holding_malformed<'a>(files: &[&'a str], record: &MalformedRecord) -> Failure<'a> {
+pub fn malformed_in<'a>(files: &[&'a str], record: &MalformedRecord) -> Failure<'a> {
     let subject = match files.get(record.input) {
         Some(file) => Subject::File(file),
         None => Subject::StandardOutput,

@@ -14,10 +14,10 @@ use xet_core_structures::shard_format::MDBShardFileHeader;
 pub const STANDARD_STREAM: &str = "-";
 
 /// The size of a header, in bytes.
-const HEADER_SIZE: usize = 48;
+pub const HEADER_SIZE: usize = 48;
 
 /// The size of a header and a footer, in bytes.
-const ENDS_SIZE: usize = 248;
+pub const ENDS_SIZE: usize = HEADER_SIZE + 200;
 
 /// All bytes of a file, or what is left of standard input if the path is `-`.
 pub fn read<R: Files + Input + AllocGlobal>(rt: &R, path: &str) -> io::Result<Vec<u8>> {

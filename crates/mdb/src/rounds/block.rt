@@ -1,5 +1,6 @@
-//! The next records of a section, as a shard of which they are all.
+//! The next records of a section, as a shard that has no others.
 
+use crate::files::{ENDS_SIZE, HEADER_SIZE};
 use shard_bytes::check::Section;
 use std::alloc::Global;
 use xet_base::input::OfReader;
@@ -11,11 +12,8 @@ use xet_core_structures::shard_format::{MDBShardFileFooter, MDBShardFileHeader};
 use xet_core_structures::xorb_structs::{MDBXorbInfo, XorbChunkSequenceHeader};
 use xet_records::record_reader::{FormatVersion, SectionRecord, read_header};
 
-/// The bytes of a shard beside those of its rows, at most: header, two bookends and footer.
-const ENDS_SIZE: usize = 344;
-
-/// The size of a header, in bytes.
-const HEADER_SIZE: u64 = 48;
+/// The size of a shard without records and tables, in bytes: header, two bookends and footer.
+const EMPTY_SHARD_SIZE: usize = ENDS_SIZE + 2 * ROW_SIZE;
 
 /// How far a section is read.
 #[derive(Clone, Copy, Debug, PartialEq, Eq)]
@@ -42,7 +40,7 @@ impl Mark {
     }
 }
 
-/// The bytes of a shard up to the rows of a section, and those of the rows that were read.
+/// The bytes of a shard up to a section, and then the rows of the section that were read.
 #[derive(Drop)]
 pub struct Block {
     pub bytes: Vec<u8>,
@@ -58,7 +56,7 @@ impl Block {
         version: FormatVersion,
         room: usize,
     ) -> Result<Block> {
-        let mut bytes = Vec::with_capacity(alloc, room.saturating_add(ENDS_SIZE))?;
+        let mut bytes = Vec::with_capacity(alloc, room.saturating_add(EMPTY_SHARD_SIZE))?;
         MDBShardFileHeader::of_version(version).serialize(&mut bytes)?;
         if section == Section::Xorbs {
             put_bookend(&mut bytes)?;
@@ -97,7 +95,7 @@ impl Block {
                 put_bookend(&mut bytes)?;
                 put_footer(&mut bytes, xorb_info_offset, key)?;
             }
-            Section::Xorbs => put_footer(&mut bytes, HEADER_SIZE + ROW_SIZE as u64, key)?,
+            Section::Xorbs => put_footer(&mut bytes, (HEADER_SIZE + ROW_SIZE) as u64, key)?,
         }
         Ok(bytes)
     }
@@ -107,7 +105,7 @@ impl Block {
 pub fn put_footer(bytes: &mut Vec<u8>, xorb_info_offset: u64, key: HMACKey) -> Result<()> {
     let end = bytes.len() as u64;
     let footer = MDBShardFileFooter {
-        file_info_offset: HEADER_SIZE,
+        file_info_offset: HEADER_SIZE as u64,
         xorb_info_offset,
         file_lookup_offset: end,
         xorb_lookup_offset: end,
@@ -120,7 +118,7 @@ pub fn put_footer(bytes: &mut Vec<u8>, xorb_info_offset: u64, key: HMACKey) -> R
     Ok(())
 }
 
-// Of the bytes of a block those of the rows.
+// The bytes of the rows of a block.
 fn rows_of(bytes: &[u8], section: Section) -> &[u8] {
     match bytes.get(rows_start(section)..) {
         Some(rows) => rows,
@@ -132,8 +130,8 @@ fn rows_of(bytes: &[u8], section: Section) -> &[u8] {
 // bookend of the files.
 fn rows_start(section: Section) -> usize {
     match section {
-        Section::Files => HEADER_SIZE as usize,
-        Section::Xorbs => HEADER_SIZE as usize + ROW_SIZE,
+        Section::Files => HEADER_SIZE,
+        Section::Xorbs => HEADER_SIZE + ROW_SIZE,
     }
 }
 
@@ -143,7 +141,7 @@ pub fn put_bookend(bytes: &mut Vec<u8>) -> Result<()> {
     Ok(())
 }
 
-// How far records are whole in bytes, after a mark and up to a hash.
+// The mark behind the last record that is whole in some bytes, after a mark and up to a hash.
 fn read_records<S: SectionRecord>(
     alloc: Global,
     rows: &[u8],
@@ -184,8 +182,7 @@ fn read_records<S: SectionRecord>(
     Ok(mark)
 }
 
-// The bytes of a record with so many rows after its header; too many for any memory if they pass
-// the range of sizes.
+// The size in bytes of a record with so many rows after its header; `usize::MAX` if it is larger.
 fn record_size(rows_after: u64) -> usize {
     let size = rows_after.saturating_add(1).saturating_mul(ROW_SIZE as u64);
     usize::try_from(size).unwrap_or(usize::MAX)

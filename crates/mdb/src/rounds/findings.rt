@@ -1,6 +1,6 @@
-//! What is found in shards on which their merge may depend, or by which it is refused.
+//! Findings on which a merge may depend, or for which a strict one is refused.
 
-use crate::blame::{disagreeing, holding_malformed};
+use crate::blame::{disagreement_under, malformed_in};
 use crate::failure::Failure;
 use std::alloc::Global;
 use xet_core_structures::error::Result;
@@ -49,7 +49,7 @@ impl Findings {
     /// The first of the files that has a record which no shard may have, and the record.
     pub fn malformed<'a>(&self, files: &[&'a str]) -> Option<Failure<'a>> {
         match &self.malformed {
-            Some(record) => Some(holding_malformed(files, record)),
+            Some(record) => Some(malformed_in(files, record)),
             None => None,
         }
     }
@@ -57,7 +57,7 @@ impl Findings {
     /// What differs in the records of the files.
     pub fn disagreement<'a>(&self, files: &[&'a str]) -> Option<Failure<'a>> {
         match &self.differing {
-            Some(first) => Some(disagreeing(files, first, self.count)),
+            Some(first) => Some(disagreement_under(files, first, self.count)),
             None => None,
         }
     }

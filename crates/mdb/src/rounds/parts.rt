@@ -20,9 +20,9 @@ use std::rt::{Clock, Files};
 use xet_core_structures::error::CoreError;
 use xet_core_structures::merklehash::MerkleHash;
 
-/// Of the memory for a merge the part for the bytes that are read in a round: their union, and where
-/// the records are, take the rest.
-const READ_PART: u64 = 4;
+/// A round reads a quarter of the memory for a merge: the union, and the places of the records, take
+/// the rest.
+const MEMORY_PARTS: u64 = 4;
 
 /// The least bytes of a shard that are read in a round.
 const LEAST_READ: u64 = 4096;
@@ -34,18 +34,19 @@ struct Rounds<'a, F: Read + Write + Seek + Drop> {
     merge: Merge<'a>,
     /// How many bytes of all shards are read in a round.
     room: u64,
-    /// The bytes of all sections, and those of the sections after the one that is merged.
-    all: u64,
-    later: u64,
+    /// The bytes of all sections.
+    total_bytes: u64,
+    /// The bytes of the sections after the one that is merged.
+    later_bytes: u64,
     findings: Findings,
-    /// Whether the shards have one key; else what differs is still looked for.
-    merges: bool,
-    /// Why the merge fails, if nothing else makes it fail before its end.
+    /// Whether the shards have one key. Without, only what differs is looked for.
+    has_one_key: bool,
+    /// Why the merge fails at its end, if nothing else makes it fail before.
     refusal: Option<Failure<'a>>,
     assembly: Assembly<F>,
 }
 
-/// Writes the merge of shards in about so much memory, and returns its file.
+/// Writes the merge of shards in about so many bytes of memory, and returns its file.
 pub fn merge_parts<
     'a,
     R: Files + Input + Clock + Eprint + AllocGlobal,
@@ -67,20 +68,20 @@ pub fn merge_parts<
         return Err(Failure::on_target(merge.target.path, Fault::OutOfMemory));
     };
     let refusal = other_key(rt, files.as_slice(), shards, merge.strictness)?;
-    let later = bytes_left(xorbs.as_slice());
+    let later_bytes = bytes_left(xorbs.as_slice());
     let mut rounds = Rounds {
         files,
         merge,
-        room: memory / READ_PART,
-        all: bytes_left(cursors.as_slice()).saturating_add(later),
-        later,
+        room: memory / MEMORY_PARTS,
+        total_bytes: bytes_left(cursors.as_slice()).saturating_add(later_bytes),
+        later_bytes,
         findings: Findings::none(),
-        merges: refusal.is_none(),
+        has_one_key: refusal.is_none(),
         refusal,
         assembly,
     };
     rounds.merge_section(rt, Section::Files, cursors.as_mut_slice(), progress)?;
-    rounds.later = 0;
+    rounds.later_bytes = 0;
     rounds.merge_section(rt, Section::Xorbs, xorbs.as_mut_slice(), progress)?;
     rounds.finish(rt, shards, memory, progress)
 }
@@ -99,20 +100,20 @@ impl<'a, F: Read + Write + Seek + Drop> Rounds<'a, F> {
             if all_ended(cursors) {
                 break;
             }
-            let left = bytes_left(cursors).saturating_add(self.later);
+            let left = bytes_left(cursors).saturating_add(self.later_bytes);
             progress.show_after_pause(rt, self.stage(left));
         }
         match self.assembly.end_section() {
             Ok(()) => Ok(()),
-            Err(error) => Err(self.not_written(error)),
+            Err(error) => Err(self.write_failure(error)),
         }
     }
 
     fn stage(&self, left: u64) -> Stage {
-        let done = self.all.saturating_sub(left);
+        let done = self.total_bytes.saturating_sub(left);
         Stage::MergingParts {
             shards: self.files.len(),
-            percent: share_of(done, self.all / 100).min(100),
+            percent: share_of(done, self.total_bytes / 100).min(100),
         }
     }
 
@@ -127,7 +128,7 @@ impl<'a, F: Read + Write + Seek + Drop> Rounds<'a, F> {
         let parts = match next_parts(rt, cursors, self.room) {
             Ok(parts) => parts,
             Err(Stop::Failed(failure)) => return Err(failure),
-            Err(Stop::Refused(error)) => return Err(self.refused(rt, &[], error)),
+            Err(Stop::Refused(error)) => return Err(self.read_failure(rt, &[], error)),
         };
         let inputs: Result<Vec<&[u8]>, AllocError> = parts
             .iter()
@@ -148,15 +149,15 @@ impl<'a, F: Read + Write + Seek + Drop> Rounds<'a, F> {
     ) -> Result<(), Failure<'a>> {
         let alloc = rt.alloc();
         if let Err(error) = self.findings.add(alloc, inputs) {
-            return Err(self.refused(rt, inputs, error));
+            return Err(self.read_failure(rt, inputs, error));
         }
         let strict = self.merge.strictness == Strictness::Strict;
-        if !self.merges || (strict && !self.findings.is_empty()) {
+        if !self.has_one_key || (strict && !self.findings.is_empty()) {
             return Ok(());
         }
         let bytes = match merge_bytes(alloc, inputs) {
             Ok(bytes) => bytes,
-            Err(error) => return Err(self.refused(rt, inputs, error)),
+            Err(error) => return Err(self.read_failure(rt, inputs, error)),
         };
         match in_version(alloc, bytes, self.merge.target) {
             Ok(part) => self.write_part(section, part),
@@ -174,13 +175,13 @@ impl<'a, F: Read + Write + Seek + Drop> Rounds<'a, F> {
         }
         match self.assembly.add(section, part.as_mut_slice()) {
             Ok(()) => Ok(()),
-            Err(error) => Err(self.not_written(error)),
+            Err(error) => Err(self.write_failure(error)),
         }
     }
 
     // The failure of parts of the shards that can't be read or have no union: that of the first
     // file that can't be read, or whose footer is wrong, else of the parts together.
-    fn refused<R: Files + Input + AllocGlobal>(
+    fn read_failure<R: Files + Input + AllocGlobal>(
         &self,
         rt: &R,
         inputs: &[&[u8]],
@@ -197,7 +198,7 @@ impl<'a, F: Read + Write + Seek + Drop> Rounds<'a, F> {
     }
 
     // The failure of a part that can't be written.
-    fn not_written(&self, error: CoreError) -> Failure<'a> {
+    fn write_failure(&self, error: CoreError) -> Failure<'a> {
         match error {
             CoreError::Io(error) => Failure::on_target(self.merge.target.path, Fault::from(error)),
             CoreError::OutOfMemory => on_all(self.files.as_slice(), Fault::OutOfMemory),
@@ -221,14 +222,14 @@ impl<'a, F: Read + Write + Seek + Drop> Rounds<'a, F> {
             (None, Some(disagreement), Strictness::Strict) => return Err(disagreement),
             (malformed, disagreement, _) => {
                 progress.clear(rt);
-                report(rt, malformed, disagreement);
+                report_findings(rt, malformed, disagreement);
             }
         }
-        self.written(shards, memory)
+        self.write_tables(shards, memory)
     }
 
     // Writes the tables and the footer.
-    fn written(self, shards: &[ShardFile<'a>], memory: u64) -> Result<F, Failure<'a>> {
+    fn write_tables(self, shards: &[ShardFile<'a>], memory: u64) -> Result<F, Failure<'a>> {
         let Rounds {
             files,
             merge,
@@ -253,7 +254,11 @@ impl<'a, F: Read + Write + Seek + Drop> Rounds<'a, F> {
     }
 }
 
-fn report<R: Eprint>(rt: &R, malformed: Option<Failure<'_>>, disagreement: Option<Failure<'_>>) {
+fn report_findings<R: Eprint>(
+    rt: &R,
+    malformed: Option<Failure<'_>>,
+    disagreement: Option<Failure<'_>>,
+) {
     if let Some(malformed) = &malformed {
         report_oddity(rt, malformed);
     }
@@ -323,15 +328,15 @@ fn all_ended(cursors: &[Cursor<'_>]) -> bool {
     true
 }
 
-// The next records of each shard, up to the least of the hashes with which what is read of them
-// ends, as shards. About so many bytes are read.
+// The next records of each shard, as shards, up to the least of the last hashes that are read. About
+// `room` bytes are read.
 fn next_parts<'a, R: Files + AllocGlobal>(
     rt: &R,
     cursors: &mut [Cursor<'a>],
     room: u64,
 ) -> Result<Vec<Vec<u8>>, Stop<'a>> {
     let mut blocks = Vec::new(rt.alloc());
-    // As many bytes of each that the shards would come to their ends in the same round.
+    // Each shard's share of the room, so that all would end in the same round.
     let rounds = share_of(bytes_left(cursors), room).saturating_add(1);
     let mut limit = None;
     for cursor in cursors.iter() {
@@ -347,7 +352,7 @@ fn next_parts<'a, R: Files + AllocGlobal>(
     Ok(parts)
 }
 
-// The lesser of a hash and that with which a block ends, if records come after it.
+// The lesser of a hash and the last one of a block, unless no record comes after the block.
 fn lesser(limit: Option<MerkleHash>, mark: &Mark) -> Option<MerkleHash> {
     if mark.ended {
         return limit;

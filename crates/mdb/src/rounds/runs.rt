@@ -1,4 +1,4 @@
-//! Chunk tables in a file, merged into one.
+//! The merge of chunk tables that are in one file.
 
 ghost use Rattle.std.specs.Prelude.{◌≤◌, length};
 
@@ -10,17 +10,18 @@ use std::io::{Read, Seek, SeekFrom, Write};
 use xet_base::fields::{split_u32, split_u64};
 use xet_shards::shard_writer::ChunkTableRow;
 
-/// The size of a row, in bytes.
-const ROW_SIZE: usize = 16;
+/// The size of a row of the chunk table, in bytes.
+pub const CHUNK_ROW_SIZE: usize = 16;
 
-/// Bytes of a file.
+/// A range of the bytes of a file.
 #[derive(Clone, Copy, Debug, PartialEq, Eq)]
 pub struct Extent {
     pub start: u64,
     pub size: u64,
 }
 
-/// The rows of a table that are not read yet, and those of them that are in memory.
+/// The rows of a table that are still to be merged: some in memory, and those in the file from
+/// `start` on.
 #[derive(Drop)]
 struct Run {
     start: u64,
@@ -52,10 +53,10 @@ impl Run {
         let Some(row) = self.rows.as_slice().get(self.at..) else {
             return Ok(None);
         };
-        if row.len() < ROW_SIZE {
+        if row.len() < CHUNK_ROW_SIZE {
             return Ok(None);
         }
-        self.at = self.at.saturating_add(ROW_SIZE);
+        self.at = self.at.saturating_add(CHUNK_ROW_SIZE);
         Ok(Some(row_of(row)))
     }
 
@@ -87,8 +88,8 @@ fn row_of(bytes: &[u8]) -> ChunkTableRow
     ChunkTableRow { word, row, index }
 }
 
-/// Writes the rows of tables in ascending order. Each table has its own ascending; of each so many
-/// bytes are in memory.
+/// Writes the rows of tables, each of which ascends, in ascending order. Of each table at most `room`
+/// bytes are in memory, or one row.
 pub fn merge_runs<F: Read + Seek, W: Write>(
     alloc: Global,
     file: &mut F,
@@ -97,15 +98,15 @@ pub fn merge_runs<F: Read + Seek, W: Write>(
     output: &mut W,
 ) -> io::Result<()> {
     // Whole rows.
-    let room = (room / ROW_SIZE as u64)
+    let room = (room / CHUNK_ROW_SIZE as u64)
         .max(1)
-        .saturating_mul(ROW_SIZE as u64);
+        .saturating_mul(CHUNK_ROW_SIZE as u64);
     let mut runs = Vec::new(alloc);
     let mut heads = BinaryHeap::new(alloc);
     let mut left: u64 = 0;
     for extent in extents {
         let mut run = Run::new(alloc, extent);
-        left = left.saturating_add(extent.size / ROW_SIZE as u64);
+        left = left.saturating_add(extent.size / CHUNK_ROW_SIZE as u64);
         if let Some(row) = run.next(file, room)? {
             heads.push(Reverse((row, runs.len())))?;
         }

@@ -19,7 +19,8 @@ use xet_records::record_reader::FormatVersion;
 /// How often more of a section is read because a record is longer than what was read of it.
 const DOUBLINGS: u32 = 40;
 
-/// What the system says of a file: another file has other numbers, and so has one that was changed.
+/// What the system says of a file, to know it again: another file has other numbers, and so has one
+/// that was changed.
 #[derive(Clone, Copy, Debug, PartialEq, Eq)]
 pub struct Stamp {
     pub size: u64,
@@ -85,10 +86,9 @@ impl<'a> ShardFile<'a> {
         self.info.metadata.chunk_hash_hmac_key
     }
 
-    // The file, from an offset on, or from its end; it is the one that was there first, and was not
-    // changed.
+    // Opens the file at an offset, or at its end. It fails if the file is another one, or was changed.
     fn open_at<R: Files>(&self, rt: &R, offset: u64) -> Result<R::File, Failure<'a>> {
-        match opened_at(rt, self.path, offset.min(self.stamp.size)) {
+        match open_stamped(rt, self.path, offset.min(self.stamp.size)) {
             Ok((file, stamp)) if stamp == self.stamp => Ok(file),
             Ok(_) => Err(Failure::on_file(self.path, Fault::Changed)),
             Err(error) => Err(Failure::on_file(self.path, Fault::from(error))),
@@ -96,7 +96,7 @@ impl<'a> ShardFile<'a> {
     }
 }
 
-fn opened_at<R: Files>(rt: &R, path: &str, offset: u64) -> io::Result<(R::File, Stamp)> {
+fn open_stamped<R: Files>(rt: &R, path: &str, offset: u64) -> io::Result<(R::File, Stamp)> {
     let mut file = fs::open(rt, path)?;
     let stamp = stamp_of(&file.metadata()?);
     file.seek(SeekFrom::Start(offset))?;
