@@ -1,5 +1,5 @@
-//! Merging the shards of a folder into fewer ones, each up to a size, whose names are by the hashes
-//! of their bytes.
+//! Merging shards into fewer ones, in groups up to a size. The name of each merge is the hash of its
+//! bytes.
 
 use crate::blame::on_all;
 use crate::failure::Failure;
@@ -19,7 +19,7 @@ use xet_core_structures::error::Result as ShardResult;
 use xet_core_structures::merklehash::{HMACKey, keyed_hash};
 use xet_core_structures::utils::shard_file_name;
 
-/// Shards under one key that are merged.
+/// Shards under one key that are merged, and how many bytes they have.
 #[derive(Drop)]
 struct Group<'a> {
     key: HMACKey,
@@ -27,9 +27,9 @@ struct Group<'a> {
     files: Vec<&'a str>,
 }
 
-/// Merges shards, in their order, in groups under one key whose bytes together are at most a size,
-/// and writes each merge to a folder, under the name that it has by the hash of its bytes. Prints
-/// the paths that were written. A shard that is larger is a group of its own.
+/// Merges shards in groups, in their order. The shards of a group have one key and together at most
+/// `max_size` bytes; a larger one is a group of its own. Each merge is written to a folder, by the
+/// hash of its bytes, and its path is printed. After a failure the merges before it stay.
 pub fn merge_groups<
     'a,
     R: Files + Input + Clock + Print + Eprint + RandomSource + AllocGlobal + Clone + Drop,

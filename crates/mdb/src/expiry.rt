@@ -9,26 +9,26 @@ use shard_bytes::load::load_bytes;
 use std::fs;
 use std::rt::Files;
 
-/// The files without those whose shards have expired by a time, each of which is reported if that
-/// is wanted. What is no regular file, or no shard, is kept.
+/// The files whose shards have not expired by a time, in seconds. With `verbose` each other file is
+/// reported. What is no regular file, or no shard, counts as not expired.
 pub fn without_expired<'a, R: Files + Eprint + AllocGlobal>(
     rt: &R,
     files: &[&'a str],
     now: u64,
     verbose: bool,
 ) -> Result<Vec<&'a str>, Failure<'a>> {
-    let mut kept = Vec::new(rt.alloc());
+    let mut remaining = Vec::new(rt.alloc());
     for file in files {
         if has_expired(rt, file, now) {
             if verbose {
                 let file = Shown(file);
                 let _ = rt.eprintln(format_args!("{file}: left out, it has expired"));
             }
-        } else if kept.push(*file).is_err() {
+        } else if remaining.push(*file).is_err() {
             return Err(on_all(files, Fault::OutOfMemory));
         }
     }
-    Ok(kept)
+    Ok(remaining)
 }
 
 fn has_expired<R: Files + AllocGlobal>(rt: &R, file: &str, now: u64) -> bool {
@@ -48,7 +48,7 @@ fn has_expired<R: Files + AllocGlobal>(rt: &R, file: &str, now: u64) -> bool {
     }
 }
 
-// Whether an expiry has come. 0 and the greatest number are none.
+// Whether an expiry has come. 0 and the greatest number stand for no expiry.
 fn is_past(expiry: u64, now: u64) -> bool {
     expiry != 0 && expiry != u64::MAX && expiry <= now
 }

@@ -50,7 +50,7 @@ pub fn read_shard<R: Files + Input + AllocGlobal>(rt: &R, path: &str) -> io::Res
     contents_of(rt.alloc(), &mut file, size)
 }
 
-// What is read of a shard from its start on; of a file its size, else 0.
+// What is read of a shard from its start on. The size is that of a file, or 0 of anything else.
 fn contents_of<F: Read>(alloc: Global, file: &mut F, size: u64) -> io::Result<Contents> {
     let mut ends = Vec::new(alloc);
     file.by_ref().take(ENDS_SIZE as u64).read_to_end(&mut ends)?;
@@ -73,8 +73,8 @@ fn contents_of<F: Read>(alloc: Global, file: &mut F, size: u64) -> io::Result<Co
     Ok(Contents { bytes, whole: true })
 }
 
-/// Whether a file is read to its end that has these bytes, its first, or its first and its last: it
-/// has no more, or begins with a header.
+/// Whether a file is read to its end: it begins with a header, or has no more bytes than these. They
+/// are its first bytes, or its first and its last ones.
 pub fn is_worth_reading(alloc: Global, ends: &[u8]) -> bool {
     let mut header = ends;
     ends.len() < ENDS_SIZE || MDBShardFileHeader::deserialize(alloc, &mut header).is_ok()
@@ -133,7 +133,7 @@ pub fn write<R: Files + Print + RandomSource + AllocGlobal>(
     }
 }
 
-/// What is written to at a path.
+/// What a path names for writing.
 #[derive(Drop)]
 pub enum Place {
     /// A new file, which is renamed over this target: the path, or the regular file to which it
@@ -146,7 +146,7 @@ pub enum Place {
     Other,
 }
 
-/// What is written to at a path. A link that leads nowhere is refused.
+/// What a path names for writing. A link that leads nowhere is refused.
 pub fn place_at<R: Files + AllocGlobal>(rt: &R, alloc: Global, path: &str) -> io::Result<Place> {
     match fs::metadata(rt, path) {
         Ok(there) if there.is_file() => {

@@ -9,7 +9,7 @@ use shard_bytes::minimal::KeptXorbs;
 use std::rt::Files;
 use xet_core_structures::merklehash::MerkleHash;
 
-/// Adds the hashes that a request names a list of to those that it has.
+/// Adds the hashes in the list that a request names, if it names one, to its own.
 pub fn add_listed<'a, R: Files + Input + AllocGlobal>(
     rt: &R,
     request: &mut Request<'a>,
@@ -59,7 +59,7 @@ fn add_to_inquiry<'a, R: Files + Input + AllocGlobal>(
     }
 }
 
-// Adds the hashes in a list, one a line; lines without a word are passed over.
+// Adds the hashes in a list, one a line; empty lines are passed over.
 fn add_from<'a, R: Files + Input + AllocGlobal>(
     rt: &R,
     list: HashList<'a>,

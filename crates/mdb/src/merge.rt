@@ -33,14 +33,14 @@ pub fn merge_files<
         return Err(Failure::on_output(Fault::Terminal));
     }
     if let Some(now) = merge.expired_by {
-        let kept = without_expired(rt, files, now, merge.verbose)?;
-        return merge_kept(rt, kept.as_slice(), merge, terminals);
+        let remaining = without_expired(rt, files, now, merge.verbose)?;
+        return merge_remaining(rt, remaining.as_slice(), merge, terminals);
     }
-    merge_kept(rt, files, merge, terminals)
+    merge_remaining(rt, files, merge, terminals)
 }
 
-// Writes the merge of the shards in files of which none is left out.
-fn merge_kept<
+// Writes the merge of the shards in some files, whatever their expiries.
+fn merge_remaining<
     'a,
     R: Files + Input + Clock + Print + Eprint + RandomSource + AllocGlobal + Clone + Drop,
 >(rt: &R, files: &[&'a str], merge: Merge<'a>, terminals: Terminals) -> Result<(), Failure<'a>> {
@@ -58,7 +58,7 @@ fn merge_kept<
     made
 }
 
-// The same of shards that are all in memory.
+// Writes the merge of shards that are all in memory.
 fn merge_in_memory<
     'a,
     R: Files + Input + Clock + Print + Eprint + RandomSource + AllocGlobal + Clone + Drop,

@@ -14,7 +14,7 @@ pub enum Stage {
     Reading { read: usize, all: usize },
     /// So many shards are merged.
     Merging(usize),
-    /// So many shards are merged, part by part, and so much of them is done.
+    /// So many shards are merged in parts, and this share of their bytes is done.
     MergingParts { shards: usize, percent: u64 },
 }
 

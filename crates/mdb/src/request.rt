@@ -45,7 +45,7 @@ pub struct Sources<'a> {
 #[derive(Clone, Copy, Debug, PartialEq, Eq)]
 pub struct HashList<'a> {
     pub path: &'a str,
-    /// The byte that ends each of them.
+    /// The byte that ends each hash.
     pub end: u8,
 }
 
@@ -65,7 +65,7 @@ pub enum Making<'a> {
 pub struct Removal<'a> {
     pub file: &'a str,
     pub hashes: Vec<MerkleHash>,
-    /// The list of more of them.
+    /// The list of more hashes.
     pub list: Option<HashList<'a>>,
     /// The expiry of what is written, in seconds; none if it is left out.
     pub expiry: Option<u64>,
@@ -82,11 +82,11 @@ pub struct Merge<'a> {
     pub by_key: bool,
     /// The expiry of what is written, in seconds; none if it is left out.
     pub expiry: Option<u64>,
-    /// About how many bytes of memory it may take, if the shards are not all to be in memory.
+    /// About how many bytes of memory a merge in rounds takes; `None` if all shards are in memory.
     pub memory: Option<u64>,
-    /// The time by which shards have expired that are left out; none are if there is none.
+    /// The time, in seconds, by which expired shards are left out; `None` if they are merged too.
     pub expired_by: Option<u64>,
-    /// How shards are merged in groups, into a folder.
+    /// How shards are merged in groups, each to a file in a folder; `None` if all are merged as one.
     pub compaction: Option<Compaction>,
 }
 
