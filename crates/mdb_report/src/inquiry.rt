@@ -271,7 +271,7 @@ pub(crate) fn print_summary<W: Write>(
     }
 }
 
-// The same in a line, which is added to a tally.
+// Prints what header and footer say in a line, and adds it to a tally.
 fn brief_of<W: Write>(
     alloc: Global,
     file: &str,

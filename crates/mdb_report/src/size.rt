@@ -1,9 +1,7 @@
 //! Sizes in words.
 
-ghost use Rattle.std.specs.Prelude.{◌≡◌, ◌<◌, ◌^◌, IfSome};
-
-/// The number of bytes that a text names: digits, and maybe K, M, G or T behind them, for 1024 bytes
-/// each, or 1024 of the unit before. `None` if it names none, or too many for `u64`.
+/// The number of bytes in a text of digits, which a K, M, G or T may follow: 1024 bytes, and then
+/// each 1024 of the unit before. `None` for another text, or if there are too many for `u64`.
 pub fn bytes_of(text: &str) -> Option<u64> {
     let Some(last) = text.as_bytes().last() else {
         return None;

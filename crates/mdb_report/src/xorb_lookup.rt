@@ -1,13 +1,13 @@
 //! What lookups of xorbs find.
 
-ghost use Rattle.std.specs.Prelude.{◌≡◌, None, IfOk, IfSome, IsNone};
+ghost use Rattle.std.specs.Prelude.{◌≡◌, IfOk, IfSome, IsNone};
 
 use crate::hex::Hex;
 use crate::records::XorbReport;
 use serde::Serialize;
 use std::alloc::Global;
 use std::fmt;
-use xet_core_structures::error::{CoreError, Result};
+use xet_core_structures::error::Result;
 use xet_core_structures::merklehash::MerkleHash;
 use xet_core_structures::shard_format::MDBShardInfo;
 use xet_core_structures::source::{MemorySource, ShardSource};
@@ -67,7 +67,7 @@ impl FoundXorb {
     }
 }
 
-// The xorb with a hash, of those that have its first word in the xorb table.
+// The xorb with a hash, among the rows of the xorb table that have its first word.
 fn find_xorb<S: ShardSource>(
     alloc: Global,
     info: &MDBShardInfo,
@@ -87,11 +87,10 @@ fn find_xorb<S: ShardSource>(
     Ok(None)
 }
 
-/// Whether the bytes of a shard have xorbs, but no rows in the xorb table, by which they would be
-/// found.
+/// Whether the bytes of a shard have xorbs, but no xorb table, so that lookups would miss them.
 ///
 /// The errors are those of [`MDBShardInfo::load_from_reader`] and of reading the xorb section.
-pub fn lacks_xorb_table(alloc: Global, bytes: &[u8]) -> std::result::Result<bool, CoreError> {
+pub fn lacks_xorb_table(alloc: Global, bytes: &[u8]) -> Result<bool> {
     let mut source = MemorySource::new(bytes);
     let info = MDBShardInfo::load_from_reader(alloc, &mut source)?;
     if info.metadata.xorb_lookup_num_entry != 0 {

@@ -59,7 +59,7 @@ pub(crate) fn print_xorb_lookup<W: Write>(
     Ok(found)
 }
 
-/// Prints of each hash that no shard has that it was not found.
+/// Reports each hash under which no shard has a xorb.
 pub(crate) fn print_lacking<W: Write>(
     alloc: Global,
     hashes: &[MerkleHash],
