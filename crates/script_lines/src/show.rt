@@ -322,7 +322,7 @@ impl Show for RecordHash {
     }
 }
 
-// The same, and the numbers of the two buffers.
+// Whose the hash is, the hash, and the numbers of the two buffers.
 impl Show for Disagreement {
     fn show(&self, out: &mut Vec<u8>) -> io::Result<()> {
         self.record_hash.show(out)?;
@@ -336,7 +336,7 @@ impl Show for Finding {
     }
 }
 
-// The same, and the number of the buffer.
+// The word `malformed`, whose the hash is, the hash, and the number of the buffer.
 impl Show for MalformedRecord {
     fn show(&self, out: &mut Vec<u8>) -> io::Result<()> {
         out.write_all(b"malformed ")?;
