@@ -171,8 +171,8 @@ pub fn malformed_in<'a>(files: &[&'a str], record: &MalformedRecord) -> Failure<
     }
 }
 
-/// The first of the files, of which one is in memory at a time, that keeps shards from being merged:
-/// it can't be read, or else its footer is wrong. `None` if there is none.
+/// The first of the files that keeps shards from being merged: it can't be read, or else its footer
+/// is wrong. `None` if there is none. One file is in memory at a time.
 pub fn obstacle_in_files<'a, R: Files + Input + AllocGlobal>(
     rt: &R,
     files: &[&'a str],
@@ -197,8 +197,8 @@ pub fn obstacle_in_files<'a, R: Files + Input + AllocGlobal>(
     None
 }
 
-/// The first of the files, of which one is in memory at a time, that can't be read. `None` if there
-/// is none.
+/// The first of the files that can't be read. `None` if there is none. One file is in memory at a
+/// time.
 pub fn unreadable_file<'a, R: Files + Input + AllocGlobal>(
     rt: &R,
     files: &[&'a str],

@@ -42,15 +42,3 @@ impl fmt::Display for HashReport {
         write!(f, "{hash}")
     }
 }
-
-/// A name on a line of its own.
-#[derive(Clone, Copy, Debug, PartialEq, Eq, Serialize)]
-pub struct NameReport<'a> {
-    pub name: &'a str,
-}
-
-impl fmt::Display for NameReport<'_> {
-    fn fmt<W: fmt::Write>(&self, f: &mut fmt::Formatter<W>) -> fmt::Result {
-        f.write_str(self.name)
-    }
-}

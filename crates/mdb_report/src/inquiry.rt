@@ -7,9 +7,10 @@ ghost use Rattle.mdb_report.specs.Parts.{PartsAscend};
 ghost use Rattle.mdb_report.specs.Answers.{FindsProblems, LooksUp, IsClean, HasAscendingParts, SaysNoMore};
 
 use crate::brief::Brief;
-use crate::hex::{HashReport, Hex, NameReport};
+use crate::hex::{HashReport, Hex};
 use crate::line::{Layout, Style, print};
 use crate::lookup::{FoundReport, RunReport};
+use crate::name::print_name;
 use crate::problem::{Problem, ProblemReport, problems_asked};
 use crate::records::{ChunkReport, XorbReport, file_reports};
 use crate::summary::Summary;
@@ -23,9 +24,8 @@ use std::alloc::{AllocError, Global};
 use std::io;
 use std::io::Write;
 use xet_core_structures::error::CoreError;
-use xet_core_structures::merklehash::{HMACKey, MerkleHash, keyed_hash};
+use xet_core_structures::merklehash::{HMACKey, MerkleHash};
 use xet_core_structures::source::MemorySource;
-use xet_core_structures::utils::shard_file_name;
 use xet_core_structures::xorb_structs::MDBXorbInfo;
 
 /// What a shard is asked.
@@ -160,17 +160,7 @@ pub fn print_answer<W: Write>(
         Inquiry::Check { named, key } => {
             return check(alloc, file, *named, *key, bytes, layout.style, output);
         }
-        Inquiry::Name { key } => {
-            let name = shard_file_name(alloc, &keyed_hash(*key, bytes))?;
-            print(
-                alloc,
-                &NameReport {
-                    name: name.as_str(),
-                },
-                layout,
-                output,
-            )?;
-        }
+        Inquiry::Name { key } => print_name(alloc, bytes, *key, layout, output)?,
         Inquiry::Files { long } => print_files(alloc, bytes, *long, layout, output)?,
         Inquiry::Xorbs { .. } | Inquiry::Chunks { .. } => {
             print_xorbs(alloc, inquiry, bytes, layout, output)?;

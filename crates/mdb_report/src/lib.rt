@@ -11,6 +11,7 @@ pub mod inquiry;
 pub mod line;
 pub mod lookup;
 pub mod moment;
+pub mod name;
 pub mod paged_file;
 pub mod paged_inquiry;
 pub mod paged_source;

@@ -1,0 +1,38 @@
+//! The names of shards' files by the hashes of their bytes.
+
+use crate::inquiry::Trouble;
+use crate::line::{Layout, print};
+use serde::Serialize;
+use std::alloc::Global;
+use std::fmt;
+use std::io::Write;
+use xet_core_structures::merklehash::{HMACKey, keyed_hash};
+use xet_core_structures::utils::shard_file_name;
+
+/// The name of a file.
+#[derive(Clone, Copy, Debug, PartialEq, Eq, Serialize)]
+pub struct NameReport<'a> {
+    pub name: &'a str,
+}
+
+impl fmt::Display for NameReport<'_> {
+    fn fmt<W: fmt::Write>(&self, f: &mut fmt::Formatter<W>) -> fmt::Result {
+        f.write_str(self.name)
+    }
+}
+
+/// Prints the name that a file has by the hash of its bytes under a key.
+pub(crate) fn print_name<W: Write>(
+    alloc: Global,
+    bytes: &[u8],
+    key: HMACKey,
+    layout: Layout<'_>,
+    output: &mut W,
+) -> Result<(), Trouble> {
+    let name = shard_file_name(alloc, &keyed_hash(key, bytes))?;
+    let report = NameReport {
+        name: name.as_str(),
+    };
+    print(alloc, &report, layout, output)?;
+    Ok(())
+}
