@@ -147,7 +147,7 @@ fn open_all<'a, R: Files + Input + Clock + Eprint + AllocGlobal>(
         }
     }
     match refusal {
-        // What is wrong with the sections of a file before counts too.
+        // A file before it may have a section that can't be read, which is reported first.
         Some(refusal) if !merge.by_key => Err(obstacle_in_files(rt, files).unwrap_or(refusal)),
         Some(refusal) => Err(refusal),
         None => Ok(opened),

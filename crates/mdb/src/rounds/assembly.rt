@@ -171,8 +171,8 @@ impl<F: Read + Write + Seek + Drop> Assembly<F> {
         Ok(())
     }
 
-    /// Writes the tables and the footer of the shard, with this key and this expiry, and returns
-    /// its file. It takes about as much memory as is said.
+    /// Writes the tables and the footer of the shard, with this key and this expiry in seconds, and
+    /// returns its file. The chunk tables take about a quarter of `memory`, in bytes.
     pub fn finish(self, key: HMACKey, expiry: Option<u64>, memory: u64) -> Result<F> {
         let footer = self.footer(key, expiry);
         let Assembly {

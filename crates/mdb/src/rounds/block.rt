@@ -68,7 +68,7 @@ impl Block {
         })
     }
 
-    /// How far the section can be read in the rows that are there, after a mark and up to a hash.
+    /// The mark behind the last whole record of the rows, after a mark and up to a hash.
     ///
     /// `InvalidShard` if the version does not have the header of a record, the rows pass 4294967295
     /// or the hashes do not strictly ascend.

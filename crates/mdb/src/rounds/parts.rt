@@ -140,7 +140,7 @@ impl<'a, F: Read + Write + Seek + Drop> Rounds<'a, F> {
         self.merge_inputs(rt, section, inputs.as_slice())
     }
 
-    // Merges the parts of all shards, and writes their union, if it is wanted.
+    // Merges the parts of all shards and writes their union, unless it is known that the merge fails.
     fn merge_inputs<R: Files + Input + AllocGlobal>(
         &mut self,
         rt: &R,
@@ -168,7 +168,7 @@ impl<'a, F: Read + Write + Seek + Drop> Rounds<'a, F> {
         }
     }
 
-    // Writes a part of the merge, if all can be written.
+    // Writes a part of the merge, unless it is known that the merge fails.
     fn write_part(&mut self, section: Section, mut part: Vec<u8>) -> Result<(), Failure<'a>> {
         if self.refusal.is_some() {
             return Ok(());

@@ -48,7 +48,7 @@ fn stamp_of(there: &Metadata) -> Stamp {
     }
 }
 
-/// What the system says of a regular file, and the bytes at its start and its end.
+/// The stamp of a regular file, and the bytes of its header and its footer.
 pub fn ends_of<'a, R: Files + AllocGlobal>(
     rt: &R,
     path: &'a str,
@@ -146,7 +146,7 @@ impl<'a> Cursor<'a> {
         end.min(self.shard.stamp.size).saturating_sub(self.offset)
     }
 
-    /// The next records, of so many bytes, or one if it is longer; and how far they can be read.
+    /// The next records in `size` bytes, or one that is longer, and the mark behind the last whole one.
     pub fn read<R: Files + AllocGlobal>(
         &self,
         rt: &R,
