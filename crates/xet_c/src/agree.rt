@@ -162,10 +162,10 @@ fn disagreement_of(disagreement: &Disagreement) -> XetDisagreement
     )
 }
 
-fn malformed_of(record: &MalformedRecord) -> XetDisagreement
-    ensures { result ≡ c_malformed record.now }
+fn malformed_of(malformed: &MalformedRecord) -> XetDisagreement
+    ensures { result ≡ c_malformed malformed.now }
 {
-    shown(record.record_hash, record.input, record.input)
+    shown(malformed.record_hash, malformed.input, malformed.input)
 }
 
 fn shown(record_hash: RecordHash, first: usize, second: usize) -> XetDisagreement

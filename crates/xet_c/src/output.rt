@@ -6,7 +6,10 @@ ghost use Rattle.xet_c.specs.Output.{Answers, Delivers, Refuses};
 
 use xet_core_structures::error::{CoreError, Result};
 
-/// The output does not fit the memory that was given. 1 to 18 are the library's own errors.
+/// An allocation failed: `CoreError::OutOfMemory`, the last of the library's own errors, 1 to 18.
+pub const XET_OUT_OF_MEMORY: u32 = 18;
+
+/// The output does not fit the memory that was given.
 pub const XET_SHORT: u32 = 19;
 
 /// Two shards that have to agree do not.

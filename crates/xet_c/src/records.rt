@@ -8,7 +8,7 @@ ghost use Rattle.xet_c.specs.Walking.{c_chunk};
 ghost use Rattle.xet_c.specs.Recording.{c_listed_file, c_listed_xorb, all_segments, all_chunks, IsPut, no_counts, ShowsRecords};
 
 use crate::listed::{XetListedFile, XetListedXorb, listed_file_of, listed_xorb_of};
-use crate::output::{XET_SHORT, error_number};
+use crate::output::{XET_OUT_OF_MEMORY, XET_SHORT, error_number};
 use crate::segment::{XetFileSegment, segments_of};
 use crate::walk::{XetChunk, chunk_of};
 use shard_bytes::records::{Records, read_records};
@@ -81,7 +81,7 @@ fn show_records(
         Err(error) => return error_number(error),
     };
     let Ok(lists) = lists_of(alloc, records) else {
-        return 18;
+        return XET_OUT_OF_MEMORY;
     };
     *counts = XetCounts {
         files: lists.files.len(),

@@ -8,7 +8,7 @@ ghost use Rattle.xet_core_structures.specs.Hash.{words_of};
 ghost use Rattle.xet_c.specs.Walking.{IsFileAt, IsXorbAt, ShowsFileAt, ShowsXorbAt, c_bookend, c_file_place, c_xorb_place, c_xorb, c_chunk, chunks_in};
 
 use crate::find::{XetFile, file_of, segments_found};
-use crate::output::{error_number, give};
+use crate::output::{XET_OUT_OF_MEMORY, error_number, give};
 use crate::segment::XetFileSegment;
 use shard_bytes::walk::{file_at, xorb_at};
 use std::alloc::Global;
@@ -92,7 +92,7 @@ pub fn show_file(
         Err(error) => return error_number(error),
     };
     let Ok(list) = segments_found(alloc, found) else {
-        return 18;
+        return XET_OUT_OF_MEMORY;
     };
     *place = file_place(row, found);
     *file = file_of(found);
@@ -174,7 +174,7 @@ pub fn show_xorb(
         Err(error) => return error_number(error),
     };
     let Ok(list) = chunks_found(alloc, found) else {
-        return 18;
+        return XET_OUT_OF_MEMORY;
     };
     *place = xorb_place(row, found);
     *xorb = xorb_of(found);
@@ -243,6 +243,7 @@ fn chunks_of(alloc: Global, entries: &[XorbChunkSequenceEntry]) -> Result<Vec<Xe
     Ok(chunks)
 }
 
+/// A chunk as C has it.
 pub fn chunk_of(entry: &XorbChunkSequenceEntry) -> XetChunk
     ensures { result ≡ c_chunk entry.now }
 {
