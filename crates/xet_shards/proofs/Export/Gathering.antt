@@ -1,9 +1,9 @@
 -- Gathering the parts of shards.
-use Rattle.std.proofs.Common.{◌≡◌, ℕ, ◌+◌, ◌^◌, ◌/◌, ◌-◌, List, [], ◌∷◌, ◌++◌, length, map, flat_map, take, get_or, Bor, ◌<◌, ◌≤◌, refl, sym, ap, ◌∙◌, subst, arith}
-use Rattle.std.specs.Prelude.{All, sum_by}
+use Rattle.std.proofs.Common.{◌≡◌, ℕ, ◌+◌, ◌^◌, ◌/◌, ◌-◌, List, [], ◌∷◌, ◌++◌, length, map, flat_map, take, drop, get_or, Bor, length-drop, ◌<◌, ◌≤◌, refl, sym, ap, ◌∙◌, subst, arith}
+use Rattle.std.specs.Prelude.{All, slice_range, sum_by}
 use Rattle.std.specs.List.Sorted.{IsPermutation}
 use Rattle.std.proofs.Math.Nat.{mul-div_cancel_left}
-use Rattle.std.proofs.lemmas.List.{length-append, length-map, get_or-map, take_more, take_all}
+use Rattle.std.proofs.lemmas.List.{length-take-le, length-append, length-map, get_or-map, take_more, take_all}
 use Rattle.std.proofs.lemmas.List.Elements.{All-nil, All-cons, All-push, All-append, All-weaker}
 use Rattle.std.proofs.lemmas.List.Sorted.{IsPermutation-append, IsPermutation-map, All-permutation}
 use Rattle.std.proofs.lemmas.List.Sums.{sum_by-append, sum_by-cons, sum_by_push}
@@ -22,9 +22,9 @@ use Rattle.xet_shards.specs.declared.shard_format.export.gathering.Totals.{Total
 use Rattle.xet_shards.specs.declared.shard_format.export.part_split.SplitShard.{SplitShard}
 use Rattle.xet_shards.specs.declared.shard_format.export.section_parts.SectionPart.{SectionPart}
 use Rattle.xet_shards.specs.Export.InARow.{ShardPart, bytes_of_part, IsPartUnder, files_in, xorbs_in, FitTogether}
-use Rattle.xet_shards.specs.Steps.InARow.{HoldSections, IsSplitOf}
+use Rattle.xet_shards.specs.Steps.InARow.{HoldSections, HasRanges, IsSplit, IsSplitOf}
 use Rattle.xet_shards.specs.Steps.ChunkMerging.{HoldsRows, rows_held, FitsTableRow}
-use Rattle.xet_shards.specs.Steps.Gathering.{AddsPart, FitWith, HoldTables, HasGathered}
+use Rattle.xet_shards.specs.Steps.Gathering.{AddsPart, FitWith, HasSizes, HoldTables, HasGathered}
 use Rattle.xet_shards.specs.Read.TableReading.{FitsStart, FitsTriple, triple_of}
 use Rattle.xet_shards.specs.Write.Ranges.{chunk_row_later}
 use Rattle.xet_shards.specs.Write.Section.{total_rows, with_fronts}
@@ -252,3 +252,25 @@ module _ (key : DataHash) (parts : List ShardPart) (shards : List (Bor (List ℕ
 
   pub all_gathered : (files xorbs : List SectionPart) (cursors : List Cursor) (totals : Totals) (i : ℕ) → length shards ≤ i → HasGathered files xorbs cursors totals (take i parts) → HasGathered files xorbs cursors totals parts
   all_gathered files xorbs cursors totals i past before = subst (HasGathered files xorbs cursors totals) (take_all i parts (omega (arith, past, lens))) before
+
+length_range : (xs : List ℕ) (from to : ℕ) → to ≤ length xs → length (slice_range xs from to) ≡ to - from
+length_range xs from to within = length-take-le (to - from) (drop from xs) (omega (arith, within, length-drop from xs))
+
+-- sections with those of one part more have the sizes of the sums with this part
+pub sizes_more : (files xorbs : List SectionPart) (totals more : Totals) (bytes : List ℕ) (split : SplitShard) (file_part xorb_part : SectionPart) → HasSizes files xorbs totals → HasRanges (length bytes) split.footer → IsSplit bytes split.footer split
+    → AddsPart totals split more → file_part.rows.now ≡ split.files.now → file_part.table.now ≡ split.file_table.now → xorb_part.rows.now ≡ split.xorbs.now → xorb_part.table.now ≡ split.xorb_table.now
+    → HasSizes (files ++ file_part ∷ []) (xorbs ++ xorb_part ∷ []) more
+sizes_more files xorbs totals more bytes split file_part xorb_part before ranges is adds file_rows file_table xorb_rows xorb_table =
+    let footer = split.footer in
+    let rows_1 : length split.files.now ≡ footer.xorb_info_offset - 48 - 48 = ap length is.files ∙ length_range bytes 48 (footer.xorb_info_offset - 48) (omega (arith, ranges.files, ranges.xorbs, ranges.file_table, ranges.xorb_table, ranges.chunk_table, ranges.end)) in
+    let rows_2 : length split.xorbs.now ≡ footer.file_lookup_offset - 48 - footer.xorb_info_offset =
+    ap length is.xorbs ∙ length_range bytes footer.xorb_info_offset (footer.file_lookup_offset - 48) (omega (arith, ranges.file_table, ranges.xorb_table, ranges.chunk_table, ranges.end)) in
+    let table_1 : length split.file_table.now ≡ footer.xorb_lookup_offset - footer.file_lookup_offset =
+    ap length is.file_table ∙ length_range bytes footer.file_lookup_offset footer.xorb_lookup_offset (omega (arith, ranges.xorb_table, ranges.chunk_table, ranges.end)) in
+    let table_2 : length split.xorb_table.now ≡ footer.chunk_lookup_offset - footer.xorb_lookup_offset = ap length is.xorb_table ∙ length_range bytes footer.xorb_lookup_offset footer.chunk_lookup_offset (omega (arith, ranges.chunk_table, ranges.end)) in
+    record {
+      file_rows = sum_by_push (λ (s : SectionPart). length s.rows.now) files file_part ∙ omega (arith, before.file_rows, adds.file_rows, ap length file_rows, rows_1, ranges.files, ranges.file_rows);
+      xorb_rows = sum_by_push (λ (s : SectionPart). length s.rows.now) xorbs xorb_part ∙ omega (arith, before.xorb_rows, adds.xorb_rows, ap length xorb_rows, rows_2, ranges.xorbs, ranges.file_rows, ranges.xorb_rows);
+      file_table = sum_by_push (λ (s : SectionPart). length s.table.now) files file_part ∙ omega (arith, before.file_table, adds.files, ap length file_table, table_1, ranges.file_table);
+      xorb_table = sum_by_push (λ (s : SectionPart). length s.table.now) xorbs xorb_part ∙ omega (arith, before.xorb_table, adds.xorbs, ap length xorb_table, table_2, ranges.xorb_table);
+    }

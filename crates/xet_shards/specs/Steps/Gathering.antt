@@ -1,10 +1,11 @@
 -- Steps towards gathering the parts of shards, which only contracts inside the crate speak of.
-use Rattle.std.specs.Prelude.{◌≡◌, ◌+◌, ◌/◌, ◌<◌, ◌^◌, List, map, flat_map, length, sum_by, All}
+use Rattle.std.specs.Prelude.{◌≡◌, ◌+◌, ◌*◌, ◌/◌, ◌<◌, ◌^◌, List, map, flat_map, length, sum_by, All}
 use Rattle.std.specs.List.Sorted.{IsPermutation}
 use Rattle.xet_records.specs.declared.file_structs.MDBFileInfo.{MDBFileInfo}
 use Rattle.xet_records.specs.declared.xorb_structs.MDBXorbInfo.{MDBXorbInfo}
 use Rattle.xet_records.specs.FileRecord.{file_records, size_of_file}
 use Rattle.xet_records.specs.XorbRecord.{xorb_records}
+use Rattle.xet_shards.specs.declared.shard_format.ends.footer.MDBShardFileFooter.{MDBShardFileFooter}
 use Rattle.xet_shards.specs.declared.shard_format.export.chunk_merging.Cursor.{Cursor}
 use Rattle.xet_shards.specs.declared.shard_format.export.gathering.Totals.{Totals}
 use Rattle.xet_shards.specs.declared.shard_format.export.part_split.SplitShard.{SplitShard}
@@ -45,6 +46,13 @@ pub record HasTotals (totals : Totals) (files : List MDBFileInfo) (xorbs : List 
   pub stored_bytes : totals.stored_bytes ≡ sum_by (λ (x : MDBXorbInfo). x.metadata.num_bytes_in_xorb) xorbs
   pub stored_bytes_on_disk : totals.stored_bytes_on_disk ≡ sum_by (λ (x : MDBXorbInfo). x.metadata.num_bytes_on_disk) xorbs
 
+-- sections have as many bytes of rows as the sums count, 48 a row, and so have their tables, 12 a record
+pub record HasSizes (files xorbs : List SectionPart) (totals : Totals) : Type 0 where
+  pub file_rows : sum_by (λ s. length s.rows.now) files ≡ 48 * totals.file_rows
+  pub xorb_rows : sum_by (λ s. length s.rows.now) xorbs ≡ 48 * totals.xorb_rows
+  pub file_table : sum_by (λ s. length s.table.now) files ≡ 12 * totals.files
+  pub xorb_table : sum_by (λ s. length s.table.now) xorbs ≡ 12 * totals.xorbs
+
 -- the cursors have before them, in some order, the rows of the chunk table of these xorbs
 pub record HoldTables (cursors : List Cursor) (xorbs : List MDBXorbInfo) : Type 0 where
   pub held : List (Cursor × List ChunkTableRow)
@@ -58,3 +66,9 @@ pub record HasGathered (files xorbs : List SectionPart) (cursors : List Cursor) 
   pub xorbs_held : HoldSections xorb_records xorbs (map (λ part. part.xorbs) parts)
   pub tables_held : HoldTables cursors (xorbs_in parts)
   pub totals_are : HasTotals totals (files_in parts) (xorbs_in parts)
+
+-- a footer is at the end of these sections, their tables and a chunk table with as many rows as it counts
+pub record IsFooterOf (totals : Totals) (footer : MDBShardFileFooter) : Type 0 where
+  pub chunks : footer.chunk_lookup_num_entry + totals.xorbs ≡ totals.xorb_rows
+  pub offset : footer.footer_offset ≡ 144 + 48 * totals.file_rows + 48 * totals.xorb_rows + 12 * totals.files + 12 * totals.xorbs + 16 * footer.chunk_lookup_num_entry
+  pub buffer : length footer._buffer ≡ 6

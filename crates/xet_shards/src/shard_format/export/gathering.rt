@@ -3,7 +3,7 @@
 ghost use Rattle.std.specs.Prelude.{◌≡◌, ◌+◌, ◌/◌, ◌^◌, ◌≤◌, List, All, IfOk, IfErr, MatchResult, map};
 ghost use Rattle.xet_base.specs.Errors.{IsInvalidShard};
 ghost use Rattle.xet_shards.specs.Export.InARow.{ShardPart, bytes_of_part, IsPartUnder, files_in, xorbs_in, FitTogether, RefusesShardsInARow};
-ghost use Rattle.xet_shards.specs.Steps.Gathering.{AddsPart, FitWith, HasGathered};
+ghost use Rattle.xet_shards.specs.Steps.Gathering.{AddsPart, FitWith, HasSizes, HasGathered};
 
 use super::chunk_merging::Cursor;
 use super::part_split::{SplitShard, split_shard};
@@ -26,14 +26,15 @@ pub(in crate::shard_format) struct Totals {
     pub stored_bytes_on_disk: u64,
 }
 
-/// The sections of all parts, a cursor at the start of each chunk table, and the sums over the
-/// parts.
+/// The sections of all parts, a cursor at the start of each chunk table, the sums over the parts,
+/// and the key that their chunk hashes are under.
 #[derive(Drop)]
 pub(in crate::shard_format) struct GatheredParts<'a> {
     pub files: Vec<SectionPart<'a>>,
     pub xorbs: Vec<SectionPart<'a>>,
     pub cursors: Vec<Cursor<'a>>,
     pub totals: Totals,
+    pub key: HMACKey,
 }
 
 // The number as `u32`, or `InvalidShard` if it does not fit.
@@ -98,6 +99,8 @@ pub(in crate::shard_format) fn gather<'a>(
         → map bytes_of_part parts ≡ map (λ x. x.now) shards.now
         → IfOk result
         (λ g. HasGathered g.files.items g.xorbs.items g.cursors.items g.totals parts) }
+    ensures key { IfOk result (λ g. g.key ≡ key) }
+    ensures sizes { IfOk result (λ g. HasSizes g.files.items g.xorbs.items g.totals) }
     ensures succeeds { (parts : List ShardPart) → All (IsPartUnder key) parts
         → map bytes_of_part parts ≡ map (λ x. x.now) shards.now
         → FitTogether (files_in parts) (xorbs_in parts)
@@ -135,5 +138,6 @@ pub(in crate::shard_format) fn gather<'a>(
         xorbs,
         cursors,
         totals,
+        key,
     })
 }

@@ -11,7 +11,7 @@ ghost use Rattle.xet_records.specs.declared.xorb_structs.MDBXorbInfo.{MDBXorbInf
 ghost use Rattle.xet_records.specs.FileRecord.{FitsRecord};
 ghost use Rattle.xet_shards.specs.Content.Shard.{Shard, IsShard};
 ghost use Rattle.xet_shards.specs.Export.InARow.{ShardPart, bytes_of_part, IsPartUnder, files_in, xorbs_in, options_under, AscendBoth, HaveFewRows, FitTogether, ArePartsInARow, AreBytesOf, AreInARow, AppendsShardsInARow, IsBadPart, RefusesShardsInARow};
-ghost use Rattle.xet_shards.specs.Steps.Gathering.{HasTotals, HasGathered};
+ghost use Rattle.xet_shards.specs.Steps.Gathering.{HasTotals, HasSizes, HasGathered, IsFooterOf};
 ghost use Rattle.xet_base.specs.declared.merklehash.DataHash.{DataHash};
 ghost use Rattle.xet_shards.specs.Write.Layout.{layout_of, footer_value, info_of};
 
@@ -102,6 +102,28 @@ fn write_parts<W: Write>(alloc: Global, shards: &[&[u8]], writer: &mut W) -> Res
     ensures untouched { IfErr result
         (λ e. e ≡ CoreError.InvalidArguments → W.contents writer.new ≡ W.contents writer.old) }
 {
+    let gathered = ordered_parts(alloc, shards)?;
+    write_gathered_parts(alloc, writer, &gathered)
+}
+
+/// The parts of these shards, if they are under one key and their hashes ascend from each part to
+/// the next. The errors are those of [`shards_in_a_row`], but for the tables, and `OutOfMemory`.
+pub(super) fn ordered_parts<'a>(alloc: Global, shards: &[&'a [u8]]) -> Result<GatheredParts<'a>>
+    ensures gathered { (key : DataHash) → (parts : List ShardPart) → All (IsPartUnder key) parts
+        → map bytes_of_part parts ≡ map (λ x. x.now) shards.now
+        → IfOk result
+        (λ g. (g.key ≡ key)
+        × HasGathered g.files.items g.xorbs.items g.cursors.items g.totals parts) }
+    ensures order { (key : DataHash) → (parts : List ShardPart) → All (IsPartUnder key) parts
+        → map bytes_of_part parts ≡ map (λ x. x.now) shards.now
+        → All (λ part. AscendBoth part.files part.xorbs) parts
+        → IfOk result (λ _. AscendBoth (files_in parts) (xorbs_in parts)) }
+    ensures succeeds { (key : DataHash) → (parts : List ShardPart) → ArePartsInARow key parts
+        → map bytes_of_part parts ≡ map (λ x. x.now) shards.now
+        → IfErr result (λ e. e ≡ CoreError.OutOfMemory) }
+    ensures sizes { IfOk result (λ g. HasSizes g.files.items g.xorbs.items g.totals) }
+    ensures causes { IfErr result (RefusesShardsInARow (map (λ x. x.now) shards.now)) }
+{
     if shards.is_empty() {
         return Err(CoreError::InvalidArguments);
     }
@@ -109,52 +131,54 @@ fn write_parts<W: Write>(alloc: Global, shards: &[&[u8]], writer: &mut W) -> Res
     let gathered = gather(alloc, shards, key)?;
     check_order::<MDBFileInfo>(alloc, gathered.files.as_slice())?;
     check_order::<MDBXorbInfo>(alloc, gathered.xorbs.as_slice())?;
-    write_gathered_parts(alloc, writer, gathered, key)
+    Ok(gathered)
 }
 
-// Writes the shard that has the records of the gathered parts. `InvalidShard` if a table is
-// refused; else the error is the writer's, or `OutOfMemory` if an allocation fails.
-fn write_gathered_parts<W: Write>(
+/// Writes the shard that has the records of the gathered parts. `InvalidShard` if a table is
+/// refused; else the error is the writer's, or `OutOfMemory` if an allocation fails.
+pub(super) fn write_gathered_parts<W: Write>(
     alloc: Global,
     writer: &mut W,
-    gathered: GatheredParts<'_>,
-    key: HMACKey,
+    gathered: &GatheredParts<'_>,
 ) -> Result<MDBShardInfo>
     ensures bytes { (parts : List ShardPart)
-        → HasGathered gathered.entry.files.items gathered.entry.xorbs.items gathered.entry.cursors.items gathered.entry.totals parts
+        → HasGathered gathered.now.files.items gathered.now.xorbs.items gathered.now.cursors.items gathered.now.totals parts
         → All FitsRecord (files_in parts)
         → OnOk result
         (Appends (W.contents writer.old) (W.contents writer.new)
-        (layout_of (files_in parts) (xorbs_in parts) (options_under key))) }
+        (layout_of (files_in parts) (xorbs_in parts) (options_under gathered.now.key))) }
     ensures info { (parts : List ShardPart)
-        → HasGathered gathered.entry.files.items gathered.entry.xorbs.items gathered.entry.cursors.items gathered.entry.totals parts
+        → HasGathered gathered.now.files.items gathered.now.xorbs.items gathered.now.cursors.items gathered.now.totals parts
         → All FitsRecord (files_in parts)
         → IfOk result
-        (λ info. info ≡ info_of (files_in parts) (xorbs_in parts) (options_under key)) }
+        (λ info. info ≡ info_of (files_in parts) (xorbs_in parts) (options_under gathered.now.key)) }
     ensures succeeds { (parts : List ShardPart)
-        → HasGathered gathered.entry.files.items gathered.entry.xorbs.items gathered.entry.cursors.items gathered.entry.totals parts
+        → HasGathered gathered.now.files.items gathered.now.xorbs.items gathered.now.cursors.items gathered.now.totals parts
         → FitTogether (files_in parts) (xorbs_in parts) → IfErr result IsWriteError }
+    ensures footer { IfOk result (λ info. IsFooterOf gathered.now.totals info.metadata) }
     ensures causes { IfErr result IsBadPart }
 {
-    let GatheredParts {
-        files,
-        xorbs,
-        cursors,
-        totals,
-    } = gathered;
+    let totals = &gathered.totals;
+    let files = gathered.files.as_slice();
+    let xorbs = gathered.xorbs.as_slice();
     let Some(chunks) = totals.xorb_rows.checked_sub(totals.xorbs) else {
         return Err(CoreError::InvalidShard(String::new(alloc)));
     };
     let header = MDBShardFileHeader::of_version(FormatVersion::V3);
-    let metadata = footer_of_parts(&totals, chunks, key);
+    let metadata = footer_of_parts(totals, chunks, gathered.key);
     header.serialize(writer)?;
-    write_rows(writer, files.as_slice())?;
+    write_rows(writer, files)?;
     WrittenFiles::write_bookend(writer)?;
-    write_rows(writer, xorbs.as_slice())?;
+    write_rows(writer, xorbs)?;
     WrittenXorbs::write_bookend(writer)?;
-    write_tables::<MDBFileInfo, W>(alloc, writer, files.as_slice())?;
-    write_tables::<MDBXorbInfo, W>(alloc, writer, xorbs.as_slice())?;
-    write_merged_rows(alloc, writer, cursors.as_slice(), u64::from(chunks))?;
+    write_tables::<MDBFileInfo, W>(alloc, writer, files)?;
+    write_tables::<MDBXorbInfo, W>(alloc, writer, xorbs)?;
+    write_merged_rows(
+        alloc,
+        writer,
+        gathered.cursors.as_slice(),
+        u64::from(chunks),
+    )?;
     metadata.serialize(writer)?;
     Ok(MDBShardInfo { header, metadata })
 }
@@ -162,9 +186,11 @@ fn write_gathered_parts<W: Write>(
 // The footer of the shard that has the records of all parts, from the sums over the parts and the
 // number of all chunks.
 fn footer_of_parts(totals: &Totals, chunks: u32, key: HMACKey) -> MDBShardFileFooter
-    ensures { (files : List MDBFileInfo) → (xorbs : List MDBXorbInfo) → All FitsRecord files
+    ensures value { (files : List MDBFileInfo) → (xorbs : List MDBXorbInfo) → All FitsRecord files
         → HasTotals totals.now files xorbs → chunks + totals.now.xorbs ≡ totals.now.xorb_rows
         → result ≡ footer_value files xorbs (options_under key) }
+    ensures end { chunks + totals.now.xorbs ≡ totals.now.xorb_rows
+        → IsFooterOf totals.now result }
 {
     let row_size = ROW_SIZE as u64;
     let table_row_size = TABLE_ROW_SIZE as u64;

@@ -6,8 +6,8 @@ use Rattle.xet_shards.proofs.Write.Tables.{length-starts, length-table_bytes}
 use Rattle.xet_shards.proofs.Write.XorbLayouts.{length-chunk_table, length-chunk_table_bytes, xorb_rows-chunks}
 use Rattle.xet_shards.proofs.shard_format.export.in_a_row.footer_of_parts.Goals as goal
 
-pub returns : goal.returns
-returns c = λ files xorbs fit totals sum.
+pub returns-clause-value : goal.returns-clause-value
+returns-clause-value c = λ files xorbs fit totals sum.
     let plain = c.default.ensures in
     search (
       rules,

@@ -16,39 +16,39 @@ use Rattle.xet_shards.proofs.shard_format.export.in_a_row.write_gathered_parts.G
 pub returns-clause-bytes : goal.returns-clause-bytes
 returns-clause-bytes g c = λ parts held fit.
     let contents = g.W.Write.contents in
-    let all = c.args.gathered in
+    let all = c.args.gathered.now in
     let sum : c.in-Some.chunks + all.totals.xorbs ≡ all.totals.xorb_rows = search rules in
-    all_written all.files.items all.xorbs.items all.cursors.items all.totals parts c.args.key c.footer_of_parts-metadata.result c.in-Some.chunks
+    all_written all.files.items all.xorbs.items all.cursors.items all.totals parts all.key c.footer_of_parts-metadata.result c.in-Some.chunks
     (contents c.args.writer.now) (contents c.serialize.new.writer) (contents c.write_rows.new.writer) (contents c.write_bookend.new.writer) (contents c.write_rows-2.new.writer) (contents c.write_bookend-2.new.writer)
     (contents c.write_tables.new.writer) (contents c.write_tables-2.new.writer) (contents c.write_merged_rows.new.writer) (contents c.serialize-2.new.writer) held sum
     (subst (λ (h : MDBShardFileHeader). Appends (contents c.args.writer.now) (contents c.serialize.new.writer) (shard_header_bytes h)) c.of_version-header.ensures c.in_ok-serialize.ensures.bytes)
-    (subst (λ (ss : List SectionPart). Appends (contents c.serialize.new.writer) (contents c.write_rows.new.writer) (flat_map (λ s. s.rows.now) ss)) c.as_slice.ensures.value c.in_ok-write_rows.ensures.bytes)
+    (subst (λ (ss : List SectionPart). Appends (contents c.serialize.new.writer) (contents c.write_rows.new.writer) (flat_map (λ s. s.rows.now) ss)) c.as_slice-files.ensures.value c.in_ok-write_rows.ensures.bytes)
     c.in_ok-write_bookend.ensures.bytes
-    (subst (λ (ss : List SectionPart). Appends (contents c.write_bookend.new.writer) (contents c.write_rows-2.new.writer) (flat_map (λ s. s.rows.now) ss)) c.as_slice-2.ensures.value c.in_ok-write_rows-2.ensures.bytes)
+    (subst (λ (ss : List SectionPart). Appends (contents c.write_bookend.new.writer) (contents c.write_rows-2.new.writer) (flat_map (λ s. s.rows.now) ss)) c.as_slice-xorbs.ensures.value c.in_ok-write_rows-2.ensures.bytes)
     c.in_ok-write_bookend-2.ensures.bytes
-    (λ records hold. c.in_ok-write_tables.ensures.bytes records (subst (λ ss. HoldSections file_records ss records) (sym c.as_slice-3.ensures.value) hold))
-    (λ records hold. c.in_ok-write_tables-2.ensures.bytes records (subst (λ ss. HoldSections xorb_records ss records) (sym c.as_slice-4.ensures.value) hold))
-    (λ tables are hold count. c.in_ok-write_merged_rows.ensures.held tables (are ∙ sym c.as_slice-5.ensures.value) hold (c.from.ensures ∙ count))
+    (λ records hold. c.in_ok-write_tables.ensures.bytes records (subst (λ ss. HoldSections file_records ss records) (sym c.as_slice-files.ensures.value) hold))
+    (λ records hold. c.in_ok-write_tables-2.ensures.bytes records (subst (λ ss. HoldSections xorb_records ss records) (sym c.as_slice-xorbs.ensures.value) hold))
+    (λ tables are hold count. c.in_ok-write_merged_rows.ensures.held tables (are ∙ sym c.as_slice.ensures.value) hold (c.from.ensures ∙ count))
     c.in_ok-serialize-2.ensures.bytes
-    (c.footer_of_parts-metadata.ensures (files_in parts) (xorbs_in parts) fit held.totals_are sum)
+    (c.footer_of_parts-metadata.ensures.value (files_in parts) (xorbs_in parts) fit held.totals_are sum)
 
 pub returns-in_err-write_tables-clause-succeeds : goal.returns-in_err-write_tables-clause-succeeds
 returns-in_err-write_tables-clause-succeeds g c = λ parts held together.
-    let bad = c.in_err-write_tables.ensures.succeeds (map (λ p. p.files) parts) (subst (λ ss. HoldSections file_records ss (map (λ p. p.files) parts)) (sym c.as_slice-3.ensures.value) held.files_held) (file_rows_fit parts together) in
+    let bad = c.in_err-write_tables.ensures.succeeds (map (λ p. p.files) parts) (subst (λ ss. HoldSections file_records ss (map (λ p. p.files) parts)) (sym c.as_slice-files.ensures.value) held.files_held) (file_rows_fit parts together) in
     let p = err_from_is_err_and c.from_residual-in_err-write_tables.result c.from_residual-in_err-write_tables.ensures.1 in
     rw (p.1) (subst IsWriteError (sym p.2) bad)
 
 pub returns-in_err-write_tables-2-clause-succeeds : goal.returns-in_err-write_tables-2-clause-succeeds
 returns-in_err-write_tables-2-clause-succeeds g c = λ parts held together.
-    let bad = c.in_err-write_tables-2.ensures.succeeds (map (λ p. p.xorbs) parts) (subst (λ ss. HoldSections xorb_records ss (map (λ p. p.xorbs) parts)) (sym c.as_slice-4.ensures.value) held.xorbs_held) (xorb_rows_fit parts together) in
+    let bad = c.in_err-write_tables-2.ensures.succeeds (map (λ p. p.xorbs) parts) (subst (λ ss. HoldSections xorb_records ss (map (λ p. p.xorbs) parts)) (sym c.as_slice-xorbs.ensures.value) held.xorbs_held) (xorb_rows_fit parts together) in
     let p = err_from_is_err_and c.from_residual-in_err-write_tables-2.result c.from_residual-in_err-write_tables-2.ensures.1 in
     rw (p.1) (subst IsWriteError (sym p.2) bad)
 
 pub returns-in_err-write_merged_rows-clause-succeeds : goal.returns-in_err-write_merged_rows-clause-succeeds
 returns-in_err-write_merged_rows-clause-succeeds g c = λ parts held together.
     let tables = held.tables_held in
-    let sum : c.in-Some.chunks + c.args.gathered.totals.xorbs ≡ c.args.gathered.totals.xorb_rows = search rules in
-    let bad = c.in_err-write_merged_rows.ensures.held tables.held (tables.cursors_are ∙ sym c.as_slice-5.ensures.value) tables.hold (c.from.ensures ∙ count_is c.args.gathered.totals parts c.in-Some.chunks held.totals_are sum _ tables.moved) in
+    let sum : c.in-Some.chunks + c.args.gathered.now.totals.xorbs ≡ c.args.gathered.now.totals.xorb_rows = search rules in
+    let bad = c.in_err-write_merged_rows.ensures.held tables.held (tables.cursors_are ∙ sym c.as_slice.ensures.value) tables.hold (c.from.ensures ∙ count_is c.args.gathered.now.totals parts c.in-Some.chunks held.totals_are sum _ tables.moved) in
     let p = err_from_is_err_and c.from_residual-in_err-write_merged_rows.result c.from_residual-in_err-write_merged_rows.ensures.1 in
     rw (p.1) (subst IsWriteError (sym p.2) bad)
 
