@@ -4,4 +4,4 @@ pub mod MergeTrees
 pub mod RangeTrees
 pub mod ExportTrees
 pub mod Parts
-pub mod Filling
+pub use Rattle.xet_shards.specs.Write.Filling
