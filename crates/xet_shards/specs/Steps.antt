@@ -3,6 +3,7 @@
 pub mod ChunkLookup
 pub mod ChunkMerging
 pub mod FileStore
+pub mod Filling
 pub mod Gathering
 pub mod InARow
 pub mod Joining

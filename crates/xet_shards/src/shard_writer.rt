@@ -2,6 +2,7 @@
 //! record after another, and then the end of the shard; or all records of a shard that is read.
 
 pub use crate::shard_format::ends::options::LayoutOptions;
+pub use crate::shard_format::export::filling::shards_in_a_row_into;
 pub use crate::shard_format::export::in_a_row::shards_in_a_row;
 pub use crate::shard_format::export::rewriting::write_again;
 pub use crate::shard_format::write::writer::write_end;

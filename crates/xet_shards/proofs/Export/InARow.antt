@@ -22,7 +22,7 @@ use Rattle.xet_shards.specs.declared.shard_format.export.gathering.Totals.{Total
 use Rattle.xet_shards.specs.declared.shard_format.export.part_split.SplitShard.{SplitShard}
 use Rattle.xet_shards.specs.declared.shard_format.export.section_parts.SectionPart.{SectionPart}
 use Rattle.xet_shards.specs.Export.InARow.{ShardPart, bytes_of_part, IsPartUnder, files_in, xorbs_in, options_under, AscendBoth, HaveFewRows, FitTogether, ArePartsInARow, AreBytesOf, AreInARow, AppendsShardsInARow}
-use Rattle.xet_shards.specs.Steps.Gathering.{HasTotals, HasGathered}
+use Rattle.xet_shards.specs.Steps.Gathering.{HasTotals, HasGathered, IsFooterOf}
 use Rattle.xet_shards.specs.Steps.InARow.{HoldSections, all_of, IsSplitOf}
 use Rattle.xet_shards.specs.Steps.ChunkMerging.{HoldsRows, rows_held, Merges}
 use Rattle.xet_shards.specs.Write.Layout.{header_value, footer_value, shard_header_bytes, shard_footer_bytes, plain_options, layout_of, layout}
@@ -32,7 +32,7 @@ use Rattle.xet_records.specs.Limits.{MAX_ROWS}
 use Rattle.xet_shards.proofs.Export.RowShard.{row_of}
 use Rattle.xet_shards.specs.Write.Tables.{ChunkTableRow, table_bytes, chunk_table_rows, chunk_table_bytes, chunk_table_row_bytes}
 use Rattle.xet_shards.proofs.Write.ChunkSorting.{sorted_is_table}
-use Rattle.xet_shards.proofs.Write.XorbLayouts.{xorb_rows-chunks, length-chunk_table_rows}
+use Rattle.xet_shards.proofs.Write.XorbLayouts.{xorb_rows-chunks, length-chunk_table, length-with_options, length-chunk_table_rows}
 use Rattle.xet_shards.proofs.Write.Sections.{fits_ever, files_fit_in, xorbs_fit}
 use Rattle.xet_shards.specs.Write.WithOptions.{Ascends}
 use Rattle.xet_shards.proofs.Write.WithOptions.{files_ascend, xorbs_ascend}
@@ -81,8 +81,8 @@ pub all_written : (files xorbs : List SectionPart) (cursors : List Cursor) (tota
     → chunks + totals.xorbs ≡ totals.xorb_rows
     → Appends o a (shard_header_bytes (header_value V3)) → Appends a b (flat_map (λ s. s.rows.now) files) → Appends b c (file_records.header_bytes file_records.bookend)
     → Appends c d (flat_map (λ s. s.rows.now) xorbs) → Appends d e (xorb_records.header_bytes xorb_records.bookend)
-    → ((records : List (List MDBFileInfo)) → HoldSections file_records files records → Appends e f (table_bytes file_records (all_of records)))
-    → ((records : List (List MDBXorbInfo)) → HoldSections xorb_records xorbs records → Appends f g (table_bytes xorb_records (all_of records)))
+    → Appends e f (table_bytes file_records (all_of (map (λ part. part.files) parts)))
+    → Appends f g (table_bytes xorb_records (all_of (map (λ part. part.xorbs) parts)))
     → ((held : List (Cursor × List ChunkTableRow)) → map (λ h. h.0) held ≡ cursors → All HoldsRows held → chunks ≡ length (flat_map rows_held held) → Merges (flat_map rows_held held) g h)
     → Appends h i (shard_footer_bytes footer) → footer ≡ footer_value (files_in parts) (xorbs_in parts) (options_under key) → Appends o i (layout_of (files_in parts) (xorbs_in parts) (options_under key))
 all_written files xorbs cursors totals parts key footer chunks o a b c d e f g h i held sum header file_rows file_end xorb_rows xorb_end file_table xorb_table merges end footer_is =
@@ -92,8 +92,8 @@ all_written files xorbs cursors totals parts key footer chunks o a b c d e f g h
     subst (Appends a b) (rows_of_parts file_records.record_bytes files (map (λ p. p.files) parts) held.files_held.rows ∙ ap (flat_map file_records.record_bytes) (all_files parts)) file_rows in
     let two : Appends c d (flat_map xorb_records.record_bytes xs) =
     subst (Appends c d) (rows_of_parts xorb_records.record_bytes xorbs (map (λ p. p.xorbs) parts) held.xorbs_held.rows ∙ ap (flat_map xorb_records.record_bytes) (all_xorbs parts)) xorb_rows in
-    let three : Appends e f (table_bytes file_records fs) = subst (λ rs. Appends e f (table_bytes file_records rs)) (all_files parts) (file_table (map (λ p. p.files) parts) held.files_held) in
-    let four : Appends f g (table_bytes xorb_records xs) = subst (λ rs. Appends f g (table_bytes xorb_records rs)) (all_xorbs parts) (xorb_table (map (λ p. p.xorbs) parts) held.xorbs_held) in
+    let three : Appends e f (table_bytes file_records fs) = subst (λ rs. Appends e f (table_bytes file_records rs)) (all_files parts) file_table in
+    let four : Appends f g (table_bytes xorb_records xs) = subst (λ rs. Appends f g (table_bytes xorb_records rs)) (all_xorbs parts) xorb_table in
     let tables = held.tables_held in
     let five : Appends g h (chunk_table_bytes xs) = merged_table xs (flat_map rows_held tables.held) g h tables.moved (merges tables.held tables.cursors_are tables.hold (count_is totals parts chunks held.totals_are sum (flat_map rows_held tables.held) tables.moved)) in
     let six : Appends h i (shard_footer_bytes (footer_value fs xs (options_under key))) = subst (λ ft. Appends h i (shard_footer_bytes ft)) footer_is end in
@@ -226,8 +226,25 @@ module _ (key : DataHash) (parts : List ShardPart) (files xorbs : List SectionPa
       (subst (Ascends xorb_records) (sym (all_xorbs parts)) row.ascend.xorbs_ascend)
 
 -- the rows of all parts fit 32 bits
-pub file_rows_fit : (parts : List ShardPart) → FitTogether (files_in parts) (xorbs_in parts) → total_rows file_records (all_of (map (λ p. p.files) parts)) < 2 ^ 32
-file_rows_fit parts together = omega (arith, together.rows.file_rows, ap (total_rows file_records) (all_files parts))
+pub file_rows_fit : (parts : List ShardPart) → HaveFewRows (files_in parts) (xorbs_in parts) → total_rows file_records (all_of (map (λ p. p.files) parts)) < 2 ^ 32
+file_rows_fit parts few = omega (arith, few.file_rows, ap (total_rows file_records) (all_files parts))
 
-pub xorb_rows_fit : (parts : List ShardPart) → FitTogether (files_in parts) (xorbs_in parts) → total_rows xorb_records (all_of (map (λ p. p.xorbs) parts)) < 2 ^ 32
-xorb_rows_fit parts together = omega (arith, together.rows.xorb_rows, ap (total_rows xorb_records) (all_xorbs parts))
+pub xorb_rows_fit : (parts : List ShardPart) → HaveFewRows (files_in parts) (xorbs_in parts) → total_rows xorb_records (all_of (map (λ p. p.xorbs) parts)) < 2 ^ 32
+xorb_rows_fit parts few = omega (arith, few.xorb_rows, ap (total_rows xorb_records) (all_xorbs parts))
+
+-- the footer ends the layout
+pub layout_size : (totals : Totals) (footer : MDBShardFileFooter) (files : List MDBFileInfo) (xorbs : List MDBXorbInfo) (key : DataHash) → All FitsRecord files → HasTotals totals files xorbs → IsFooterOf totals footer
+    → footer.footer_offset + 200 ≡ length (layout_of files xorbs (options_under key))
+layout_size totals footer files xorbs key fit are end =
+    omega (
+      arith,
+      end.offset,
+      end.chunks,
+      are.files_are,
+      are.file_rows,
+      are.xorbs_are,
+      are.xorb_rows,
+      length-with_options files xorbs (options_under key) fit,
+      xorb_rows-chunks xorbs,
+      length-chunk_table xorbs,
+    )

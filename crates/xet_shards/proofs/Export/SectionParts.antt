@@ -1,9 +1,9 @@
 -- The turns of the loops that write the tables of parts.
-use Rattle.std.proofs.Common.{◌≡◌, ℕ, ◌+◌, ◌<◌, ◌≤◌, ◌^◌, List, [], ◌∷◌, ◌++◌, length, map, flat_map, take, get_or, Option, refl, sym, ap, ◌∙◌, subst, append_assoc, append-nil, arith}
+use Rattle.std.proofs.Common.{◌≡◌, ℕ, ◌+◌, ◌%◌, ◌<◌, ◌≤◌, ◌^◌, List, [], ◌∷◌, ◌++◌, length, map, flat_map, take, get_or, Option, refl, sym, ap, ◌∙◌, subst, append_assoc, append-nil, arith}
 use Rattle.std.specs.Prelude.{All}
 use Rattle.std.specs.Io.KnownBytes.{Appends}
 use Rattle.std.proofs.KnownBytes.{Appends-nil, Appends-trans}
-use Rattle.std.proofs.lemmas.List.{length-append, length-map, get_or-map, take_more}
+use Rattle.std.proofs.lemmas.List.{length-append, length-map, get_or-map, take_more, take_all}
 use Rattle.std.proofs.lemmas.List.Elements.{All-nil, All-cons, All-drop, All-weaker}
 use Rattle.std.proofs.lemmas.List.Sums.{sum_by-append, sum_by-cons, sum_by_push}
 use Rattle.std.proofs.lemmas.Grind.{flat_map-append}
@@ -114,7 +114,7 @@ module _ {H R : Type 0} (K : RecordKind H R) where
       (All-weaker (λ (s : ℕ × ℕ). s.1 ≤ total_rows K (front ++ r ∷ []) + total_rows K rs) (λ (s : ℕ × ℕ). s.1 ≤ total_rows K front + total_rows K (r ∷ rs))
       (λ s below. omega (arith, below, sum_by_push K.row_count front r, sum_by-cons K.row_count r rs)) (map (start_of K) (with_fronts (front ++ r ∷ []) rs)) (starts_within (front ++ r ∷ []) rs))
 
-  module _ (sections : List SectionPart) (records : List (List R)) (i first : ℕ) (d : SectionPart) (old now : Option (List ℕ)) (hold : HoldSections K sections records) (below : i < length sections)
+  module _ (sections : List SectionPart) (records : List (List R)) (i first : ℕ) (old now : Option (List ℕ)) (hold : HoldSections K sections records) (below : i < length sections)
       (before : HasWrittenTables K first (take i records) old now) (few : total_rows K (all_of records) < 2 ^ 32) where
     abbrev here : List R
     here = get_or records i []
@@ -126,24 +126,33 @@ module _ {H R : Type 0} (K : RecordKind H R) where
     fits_through = omega (arith, few, before.rows, sum_through (λ (rs : List R). rs) K.row_count records i [] within)
 
     -- row numbers of parts fit, since those of all do
-    pub rows_later_fit : (P : Type 0) → ((rows : List (ℕ × ℕ)) → (get_or sections i d).table.now ≡ flat_map start_row rows → All FitsStart rows → All (λ row. row.1 + first < 2 ^ 32) rows → P) → P
-    rows_later_fit P from =
-        let table : (get_or sections i d).table.now ≡ table_bytes K here =
-        sym (get_or-map (λ (s : SectionPart). s.table.now) sections i d [] below) ∙ ap (λ bs. get_or bs i []) hold.tables ∙ get_or-map (table_bytes K) records i [] [] within in
-        from (starts K here) (table_of here (get_or sections i d).table.now table) (hold.fits i [] within)
-        (All-weaker (λ (s : ℕ × ℕ). s.1 ≤ total_rows K [] + total_rows K here) (λ (s : ℕ × ℕ). s.1 + first < 2 ^ 32) (λ s low. omega (arith, low, fits_through)) (starts K here) (starts_within [] here))
+    pub later_fit : All (λ (row : ℕ × ℕ). row.1 + first < 2 ^ 32) (starts K here)
+    later_fit =
+        All-weaker (λ (s : ℕ × ℕ). s.1 ≤ total_rows K [] + total_rows K here) (λ (s : ℕ × ℕ). s.1 + first < 2 ^ 32) (λ s low. omega (arith, low, fits_through)) (starts K here) (starts_within [] here)
 
-    pub count_fits : 2 ^ 32 ≤ first + (get_or sections i d).count → ⊥
-    count_fits passes =
-        let count : (get_or sections i d).count ≡ total_rows K here =
-        sym (get_or-map (λ (s : SectionPart). s.count) sections i d 0 below) ∙ ap (λ ns. get_or ns i 0) hold.counts ∙ get_or-map (total_rows K) records i [] 0 within in
-        omega (arith, passes, fits_through, count)
+    module _ (d : SectionPart) where
+      count : (get_or sections i d).count ≡ total_rows K here
+      count = sym (get_or-map (λ (s : SectionPart). s.count) sections i d 0 below) ∙ ap (λ ns. get_or ns i 0) hold.counts ∙ get_or-map (total_rows K) records i [] 0 within
 
-  pub one_table_written : (sections : List SectionPart) (records : List (List R)) (i first later : ℕ) (d : SectionPart) (old now new : Option (List ℕ)) → HoldSections K sections records → i < length sections
-      → HasWrittenTables K first (take i records) old now
-      → ((rows : List (ℕ × ℕ)) → (get_or sections i d).table.now ≡ flat_map start_row rows → All FitsStart rows → Appends now new (flat_map start_row (map (start_later first) rows)))
+      pub rows_later_fit : (P : Type 0) → ((rows : List (ℕ × ℕ)) → (get_or sections i d).table.now ≡ flat_map start_row rows → All FitsStart rows → All (λ row. row.1 + first < 2 ^ 32) rows → P) → P
+      rows_later_fit P from =
+          let table : (get_or sections i d).table.now ≡ table_bytes K here =
+          sym (get_or-map (λ (s : SectionPart). s.table.now) sections i d [] below) ∙ ap (λ bs. get_or bs i []) hold.tables ∙ get_or-map (table_bytes K) records i [] [] within in
+          from (starts K here) (table_of here (get_or sections i d).table.now table) (hold.fits i [] within) later_fit
+
+      pub count_fits : 2 ^ 32 ≤ first + (get_or sections i d).count → ⊥
+      count_fits passes = omega (arith, passes, fits_through, count)
+
+      -- so their sum does not wrap
+      pub count_kept : (first + (get_or sections i d).count) % 2 ^ 32 ≡ first + (get_or sections i d).count
+      count_kept = omega (arith, fits_through, count)
+
+  -- a table was written whose row numbers are as the writing asks
+  pub one_table_written : (sections : List SectionPart) (records : List (List R)) (i first later : ℕ) (d : SectionPart) (old now new : Option (List ℕ)) (AreFine : List (ℕ × ℕ) → Type 0) → HoldSections K sections records
+      → i < length sections → HasWrittenTables K first (take i records) old now → AreFine (starts K (get_or records i []))
+      → ((rows : List (ℕ × ℕ)) → (get_or sections i d).table.now ≡ flat_map start_row rows → All FitsStart rows → AreFine rows → Appends now new (flat_map start_row (map (start_later first) rows)))
       → later ≡ first + (get_or sections i d).count → HasWrittenTables K later (take (i + 1) records) old new
-  one_table_written sections records i first later d old now new hold below before wrote sum =
+  one_table_written sections records i first later d old now new AreFine hold below before fine wrote sum =
       let lens : length sections ≡ length records = sym (length-map sections (λ (s : SectionPart). s.count)) ∙ ap length hold.counts ∙ length-map records (total_rows K) in
       let within : i < length records = omega (arith, below, lens) in
       let here : List R = get_or records i [] in
@@ -156,5 +165,11 @@ module _ {H R : Type 0} (K : RecordKind H R) where
         rows = sum ∙ omega (arith, before.rows, count, sum_by-append K.row_count (all_of (take i records)) here) ∙ ap (total_rows K) (sym more);
         written = subst (Appends old new) (sym (ap (table_bytes K) more ∙ table_bytes-append (all_of (take i records)) here))
             (Appends-trans old now new (table_bytes K (all_of (take i records))) (flat_map start_row (map (start_later (total_rows K (all_of (take i records)))) (starts K here))) before.written
-            (subst (λ n. Appends now new (flat_map start_row (map (start_later n) (starts K here)))) before.rows (wrote (starts K here) (table_of here (get_or sections i d).table.now table) (hold.fits i [] within))));
+            (subst (λ n. Appends now new (flat_map start_row (map (start_later n) (starts K here)))) before.rows (wrote (starts K here) (table_of here (get_or sections i d).table.now table) (hold.fits i [] within) fine)));
       }
+
+  pub all_tables_written : (sections : List SectionPart) (records : List (List R)) (i first : ℕ) (old now : Option (List ℕ)) → HoldSections K sections records → length sections ≤ i
+      → HasWrittenTables K first (take i records) old now → Appends old now (table_bytes K (all_of records))
+  all_tables_written sections records i first old now hold past before =
+      let lens : length sections ≡ length records = sym (length-map sections (λ (s : SectionPart). s.count)) ∙ ap length hold.counts ∙ length-map records (total_rows K) in
+      subst (λ rs. Appends old now (table_bytes K (all_of rs))) (take_all i records (omega (arith, past, lens))) before.written

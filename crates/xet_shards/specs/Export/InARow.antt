@@ -11,7 +11,7 @@ use Rattle.xet_records.specs.FileRecord.{file_records, file_records_in, size_of_
 use Rattle.xet_records.specs.XorbRecord.{xorb_records}
 use Rattle.std.specs.FinMap.{values}
 use Rattle.xet_shards.specs.Content.Shard.{Shard, IsShard}
-use Rattle.xet_shards.specs.Write.WrittenShard.{IsBytesOf}
+use Rattle.xet_shards.specs.Write.WrittenShard.{IsBytesOf, IsBytesWithoutExpiry}
 use Rattle.xet_shards.specs.Ends.Ends.{FitsFooter, FormatCase, IsUnsupported, IsTooShort}
 use Rattle.xet_shards.specs.Write.Layout.{LayoutOptions, plain_options, footer_value, layout_of, layout}
 use Rattle.xet_records.specs.Limits.{MAX_ROWS}
@@ -125,3 +125,10 @@ pub record AppendsShardsInARow (shards : List Shard) (old new : Option (List ℕ
   pub is_shard : IsShard all
   pub row : AreInARow shards all
   pub appended : Appends old new (layout all None)
+
+-- the bytes, without expiry, are those of the shard that has the records of these shards in their
+-- order
+pub record IsConcatenation (shards : List Shard) (bytes : List ℕ) : Type 0 where
+  pub all : Shard
+  pub row : AreInARow shards all
+  pub is_bytes : IsBytesWithoutExpiry all bytes

@@ -72,3 +72,4 @@ pub record IsFooterOf (totals : Totals) (footer : MDBShardFileFooter) : Type 0 w
   pub chunks : footer.chunk_lookup_num_entry + totals.xorbs ≡ totals.xorb_rows
   pub offset : footer.footer_offset ≡ 144 + 48 * totals.file_rows + 48 * totals.xorb_rows + 12 * totals.files + 12 * totals.xorbs + 16 * footer.chunk_lookup_num_entry
   pub buffer : length footer._buffer ≡ 6
+  pub small : footer.footer_offset < 2 ^ 40

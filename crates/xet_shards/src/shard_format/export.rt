@@ -14,6 +14,7 @@
 //! whatever the tables.
 
 pub(super) mod chunk_merging;
+pub(crate) mod filling;
 pub(super) mod gathering;
 pub(crate) mod in_a_row;
 pub(super) mod keyed_chunks;

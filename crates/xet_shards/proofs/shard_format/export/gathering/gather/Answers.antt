@@ -10,9 +10,9 @@ loop-shard-preserved c = (
       let rows_fit : c.in_ok-more.more.xorb_rows < 2 ^ 32 = search rules in
       rw (c.in_ok-push.ensures.items, c.in_ok-push-2.ensures.items, c.in_ok-push-3.ensures.items)
       (gathered_next c.args.key parts c.args.shards.now fit are c.loop-shard.files.items c.loop-shard.xorbs.items c.loop-shard.cursors.items c.loop-shard.totals c.in_ok-more.more c.loop-shard.shard-index _ c.in_ok-split.split c.loop-shard-test.true (c.loop-shard.invariant.0 parts fit are)
-    c.in_ok-split.ensures.split c.in_ok-more.ensures.sums rows_fit),
+      c.in_ok-split.ensures.split c.in_ok-more.ensures.sums rows_fit),
   rw (c.in_ok-push.ensures.items, c.in_ok-push-2.ensures.items)
-  (sizes_more c.loop-shard.files.items c.loop-shard.xorbs.items c.loop-shard.totals c.in_ok-more.more _ c.in_ok-split.split _ _ c.loop-shard.invariant.1 c.in_ok-split.ensures.ranges.0 c.in_ok-split.ensures.ranges.1 c.in_ok-more.ensures.sums refl refl refl refl),
+      (sizes_more c.loop-shard.files.items c.loop-shard.xorbs.items c.loop-shard.totals c.in_ok-more.more _ c.in_ok-split.split _ _ c.loop-shard.invariant.1 c.in_ok-split.ensures.ranges.0 c.in_ok-split.ensures.ranges.1 c.in_ok-more.ensures.sums refl refl refl refl),
 )
 
 pub returns-clause-gathered : goal.returns-clause-gathered

@@ -1,12 +1,10 @@
-use Rattle.std.proofs.Common.{◌≡◌, ◌<◌, ◌∙◌, ℕ, List, Bor, map, length, All, sym, ap, subst, arith, rules}
+use Rattle.std.proofs.Common.{◌≡◌, ◌<◌, ◌∙◌, ℕ, List, Bor, length, All, sym, ap, subst, arith}
 use Rattle.std.proofs.lemmas.Bool.Decides.{nat_tests}
 use Rattle.std.proofs.lemmas.Result.{err_from_is_err_and}
 use Rattle.std.proofs.lemmas.List.{length-map}
-use Rattle.xet_base.specs.declared.merklehash.DataHash.{DataHash}
 use Rattle.xet_records.specs.FileRecord.{file_records}
 use Rattle.xet_records.specs.XorbRecord.{xorb_records}
-use Rattle.xet_shards.specs.Export.InARow.{ShardPart, bytes_of_part, IsPartUnder}
-use Rattle.xet_shards.specs.Steps.Gathering.{HasGathered}
+use Rattle.xet_shards.specs.Export.InARow.{bytes_of_part, IsPartUnder}
 use Rattle.xet_shards.specs.Steps.InARow.{HoldSections}
 use Rattle.xet_shards.proofs.Export.InARow.{first_key, in_order, files_not_refused, xorbs_not_refused}
 use Rattle.xet_shards.proofs.Export.Gathering.{part_splits}

@@ -26,21 +26,21 @@ returns-clause-bytes g c = λ parts held fit.
     c.in_ok-write_bookend.ensures.bytes
     (subst (λ (ss : List SectionPart). Appends (contents c.write_bookend.new.writer) (contents c.write_rows-2.new.writer) (flat_map (λ s. s.rows.now) ss)) c.as_slice-xorbs.ensures.value c.in_ok-write_rows-2.ensures.bytes)
     c.in_ok-write_bookend-2.ensures.bytes
-    (λ records hold. c.in_ok-write_tables.ensures.bytes records (subst (λ ss. HoldSections file_records ss records) (sym c.as_slice-files.ensures.value) hold))
-    (λ records hold. c.in_ok-write_tables-2.ensures.bytes records (subst (λ ss. HoldSections xorb_records ss records) (sym c.as_slice-xorbs.ensures.value) hold))
+    (c.in_ok-write_tables.ensures.bytes (map (λ p. p.files) parts) (subst (λ ss. HoldSections file_records ss (map (λ p. p.files) parts)) (sym c.as_slice-files.ensures.value) held.files_held))
+    (c.in_ok-write_tables-2.ensures.bytes (map (λ p. p.xorbs) parts) (subst (λ ss. HoldSections xorb_records ss (map (λ p. p.xorbs) parts)) (sym c.as_slice-xorbs.ensures.value) held.xorbs_held))
     (λ tables are hold count. c.in_ok-write_merged_rows.ensures.held tables (are ∙ sym c.as_slice.ensures.value) hold (c.from.ensures ∙ count))
     c.in_ok-serialize-2.ensures.bytes
     (c.footer_of_parts-metadata.ensures.value (files_in parts) (xorbs_in parts) fit held.totals_are sum)
 
 pub returns-in_err-write_tables-clause-succeeds : goal.returns-in_err-write_tables-clause-succeeds
 returns-in_err-write_tables-clause-succeeds g c = λ parts held together.
-    let bad = c.in_err-write_tables.ensures.succeeds (map (λ p. p.files) parts) (subst (λ ss. HoldSections file_records ss (map (λ p. p.files) parts)) (sym c.as_slice-files.ensures.value) held.files_held) (file_rows_fit parts together) in
+    let bad = c.in_err-write_tables.ensures.succeeds (map (λ p. p.files) parts) (subst (λ ss. HoldSections file_records ss (map (λ p. p.files) parts)) (sym c.as_slice-files.ensures.value) held.files_held) (file_rows_fit parts together.rows) in
     let p = err_from_is_err_and c.from_residual-in_err-write_tables.result c.from_residual-in_err-write_tables.ensures.1 in
     rw (p.1) (subst IsWriteError (sym p.2) bad)
 
 pub returns-in_err-write_tables-2-clause-succeeds : goal.returns-in_err-write_tables-2-clause-succeeds
 returns-in_err-write_tables-2-clause-succeeds g c = λ parts held together.
-    let bad = c.in_err-write_tables-2.ensures.succeeds (map (λ p. p.xorbs) parts) (subst (λ ss. HoldSections xorb_records ss (map (λ p. p.xorbs) parts)) (sym c.as_slice-xorbs.ensures.value) held.xorbs_held) (xorb_rows_fit parts together) in
+    let bad = c.in_err-write_tables-2.ensures.succeeds (map (λ p. p.xorbs) parts) (subst (λ ss. HoldSections xorb_records ss (map (λ p. p.xorbs) parts)) (sym c.as_slice-xorbs.ensures.value) held.xorbs_held) (xorb_rows_fit parts together.rows) in
     let p = err_from_is_err_and c.from_residual-in_err-write_tables-2.result c.from_residual-in_err-write_tables-2.ensures.1 in
     rw (p.1) (subst IsWriteError (sym p.2) bad)
 
