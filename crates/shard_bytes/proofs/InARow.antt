@@ -4,9 +4,8 @@ use Rattle.std.specs.Io.KnownBytes.{Appends}
 use Rattle.xet_core_structures.specs.declared.error.CoreError.{CoreError}
 use Rattle.xet_core_structures.specs.declared.error.CoreError.TheVariants.{OutOfMemory}
 use Rattle.xet_core_structures.specs.Errors.{IsWriteError}
-use Rattle.xet_core_structures.specs.InARow.{AppendsShardsInARow}
+use Rattle.xet_core_structures.specs.InARow.{AppendsShardsInARow, IsConcatenation}
 use Rattle.xet_core_structures.specs.Shard.{Shard}
-use Rattle.shard_bytes.specs.InARow.{IsConcatenation}
 
 -- after bytes were appended to nothing, they are all that is there
 pub appended_is : (items old now : List ℕ) → old ≡ [] → Appends (Some old) (Some now) items → now ≡ items
@@ -19,3 +18,8 @@ row_is shards old now none wrote = record { all = wrote.all; row = wrote.row; is
 pub lacks_memory : (e r : CoreError) → ((r ≡ OutOfMemory) × IsWriteError e) ⊎ ((r ≡ e) × (¬ IsWriteError e)) → IsWriteError e → r ≡ OutOfMemory
 lacks_memory e r (inl (is, write)) wrote = is
 lacks_memory e r (inr (is, none)) wrote = absurd (none wrote)
+
+-- a failed allocation stays one
+pub lacks_still : (e r : CoreError) → ((r ≡ OutOfMemory) × IsWriteError e) ⊎ ((r ≡ e) × (¬ IsWriteError e)) → e ≡ OutOfMemory → r ≡ OutOfMemory
+lacks_still e r (inl (is, write)) lacks = is
+lacks_still e r (inr (is, none)) lacks = is ∙ lacks
