@@ -222,8 +222,8 @@ uint32_t xet_merge_range(const xet_bytes *shards, size_t count, const xet_range 
  * have together at most 4294967295 rows a section, it fails for memory alone.
  *
  * Records are copied and not checked: of shards that are not trusted xet_check tells what is wrong with what is made
- * of them. `out` needs no more room than such shards have bytes in all. What is written is made first, and
- * copied; beyond that it takes some hundred bytes of memory a shard.
+ * of them. `out` needs no more room than such shards have bytes in all. They are written to `out` at once, after all
+ * tables were read a first time; beyond that it takes some hundred bytes of memory a shard.
  *
  * XET_INVALID_ARGUMENTS: there is no shard, the keys differ, or hashes do not ascend from one shard to the next.
  * XET_SHARD_VERSION, XET_IO: the errors of xet_load, of any of the shards.

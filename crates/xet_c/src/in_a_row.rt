@@ -2,24 +2,24 @@
 
 ghost use Rattle.std.specs.Prelude.{◌≡◌, ◌<◌, ⊤, List, All, None, map, length};
 ghost use Rattle.std.specs.List.{AllZip};
-ghost use Rattle.xet_core_structures.specs.InARow.{ShardPart, bytes_of_part, IsPartUnder, files_in, xorbs_in, options_under, AscendBoth, ArePartsInARow, AreBytesOf, AreInARow, RefusesShardsInARow};
+ghost use Rattle.xet_core_structures.specs.InARow.{ShardPart, bytes_of_part, IsPartUnder, files_in, xorbs_in, options_under, AscendBoth, ArePartsInARow, AreBytesOf, AreInARow, IsConcatenation, RefusesShardsInARow};
 ghost use Rattle.xet_core_structures.specs.Layout.{layout_of};
 ghost use Rattle.xet_core_structures.specs.Records.Ranges.{IsPartOf, is_within, ranges_between, AreCuts};
 ghost use Rattle.xet_core_structures.specs.Shard.{Shard, IsShard};
 ghost use Rattle.xet_core_structures.specs.Trees.RangeTrees.{IsHeldLayout};
 ghost use Rattle.xet_core_structures.specs.TwoShards.ByteResults.{keyed_layout};
 ghost use Rattle.xet_core_structures.specs.declared.merklehash.DataHash.{DataHash};
-ghost use Rattle.shard_bytes.specs.InARow.{IsConcatenation};
 ghost use Rattle.shard_bytes.specs.Outcomes.{InMemory};
 ghost use Rattle.xet_c.specs.Output.{Outcome};
 
-use crate::output::deliver;
-use shard_bytes::in_a_row::concatenate;
+use crate::output::answer;
+use shard_bytes::in_a_row::concatenate_into;
 use std::alloc::Global;
 use xet_core_structures::error::CoreError;
 
-/// The shard that has the records of all shards, in their order, to the front of `out`. The hashes
-/// of files and those of xorbs have to ascend from each shard to the next.
+/// The shard that has the records of all shards, in their order, to the front of `out`, to which it
+/// is written at once. The hashes of files and those of xorbs have to ascend from each shard to the
+/// next.
 #[unsafe(no_mangle)]
 pub extern "C" fn xet_concatenate(
     alloc: Global,
@@ -55,6 +55,6 @@ pub extern "C" fn xet_concatenate(
         → Outcome (λ bytes. bytes ≡ keyed_layout join key) (λ e. e ≡ CoreError.OutOfMemory) out.old
         out.new written.new result }
 {
-    let bytes = concatenate(alloc, shards);
-    deliver(bytes, out, written)
+    let filled = concatenate_into(alloc, shards, out);
+    answer(filled, out.len(), written)
 }
