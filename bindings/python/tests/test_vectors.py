@@ -523,6 +523,29 @@ def test_concatenate():
             assert xet_shards.concatenate(parts) == xet_shards.merge(shards) == both
 
 
+def test_concatenate_into():
+    one, two = shard_of("file 100 200:0:5:5", "xorb 200 21:5"), shard_of("file 200 200:0:5:5", "xorb 300 22:5 23:5")
+    both = xet_shards.concatenate([one, two])
+    with tempfile.TemporaryFile() as file:
+        file.truncate(len(both) + 10)
+        with mmap.mmap(file.fileno(), 0) as out:
+            assert xet_shards.concatenate_into([one, two], out) == len(both)
+            assert out[:] == both + bytes(10)
+    out = bytearray(b"?" * (len(both) - 1))
+    assert xet_shards.concatenate_into([one, two], out) == len(both)
+    assert out == b"?" * len(out)
+    out.append(63)
+    # A table of chunks that does not ascend is found before anything is written: its rows are before the footer.
+    descending = two[:-232] + two[-216:-200] + two[-232:-216] + two[-200:]
+    for parts in ([two, one], [one, two[:199]], [one, xet_shards.minimal(two, 0)], [one, descending]):
+        raises(xet_shards.XetError, xet_shards.concatenate_into, parts, out)
+        assert out == b"?" * len(both)
+    assert xet_shards.concatenate_into([one, two], memoryview(out)) == len(both)
+    assert out == both
+    raises(ValueError, xet_shards.concatenate_into, [], out)
+    raises(TypeError, xet_shards.concatenate_into, [one, two], both)
+
+
 def test_concatenate_refuses():
     one, two = shard_of("file 100 200:0:5:5", "xorb 200 21:5"), shard_of("file 200 200:0:5:5", "xorb 300 22:5")
     refused("InvalidArguments", xet_shards.concatenate, [two, one])

@@ -27,11 +27,11 @@ from typing import Any, Callable, Dict, Iterable, Iterator, List, Optional, Sequ
 __all__ = [
     "Buffer", "Chunk", "Disagreement", "DisagreementError", "File", "Finding", "Index", "Info", "ListedFile",
     "MalformedError", "MalformedRecord", "NO_EXPIRY", "NO_KEY", "Run", "Segment", "Table", "WritableBuffer",
-    "XetError", "Xorb", "check", "chunk_rows", "concatenate", "difference", "eligible", "export", "file_at", "file_in",
-    "files", "find_disagreement", "find_file", "find_malformed", "find_places", "find_rows", "from_table",
-    "hash_bytes", "hash_of_name", "hash_texts", "hmac", "load", "merge", "merge_into", "merge_room", "minimal",
-    "query_at", "query_chunks", "shard_name", "subset", "table", "union", "write", "write_v2", "xorb_at", "xorb_in",
-    "xorbs",
+    "XetError", "Xorb", "check", "chunk_rows", "concatenate", "concatenate_into", "difference", "eligible", "export",
+    "file_at", "file_in", "files", "find_disagreement", "find_file", "find_malformed", "find_places", "find_rows",
+    "from_table", "hash_bytes", "hash_of_name", "hash_texts", "hmac", "load", "merge", "merge_into", "merge_room",
+    "minimal", "query_at", "query_chunks", "shard_name", "subset", "table", "union", "write", "write_v2", "xorb_at",
+    "xorb_in", "xorbs",
 ]
 
 __version__ = "0.1.0"
@@ -1226,6 +1226,24 @@ def concatenate(shards: Iterable[Buffer]) -> bytes:
             lambda out, room, written: _library.xet_concatenate(listed, len(data), out, room, byref(written)),
             "the keys of the shards differ, or hashes do not ascend from one shard to the next",
         )
+
+
+def concatenate_into(shards: Iterable[Buffer], out: WritableBuffer) -> int:
+    """Writes what `concatenate` returns to the front of a buffer that can be written, and returns its number of bytes.
+
+    If the buffer is too small, and after any error, it stays as it is: if it is too small, the number is greater than
+    its length. With inputs and output in files that are mapped, this needs some hundred bytes a shard of its own.
+    """
+    shards = list(shards)
+    if not shards:
+        raise ValueError("no shard is given")
+    room, written = memoryview(out).nbytes, c_size_t()
+    array = (c_char * room).from_buffer(out)
+    with _Addresses(*shards) as data:
+        number = _library.xet_concatenate(_list(data), len(data), array, room, byref(written))
+    if number != _SHORT:
+        _check(number)
+    return written.value
 
 
 def find_disagreement(shards: Iterable[Buffer]) -> Optional[Disagreement]:

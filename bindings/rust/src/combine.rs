@@ -2,7 +2,7 @@
 
 use crate::calls::{self, Bytes};
 use crate::error::{check, Error};
-use crate::output::{bytes_of, with_room};
+use crate::output::{bytes_of, with_room, SHORT};
 use crate::{Hash, Result};
 use std::fmt;
 use std::ops::{Bound, RangeBounds};
@@ -247,6 +247,40 @@ fn next(mut hash: Hash) -> Option<Hash> {
 pub fn concatenate<T: AsRef<[u8]>>(shards: &[T]) -> Result<Vec<u8>> {
     let (list, length) = listed(shards)?;
     bytes_of(length, |out, written| calls::xet_concatenate(&list, out, written))
+}
+
+/// What [`concatenate`] returns, straight to the front of `out`, and its number of bytes. If `out` is too small, and
+/// after any error, it stays as it is: if it is too small, the number is greater than its length. It may be a file that
+/// is mapped to memory; beside it the call needs some hundred bytes a shard.
+///
+/// # Errors
+///
+/// As of [`concatenate`].
+///
+/// ```
+/// use xet_shards::Hash;
+///
+/// # fn main() -> Result<(), Box<dyn std::error::Error>> {
+/// let shards = [std::fs::read("examples/a.mdb")?, std::fs::read("examples/b.mdb")?];
+/// let middle = Hash([1 << 63, 0, 0, 0]);
+/// let parts = [xet_shards::merge_range(&shards, ..middle)?, xet_shards::merge_range(&shards, middle..)?];
+/// let whole = xet_shards::merge(&shards)?;
+/// let mut out = vec![7; whole.len() + 1];
+/// assert_eq!(xet_shards::concatenate_into(&parts, &mut out[..whole.len() - 1])?, whole.len());
+/// assert!(xet_shards::concatenate_into(&[&parts[1], &parts[0]], &mut out).is_err());
+/// assert_eq!(out, vec![7; whole.len() + 1]);
+/// assert_eq!(xet_shards::concatenate_into(&parts, &mut out)?, whole.len());
+/// assert_eq!((&out[..whole.len()], out[whole.len()]), (&whole[..], 7));
+/// # Ok(())
+/// # }
+/// ```
+pub fn concatenate_into<T: AsRef<[u8]>>(shards: &[T], out: &mut [u8]) -> Result<usize> {
+    let (list, mut written) = (listed(shards)?.0, 0);
+    let number = calls::xet_concatenate(&list, out, &mut written);
+    if number != SHORT {
+        check(number)?;
+    }
+    Ok(written)
 }
 
 /// The union of one shard or more as [`merge`] makes it, if each of the shards is well-formed and each two agree. It is
