@@ -400,6 +400,12 @@ _get_buffer = ctypes.PYFUNCTYPE(c_int, ctypes.py_object, POINTER(_View), c_int)(
 )
 _release_buffer = ctypes.PYFUNCTYPE(None, POINTER(_View))(("PyBuffer_Release", ctypes.pythonapi))
 
+# To make bytes: see `_written_bytes`.
+_new_bytes = ctypes.PYFUNCTYPE(c_void_p, c_char_p, c_ssize_t)(("PyBytes_FromStringAndSize", ctypes.pythonapi))
+_address_of_bytes = ctypes.PYFUNCTYPE(c_void_p, c_void_p)(("PyBytes_AsString", ctypes.pythonapi))
+_resize_bytes = ctypes.PYFUNCTYPE(c_int, POINTER(c_void_p), c_ssize_t)(("_PyBytes_Resize", ctypes.pythonapi))
+_release = ctypes.PYFUNCTYPE(None, c_void_p)(("Py_DecRef", ctypes.pythonapi))
+
 _SHARD = [c_void_p, c_size_t]
 _LIST = [POINTER(_ShardBytes), c_size_t]
 _HASHES = [POINTER(_Hash), c_size_t]
@@ -567,6 +573,39 @@ def _made(
     """Returns the bytes that a call makes of inputs of so many bytes."""
     made: bytes = _filled(c_char, room + 400, call, reason)
     return made
+
+
+# The kernel clears a large page at once. The C library gives memory of this size back when it is freed, so that no
+# other memory is advised.
+_LARGE_ROOM = 1 << 25
+_madvise = getattr(ctypes.CDLL(None), "madvise", None)
+
+
+def _advise_large_pages(address: int, length: int) -> None:
+    """Asks for large pages for memory that is not written to yet, where the system has them."""
+    advice = getattr(mmap, "MADV_HUGEPAGE", None)
+    if length >= _LARGE_ROOM and _madvise and advice is not None:
+        start = -(-address // mmap.PAGESIZE) * mmap.PAGESIZE
+        # Whether they are granted makes no difference but in time.
+        _madvise(c_void_p(start), c_size_t((address + length - start) // mmap.PAGESIZE * mmap.PAGESIZE), advice)
+
+
+def _written_bytes(room: int, write: Callable[[memoryview], int]) -> bytes:
+    """Returns what is written to the front of memory of so many bytes, and does not copy it.
+
+    Pages that no one writes to cost nothing, and no one else has the bytes before they are returned.
+    """
+    made = c_void_p(_new_bytes(None, room))
+    try:
+        address = _address_of_bytes(made)
+        _advise_large_pages(address, room)
+        _resize_bytes(byref(made), write(memoryview((c_char * room).from_address(address))))
+        whole: bytes = ctypes.cast(made, ctypes.py_object).value
+        return whole
+    finally:
+        # A call that fails to resize them leaves none.
+        if made:
+            _release(made)
 
 
 def load(shard: Buffer) -> Info:
@@ -1096,9 +1135,8 @@ def merge(
     well-formed, and a `DisagreementError` if two do not agree; so what it returns has no order, whatever is given.
     """
     shards = list(shards)
-    # Pages that no one writes to cost nothing, and with this room no merge is made twice.
-    out = mmap.mmap(-1, merge_room(shards), flags=mmap.MAP_PRIVATE | mmap.MAP_ANONYMOUS)
-    return out[: merge_into(shards, out, strict, start, stop)]
+    # With this room no merge is made twice.
+    return _written_bytes(merge_room(shards), lambda out: merge_into(shards, out, strict, start, stop))
 
 
 def merge_room(shards: Iterable[Buffer]) -> int:
