@@ -1119,7 +1119,11 @@ def _combined(operation: Callable[..., Any], first: Buffer, second: Buffer) -> b
 
 
 def merge(
-    shards: Iterable[Buffer], strict: bool = False, start: Optional[str] = None, stop: Optional[str] = None
+    shards: Iterable[Buffer],
+    strict: bool = False,
+    start: Optional[str] = None,
+    stop: Optional[str] = None,
+    threads: Optional[int] = None,
 ) -> bytes:
     """Returns the union of one shard or more, by a balanced tree of unions; a single one is united with itself.
 
@@ -1127,6 +1131,9 @@ def merge(
     below `stop`. Of well-formed shards that agree, ranges that follow one another have together each record of the join
     once, so each may be merged by a thread or a machine of its own. All shards are read for each range, and with
     `strict` all their records have to agree.
+
+    With `threads` so many threads at most merge a range each, and `concatenate` puts the results together. Bytes and
+    errors are the same, whatever is given; the bytes of the output are in memory twice.
 
     If the sections of the inputs hold well-formed shards that agree pairwise, under one key, it is the bytes of their
     join, which has no order, and any other tree of unions gives the same. Shards agree if files with one hash have
@@ -1136,7 +1143,7 @@ def merge(
     """
     shards = list(shards)
     # With this room no merge is made twice.
-    return _written_bytes(merge_room(shards), lambda out: merge_into(shards, out, strict, start, stop))
+    return _written_bytes(merge_room(shards), lambda out: merge_into(shards, out, strict, start, stop, threads))
 
 
 def merge_room(shards: Iterable[Buffer]) -> int:
@@ -1152,6 +1159,7 @@ def merge_into(
     strict: bool = False,
     start: Optional[str] = None,
     stop: Optional[str] = None,
+    threads: Optional[int] = None,
 ) -> int:
     """Writes what `merge` returns to the front of a buffer that can be written, and returns the number of its bytes.
 
@@ -1163,6 +1171,12 @@ def merge_into(
     shards = list(shards)
     if not shards:
         raise ValueError("no shard is given")
+    if threads is not None and threads < 1:
+        raise ValueError("there is one thread at least")
+    if threads is not None and threads > 1:
+        length = _merge_in_threads_to(shards, out, threads, strict, start, stop)
+        if length is not None:
+            return length
     try:
         if start is not None or stop is not None:
             return _merge_range_to(shards, out, strict, start, stop)
@@ -1203,16 +1217,23 @@ def _key_of(shard: Buffer) -> Optional[str]:
 
 def _merge_to(call: Callable[..., Any], shards: Sequence[Buffer], out: WritableBuffer) -> int:
     """Makes a call that merges shards to the front of a buffer, and returns the number of the bytes of the merge."""
-    room, written = memoryview(out).nbytes, c_size_t()
-    array = (c_char * room).from_buffer(out)
-    start = ctypes.addressof(array)
+    array, written = _array_over(out), c_size_t()
     with _Addresses(*shards) as data:
-        if any(max(start, address) < min(start + room, address + length) for address, length in data):
-            raise ValueError("the output shares memory with a shard")
-        number = call(_list(data), len(data), array, room, byref(written))
+        _check_apart(array, data)
+        number = call(_list(data), len(data), array, len(array), byref(written))
     if number != _SHORT:
         _check(number)
     return written.value
+
+
+def _array_over(out: WritableBuffer) -> ctypes.Array[c_char]:
+    return (c_char * memoryview(out).nbytes).from_buffer(out)
+
+
+def _check_apart(array: ctypes.Array[c_char], data: Sequence[Tuple[int, int]]) -> None:
+    start = ctypes.addressof(array)
+    if any(max(start, address) < min(start + len(array), address + length) for address, length in data):
+        raise ValueError("the output shares memory with a shard")
 
 
 def _merge_strictly_to(shards: Sequence[Buffer], out: WritableBuffer) -> int:
@@ -1232,8 +1253,7 @@ def _merge_strictly_to(shards: Sequence[Buffer], out: WritableBuffer) -> int:
 def _merge_range_to(
     shards: Sequence[Buffer], out: WritableBuffer, strict: bool, start: Optional[str], stop: Optional[str]
 ) -> int:
-    words = [_words(NO_KEY if it is None else it) for it in (start, stop)]
-    asked = _Range(*words, start is not None, stop is not None)
+    asked = _range(*(None if it is None else tuple(_words(it)) for it in (start, stop)))
     if strict:
         malformed = find_malformed(shards)
         if malformed:
@@ -1244,6 +1264,12 @@ def _merge_range_to(
     return _merge_to(
         lambda listed, count, *output: _library.xet_merge_range(listed, count, byref(asked), *output), shards, out
     )
+
+
+def _range(start: Optional[Sequence[int]], stop: Optional[Sequence[int]]) -> _Range:
+    """Returns the range between two hashes, where a bound may be left out."""
+    words = [_Words(*(it or ())) for it in (start, stop)]
+    return _Range(*words, start is not None, stop is not None)
 
 
 def concatenate(shards: Iterable[Buffer]) -> bytes:
@@ -1425,5 +1451,6 @@ def hmac(key: str, chunk_hash: str) -> str:
     return _text(found.words)
 
 
-# It is made of the functions above.
+# They are made of the functions above.
 from .index import Index  # noqa: E402
+from .ranges import merge_in_threads_to as _merge_in_threads_to  # noqa: E402

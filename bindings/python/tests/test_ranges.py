@@ -1,0 +1,274 @@
+"""Tests of merges in threads: the bytes and the errors are those of merges without threads.
+
+Runs with pytest, or as a program, which ends with the line 'N passed, M failed'.
+"""
+import mmap
+import os
+import random
+import sys
+
+sys.dont_write_bytecode = True
+sys.path.insert(0, os.path.dirname(os.path.realpath(__file__)))
+
+from scripts import Shard, hash_text, xet_shards  # noqa: E402
+from test_vectors import ONE_FILE, XORB_AND_FILE, main, raises, shard_of  # noqa: E402
+from xet_shards import ranges  # noqa: E402
+
+LARGEST = 2**64 - 1
+
+
+def spread(choice):
+    return choice.randrange(2**64)
+
+
+def few(choice):
+    return choice.randrange(3)
+
+
+def skewed(choice):
+    """Returns mostly small words, of very different sizes."""
+    return choice.randrange(2 ** choice.randrange(1, 64))
+
+
+def one_word(_):
+    return 7
+
+
+def text_of(choice, word):
+    """Returns a hash with this first word."""
+    return f"{word(choice):016x}{choice.randrange(2):016x}{choice.randrange(8):032x}"
+
+
+def records(choice, word, count):
+    """Returns the `file` and `xorb` lines of so many records of each kind, by hash."""
+    files, xorbs = {}, {}
+    for _ in range(count):
+        segments = [f"{text_of(choice, word)}:0:{1 + it}:{choice.randrange(1000)}" for it in range(choice.randrange(4))]
+        parts = [f"v={','.join(['5'] * len(segments))}"] * choice.randrange(2) + ["s=7"] * choice.randrange(2)
+        files[text_of(choice, word)] = [*parts, *segments]
+        chunks = [f"{text_of(choice, word)}:{choice.randrange(1000)}" for _ in range(choice.randrange(6))]
+        xorbs[text_of(choice, word)] = chunks
+    return files, xorbs
+
+
+def random_shards(choice, word, version=3):
+    """Returns shards that agree: each has some of a set of records."""
+    files, xorbs = records(choice, word, choice.choice([0, 1, 2, 30]))
+    shards = []
+    for _ in range(choice.randrange(1, 8)):
+        shard = Shard()
+        for add, found in ((shard.add_file, files), (shard.add_xorb, xorbs)):
+            for name in choice.sample(sorted(found), choice.randint(0, len(found))):
+                add(name, *found[name])
+        shards.append(shard.written(choice.choice([LARGEST, 7]), version))
+    return shards
+
+
+def outcome(call, *arguments, **named):
+    """Returns what a call returns, or the error that it raises: its type, and all that it tells."""
+    try:
+        return call(*arguments, **named)
+    except Exception as error:
+        return type(error), str(error), getattr(error, "number", None), getattr(error, "index", None)
+
+
+def check_same(shards, threads, **named):
+    """Looks whether all merges of some shards give the same with threads, and returns what they give."""
+    plain = outcome(xet_shards.merge, shards, **named)
+    assert outcome(xet_shards.merge, shards, threads=threads, **named) == plain
+    strict = outcome(xet_shards.merge, shards, strict=True, **named)
+    assert outcome(xet_shards.merge, shards, strict=True, threads=threads, **named) == strict
+    for short in (0, 1):
+        outs = [bytearray(len(plain) - short if isinstance(plain, bytes) else 1000) for _ in range(2)]
+        lengths = [
+            outcome(xet_shards.merge_into, shards, out, threads=it, **named) for out, it in zip(outs, (None, threads))
+        ]
+        assert lengths[0] == lengths[1] and outs[0] == outs[1]
+    return plain
+
+
+def check_parts(shards, threads, whole, start=None, stop=None):
+    """Looks whether the ranges of a merge follow one another, and returns how many there are."""
+    parts = ranges.merged_ranges(shards, threads, False, start, stop)
+    assert len(parts) <= threads
+    assert not parts or xet_shards.concatenate(parts) == whole
+    return len(parts)
+
+
+def check_many(word, turns, most=1, change=None, version=3):
+    """Merges random shards, and looks whether at least once there are so many ranges."""
+    choice, found = random.Random(f"{word.__name__} {version}"), 0
+    for turn in range(turns):
+        shards = random_shards(choice, word, version)
+        if change:
+            shards = change(choice, shards)
+        threads = 2 + turn % 4
+        whole = check_same(shards, threads)
+        if isinstance(whole, bytes):
+            found = max(found, check_parts(shards, threads, whole))
+    assert found >= most, f"there are {found} ranges at most"
+
+
+def test_spread_hashes():
+    check_many(spread, 30, most=5)
+
+
+def test_few_hashes():
+    check_many(few, 30, most=5)
+
+
+def test_skewed_hashes():
+    check_many(skewed, 30, most=5)
+
+
+def test_hashes_of_one_first_word():
+    check_many(one_word, 30, most=5)
+
+
+def test_version_2():
+    check_many(spread, 30, most=4, version=2)
+
+
+def test_keyed_shards():
+    def keyed(_, shards):
+        return [xet_shards.export(it, hash_text("7"), 0, 9) for it in shards]
+
+    check_many(skewed, 30, most=5, change=keyed)
+
+
+def test_other_keys():
+    def mixed(choice, shards):
+        return [xet_shards.export(it, hash_text(str(choice.randrange(2))), 0, 9) for it in shards]
+
+    check_many(spread, 30, change=mixed)
+
+
+def test_shards_without_tables():
+    def bare(choice, shards):
+        options = {it: choice.random() < 0.5 for it in ("xorb_table", "chunk_table")}
+        made = [xet_shards.minimal(it, 0) if choice.random() < 0.5 else it for it in shards]
+        return [xet_shards.export(it, xet_shards.NO_KEY, 0, 9, **options) for it in made]
+
+    check_many(spread, 30, most=4, change=bare)
+    check_many(spread, 30, most=4, change=lambda _, shards: [xet_shards.minimal(it, 0) for it in shards])
+
+
+def test_other_bytes():
+    """Numbers of records, tables and footers that are not those of any shard, and bytes that are cut."""
+
+    def changed(choice, shards):
+        found = []
+        for it in map(bytearray, shards):
+            for _ in range(choice.randrange(3)):
+                # Of the header and the sections mostly, or of the footer.
+                it[choice.choice([choice.randrange(len(it)), -choice.randrange(1, 201)])] = choice.randrange(256)
+            found.append(it[: choice.choice([len(it), len(it), len(it), choice.randrange(len(it) + 1)])])
+        return found
+
+    for word in (spread, few, skewed):
+        check_many(word, 40, change=changed)
+
+
+def test_records_that_do_not_agree():
+    def others(choice, shards):
+        return shards + random_shards(choice, few)
+
+    check_many(few, 30, most=4, change=others)
+
+
+def test_ranges_of_ranges():
+    choice = random.Random(3)
+    for turn in range(40):
+        word = (spread, few, skewed)[turn % 3]
+        shards, threads = random_shards(choice, word), 2 + turn % 4
+        bounds = {it: text_of(choice, word) for it in ("start", "stop") if choice.random() < 0.7}
+        check_parts(shards, threads, check_same(shards, threads, **bounds), **bounds)
+    check_same([ONE_FILE], 3, start="100")
+    check_same([ONE_FILE], 3, stop="f" * 63)
+    check_same([ONE_FILE, b""], 3, start=hash_text("1"), stop="1")
+
+
+def test_errors():
+    malformed, cut = ONE_FILE[:88] + b"\1" + ONE_FILE[89:], ONE_FILE[:199]
+    keyed = xet_shards.export(ONE_FILE, hash_text("7"), 0, 0)
+    other, more = shard_of("file 100 200:0:6:5"), shard_of("file 101 200:0:5:5", "xorb 10 21:5")
+    lists = [
+        [], [ONE_FILE], [ONE_FILE, more, keyed], [more, other, ONE_FILE], [more, malformed, cut],
+        [more, cut, malformed], [b"?" * 500, more], [more, other, keyed, malformed], [more, b""], [malformed, more],
+        [more, "text"], [more, None],
+    ]
+    for shards in lists:
+        for named in ({}, {"start": hash_text("0")}, {"stop": hash_text("5")}):
+            check_same(shards, 4, **named)
+    # Parts of one file that two shards cannot have together.
+    one, two = shard_of("file 100 v=365 200:0:5:5"), shard_of("file 100 s=9364 200:0:5:5 200:5:6:1")
+    assert check_same([more, one, two], 2)[2] == 11
+    for threads in (0, -1):
+        raises(ValueError, xet_shards.merge, [ONE_FILE], threads=threads)
+    assert xet_shards.merge([more, ONE_FILE], threads=1) == xet_shards.merge([more, ONE_FILE])
+
+
+def test_outputs_of_merges_in_threads():
+    length, whole = len(XORB_AND_FILE), xet_shards.merge([ONE_FILE, XORB_AND_FILE])
+    buffer = bytearray(len(whole)) + XORB_AND_FILE
+    before, view = bytes(buffer), memoryview(buffer)
+    shards = [ONE_FILE, view[len(whole) :]]
+    assert check_parts(shards, 2, whole) == 2
+    for out in (view, view[1 : len(whole) + 1], view[len(whole) + length - 1 :]):
+        raises(ValueError, xet_shards.merge_into, shards, out, threads=2)
+    raises(TypeError, xet_shards.merge_into, shards, whole, threads=2)
+    assert buffer == before
+    assert xet_shards.merge_into(shards, view[: len(whole)], threads=2) == len(whole)
+    assert view[: len(whole)] == whole
+    # Nothing is in use afterwards.
+    shards = [bytearray(ONE_FILE), bytearray(XORB_AND_FILE)]
+    out = bytearray(len(whole))
+    xet_shards.merge_into(shards, out, threads=3)
+    for it in (*shards, out):
+        it.append(0)
+
+
+def test_ranges_are_of_about_one_size():
+    choice = random.Random(5)
+    for word in (spread, skewed):
+        shards = []
+        for count in [1, 2, 40, 400]:
+            shard = Shard()
+            for _ in range(count):
+                shard.add_xorb(text_of(choice, word), *["21:1"] * choice.randrange(5))
+            shards.append(shard.written())
+        sizes = [len(it) - 344 for it in ranges.merged_ranges(shards, 4, False, None, None)]
+        assert len(sizes) == 4 and max(sizes) < 0.35 * sum(sizes), sizes
+
+
+def test_a_range_that_fails():
+    """The bytes are those of a merge without threads if a part can't be made, or the parts not put together."""
+    shards = [ONE_FILE, XORB_AND_FILE]
+    whole = xet_shards.merge(shards)
+    for name in ("_list", "_advise_large_pages", "_merge_to"):
+        kept = getattr(ranges, name)
+
+        def fails(*_):
+            raise MemoryError
+
+        setattr(ranges, name, fails)
+        try:
+            assert xet_shards.merge(shards, threads=2) == whole
+        finally:
+            setattr(ranges, name, kept)
+
+
+def test_bytes_of_large_merges():
+    """Bytes are made in memory that is longer, and for which large pages are asked."""
+    shards = [shard_of("xorb 10" + " 21:1" * 1000, "xorb 11" + " 22:1" * 1000)] * 120
+    assert xet_shards.merge_room(shards) > xet_shards._LARGE_ROOM
+    for threads in (None, 2):
+        whole = xet_shards.merge(shards, threads=threads)
+        assert whole == shards[0] and isinstance(whole, bytes) and sys.getrefcount(whole) == 2
+        assert hash(whole) == hash(bytes(bytearray(whole))) and sys.getsizeof(whole) == sys.getsizeof(shards[0])
+    out = mmap.mmap(-1, len(whole))
+    assert xet_shards.merge_into(shards, out, threads=3) == len(whole) and out[:] == whole
+
+
+if __name__ == "__main__":
+    sys.exit(main(dict(globals())))
