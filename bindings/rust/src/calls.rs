@@ -1,6 +1,6 @@
 //! The calls of `bindings/c/xet.h`, with slices and references for pointers, and the structs that only they have.
 //!
-//! All `unsafe` code of the crate is the one block in `library`.
+//! All `unsafe` code of the crate is the one block in `library`, and what makes memory of zeros in `memory`.
 #![allow(unsafe_code)]
 
 use crate::{Chunk, ChunkPlace, ChunkRow, Export, Hash, Info, Segment};

@@ -24,6 +24,7 @@ mod finding;
 mod hash;
 mod index;
 mod lookup;
+mod memory;
 mod name;
 mod output;
 mod parts;

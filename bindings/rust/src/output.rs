@@ -1,6 +1,7 @@
 //! Room for what a call writes.
 
 use crate::error::{check, Error};
+use crate::memory::zero_bytes;
 use crate::{Hash, Result};
 
 /// `XET_SHORT`: the output does not fit the room that was given.
@@ -29,10 +30,19 @@ pub fn copied<T: Copy>(of: &[T]) -> Result<Vec<T>> {
 
 /// The items that a call writes to the front of what it is given. If there is no room for them it says how many they
 /// are, and is called again.
-pub fn filled<T: Clone + Default>(room: usize, mut call: impl FnMut(&mut [T], &mut usize) -> u32) -> Result<Vec<T>> {
+pub fn filled<T: Clone + Default>(room: usize, call: impl FnMut(&mut [T], &mut usize) -> u32) -> Result<Vec<T>> {
+    filled_in(zeros, room, call)
+}
+
+fn filled_in<T>(
+    zeros: impl Fn(usize) -> Result<Vec<T>>,
+    room: usize,
+    mut call: impl FnMut(&mut [T], &mut usize) -> u32,
+) -> Result<Vec<T>> {
     let (mut out, mut written) = (zeros(room)?, 0);
     let mut number = call(&mut out, &mut written);
     if number == SHORT {
+        drop(out);
         out = zeros(written)?;
         number = call(&mut out, &mut written);
     }
@@ -44,7 +54,7 @@ pub fn filled<T: Clone + Default>(room: usize, mut call: impl FnMut(&mut [T], &m
 /// The bytes that a call makes of inputs of so many bytes. Only tables that the inputs lack make them longer than the
 /// first room for them.
 pub fn bytes_of(inputs: usize, call: impl FnMut(&mut [u8], &mut usize) -> u32) -> Result<Vec<u8>> {
-    filled(inputs.saturating_add(400), call)
+    filled_in(zero_bytes, inputs.saturating_add(400), call)
 }
 
 /// The hashes that a call lists.
