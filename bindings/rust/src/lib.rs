@@ -29,6 +29,7 @@ mod name;
 mod output;
 mod parts;
 mod records;
+mod threads;
 mod walk;
 mod write;
 
@@ -44,6 +45,7 @@ pub use lookup::{chunk_rows, eligible, find_file, load, query_at, query_chunks, 
 pub use name::{hash_bytes, hash_of_name, hmac, shard_name};
 pub use parts::{file_in, find_places, find_rows, xorb_in, ChunkPlace};
 pub use records::{records, write_records, Records, WITH_AUX, WITH_SHA256, WITH_VERIFICATION};
+pub use threads::{merge_agreeing_in_threads, merge_in_threads};
 pub use walk::{file_at, files, xorb_at, xorbs, Chunk, FileIter, ListedFile, Xorb, XorbIter};
 pub use write::{export, minimal, subset, write_v2, Export, Minimal, Subset, Xorbs};
 
