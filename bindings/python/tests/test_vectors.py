@@ -175,6 +175,19 @@ def test_buffers_are_released():
     shard.append(0)
 
 
+def test_outputs_are_released():
+    # Profilers and debuggers keep frames for a while.
+    frames = []
+    with mmap.mmap(-1, 2000) as out:
+        sys.setprofile(lambda frame, *_: frames.append(frame))
+        try:
+            for named in ({}, {"strict": True}, {"stop": "f" * 64}, {"threads": 2}):
+                assert xet_shards.merge_into([XORB_AND_FILE, ONE_FILE], out, **named) == len(XORB_AND_FILE)
+        finally:
+            sys.setprofile(None)
+    assert frames
+
+
 def with_hole(length):
     """Returns ONE_FILE with so many zeros between its sections and its tables, as its beginning and its end."""
     footer = list(struct.unpack("<25Q", ONE_FILE[252:]))

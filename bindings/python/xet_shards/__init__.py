@@ -20,6 +20,7 @@ import mmap
 import os
 import re
 from array import array
+from contextlib import contextmanager
 from ctypes import POINTER, byref, c_bool, c_char, c_char_p, c_int, c_size_t, c_ssize_t, c_uint32, c_uint64, c_void_p
 from dataclasses import dataclass
 from typing import Any, Callable, Dict, Iterable, Iterator, List, Optional, Sequence, Tuple, Union
@@ -399,6 +400,8 @@ _get_buffer = ctypes.PYFUNCTYPE(c_int, ctypes.py_object, POINTER(_View), c_int)(
     ("PyObject_GetBuffer", ctypes.pythonapi)
 )
 _release_buffer = ctypes.PYFUNCTYPE(None, POINTER(_View))(("PyBuffer_Release", ctypes.pythonapi))
+# PyBUF_WRITABLE, which _get_buffer takes.
+_WRITABLE = 1
 
 # To make bytes: see `_written_bytes`.
 _new_bytes = ctypes.PYFUNCTYPE(c_void_p, c_char_p, c_ssize_t)(("PyBytes_FromStringAndSize", ctypes.pythonapi))
@@ -1217,23 +1220,32 @@ def _key_of(shard: Buffer) -> Optional[str]:
 
 def _merge_to(call: Callable[..., Any], shards: Sequence[Buffer], out: WritableBuffer) -> int:
     """Makes a call that merges shards to the front of a buffer, and returns the number of the bytes of the merge."""
-    array, written = _array_over(out), c_size_t()
-    with _Addresses(*shards) as data:
-        _check_apart(array, data)
+    written = c_size_t()
+    with _output_apart(out, shards) as (array, data):
         number = call(_list(data), len(data), array, len(array), byref(written))
     if number != _SHORT:
         _check(number)
     return written.value
 
 
-def _array_over(out: WritableBuffer) -> ctypes.Array[c_char]:
-    return (c_char * memoryview(out).nbytes).from_buffer(out)
-
-
-def _check_apart(array: ctypes.Array[c_char], data: Sequence[Tuple[int, int]]) -> None:
-    start = ctypes.addressof(array)
-    if any(max(start, address) < min(start + len(array), address + length) for address, length in data):
-        raise ValueError("the output shares memory with a shard")
+@contextmanager
+def _output_apart(
+    out: WritableBuffer, shards: Sequence[Buffer]
+) -> Iterator[Tuple[ctypes.Array[c_char], List[Tuple[int, int]]]]:
+    """Gives an array over a buffer, which is released at the end, and the addresses and lengths of shards beside it."""
+    view = _View()
+    try:
+        _get_buffer(out, view, _WRITABLE)
+    except BufferError as error:
+        raise TypeError(f"the output can't be written to: {error}") from None
+    try:
+        start, room = view.buf or ctypes.addressof(view), view.len
+        with _Addresses(*shards) as data:
+            if any(max(start, address) < min(start + room, address + length) for address, length in data):
+                raise ValueError("the output shares memory with a shard")
+            yield (c_char * room).from_address(start), data
+    finally:
+        _release_buffer(view)
 
 
 def _merge_strictly_to(shards: Sequence[Buffer], out: WritableBuffer) -> int:

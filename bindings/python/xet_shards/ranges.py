@@ -9,8 +9,8 @@ from ctypes import byref, c_char, c_size_t, string_at
 from typing import Any, Iterator, List, NamedTuple, Optional, Sequence, Tuple
 
 from . import (
-    Buffer, WritableBuffer, _Addresses, _advise_large_pages, _array_over, _check, _check_apart, _Info, _library, _list,
-    _merge_to, _range, _Range, _words, find_disagreement, find_malformed,
+    Buffer, WritableBuffer, _Addresses, _advise_large_pages, _check, _Info, _library, _list, _merge_to, _output_apart,
+    _range, _Range, _words, find_disagreement, find_malformed,
 )
 
 # The four words of a hash, by which hashes are ordered.
@@ -32,8 +32,8 @@ def merge_in_threads_to(
     the error, or the bytes of shards which can be merged and not concatenated.
     """
     try:
-        with _Addresses(*shards) as data:
-            _check_apart(_array_over(out), data)
+        with _output_apart(out, shards):
+            pass
         parts = merged_ranges(shards, threads, strict, start, stop)
         return _merge_to(_library.xet_concatenate, parts, out) if parts else None
     except Exception:
