@@ -122,13 +122,20 @@ def check_package(room, library):
     return why or (None if printed == wanted else f"the package shows {printed}")
 
 
-def builder():
-    """Returns a Python that can build wheels: it has what pyproject.toml asks for."""
-    program = "import setuptools, wheel; assert int(setuptools.__version__.split('.')[0]) >= 61"
+def python_for(program, why):
+    """Returns a Python that runs a program, or skips the check."""
     for python in (sys.executable, "/usr/bin/python3"):
         if not ran(python, "-c", program)[1]:
             return python
-    raise Skip("no Python here has the packages setuptools, of 61 or later, and wheel, so no wheel was built")
+    raise Skip(why)
+
+
+def builder():
+    """Returns a Python that can build wheels: it has what pyproject.toml asks for."""
+    return python_for(
+        "import setuptools, wheel; assert int(setuptools.__version__.split('.')[0]) >= 61",
+        "no Python here has the packages setuptools, of 61 or later, and wheel, so no wheel was built",
+    )
 
 
 def check_wheel(room, library):
@@ -151,12 +158,19 @@ def check_wheel(room, library):
     return f"the wheel lacks {sorted(missing)}" if missing else None
 
 
-def run_tests(file, named):
+def run_cluster_tests(named):
+    """Runs the tests of merges on a cluster, as `run_tests` does."""
+    why = "no Python here has the package distributed, so no merge on a cluster was tested"
+    return run_tests("test_cluster.py", named, python_for("import distributed", why))
+
+
+def run_tests(file, named, python=sys.executable):
     """Returns how many Python tests of a file passed, and what is wrong with those that failed."""
-    printed, why = ran(sys.executable, f"{MODULE}/tests/{file}", env=named)
+    printed, why = ran(python, f"{MODULE}/tests/{file}", env=named)
     lines = printed.splitlines()
     counts = re.fullmatch(r"(\d+) passed, (\d+) failed", lines[-1] if lines else "")
-    failed = lines[:-1] if counts and counts[2] != "0" else []
+    # Workers of a cluster print as well.
+    failed = [it for it in lines if it.startswith("test_")] if counts and counts[2] != "0" else []
     if not counts or (why and not failed) or counts[1] == "0":
         return 0, [why or "the Python tests end without their counts"]
     return int(counts[1]), [f"{failed[at] if at < len(failed) else 'a test failed'}" for at in range(int(counts[2]))]

@@ -1,18 +1,21 @@
 #!/usr/bin/env python3
-"""Merges the shards of a folder by ranges of hashes, on a cluster of worker processes, to one shard a range.
+"""Merges the shards of a folder by ranges of hashes, on a cluster of worker processes, to one shard.
 
-A worker reads of each shard the records of its range, and merges them. So it needs memory for its range alone, and the
-parts together may be of any size. A file is in the part whose range has its hash, and so is a xorb. The union of the
-parts is that of all shards. The shards need their tables, by which a range is found, and are not checked.
-Needs Dask: apt-get install python3-dask python3-distributed
+A worker reads of each shard the records of its range, and merges them to a file. So it needs memory for its range
+alone, and a task runs again if a worker dies. Their concatenation, from mapped files to a mapped file, is the merge of
+all shards, of well-formed shards that agree. The shards need their tables, by which a range is found, and are not
+checked. Needs Dask: apt-get install python3-dask python3-distributed
 """
 from __future__ import annotations
 
 import argparse
 import mmap
+import os
 import pathlib
 import struct
-from typing import List, Tuple
+import tempfile
+from contextlib import ExitStack
+from typing import List, Sequence
 
 import xet_shards
 from distributed import Client, LocalCluster
@@ -58,35 +61,60 @@ def cut(path: pathlib.Path, first: int, last: int) -> bytes:
     return header + b"".join(sections) + struct.pack(FOOTER, *words)
 
 
-def merge_range(paths: List[pathlib.Path], first: int, last: int, to: pathlib.Path) -> Tuple[str, int]:
-    """Writes the merge of a range to a file, and returns its name and its size."""
+def merge_range(paths: Sequence[pathlib.Path], first: int, last: int, to: pathlib.Path) -> int:
+    """Writes the merge of a range to a file, and returns its size. The file is whole or not there."""
     shards = [cut(path, first, last) for path in paths]
-    with to.open("w+b") as file:
+    new = to.with_suffix(f".{os.getpid()}")
+    with new.open("w+b") as file:
         file.truncate(xet_shards.merge_room(shards))
         with mmap.mmap(file.fileno(), 0) as out:
             size = xet_shards.merge_into(shards, out)
         file.truncate(size)
-    return to.name, size
+    new.replace(to)
+    return size
+
+
+def concatenate(parts: Sequence[pathlib.Path], to: pathlib.Path) -> int:
+    """Writes the concatenation of files to a file, and returns its size. All of them are mapped."""
+    with to.open("w+b") as file:
+        with ExitStack() as opened:
+            maps: List[mmap.mmap] = []
+            for path in parts:
+                part = opened.enter_context(path.open("rb"))
+                maps.append(opened.enter_context(mmap.mmap(part.fileno(), 0, access=mmap.ACCESS_READ)))
+            file.truncate(sum(map(len, maps)))
+            out = opened.enter_context(mmap.mmap(file.fileno(), 0))
+            size: int = xet_shards.concatenate_into(maps, out)
+        file.truncate(size)
+    return size
+
+
+def merge_on(client: Client, paths: Sequence[pathlib.Path], to: pathlib.Path, ranges: int) -> int:
+    """Writes the merge of some shards to a file, and returns its size. The parts are in a folder beside it meanwhile."""
+    words = [(at << 64) // ranges for at in range(ranges + 1)]
+    with tempfile.TemporaryDirectory(dir=to.parent) as folder:
+        parts = [pathlib.Path(folder, f"{at}.mdb") for at in range(ranges)]
+        done = [client.submit(merge_range, paths, *it) for it in zip(words, words[1:], parts)]
+        print(f"the parts have {sum(client.gather(done))} bytes")
+        new = pathlib.Path(folder, "all")
+        size = concatenate(parts, new)
+        new.replace(to)
+    return size
 
 
 def main() -> None:
     parser = argparse.ArgumentParser(description=__doc__, formatter_class=argparse.RawDescriptionHelpFormatter)
     parser.add_argument("folder", type=pathlib.Path, help="of the shards")
-    parser.add_argument("to", type=pathlib.Path, help="the folder of the parts")
+    parser.add_argument("to", type=pathlib.Path, help="the file of their merge")
     parser.add_argument("--ranges", type=int, default=8)
     parser.add_argument("--workers", type=int, default=4)
     parser.add_argument("--memory", default="auto", help="of a worker, as 1GB")
     given = parser.parse_args()
-    given.to.mkdir(parents=True, exist_ok=True)
     paths = sorted(given.folder.glob("*.mdb"))
-    words = [(at << 64) // given.ranges for at in range(given.ranges + 1)]
     with LocalCluster(
         given.workers, threads_per_worker=1, dashboard_address=None, memory_limit=given.memory
     ) as cluster, Client(cluster) as client:
-        parts = [given.to / f"{at}.mdb" for at in range(given.ranges)]
-        done = [client.submit(merge_range, paths, *it) for it in zip(words, words[1:], parts)]
-        for name, size in client.gather(done):
-            print(f"{name}: {size} bytes")
+        print(f"{given.to}: {merge_on(client, paths, given.to, given.ranges)} bytes")
 
 
 if __name__ == "__main__":
