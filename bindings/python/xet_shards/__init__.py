@@ -1167,7 +1167,8 @@ def merge_into(
     """Writes what `merge` returns to the front of a buffer that can be written, and returns the number of its bytes.
 
     If the buffer is too small it stays as it is: then the number is greater than its length. With inputs and output in
-    files that are mapped, a merge needs memory of its own only for tables and for where records lie.
+    files that are mapped, a merge needs memory of its own only for tables and for where records lie, and with `threads`
+    as much as the output has.
 
     The buffer shares no memory with a shard: that is a `ValueError`. Two maps of one file are not found out.
     """

@@ -19,6 +19,8 @@ Words = Tuple[int, ...]
 _SAMPLE = 1024
 # The bytes of a row of a section, and of a row of the tables of files and xorbs.
 _ROW, _TABLE_ROW = 48, 12
+# Of Linux; the module mmap names it from Python 3.13 on.
+_MAP_NORESERVE = 0x4000
 # The fractional parts of its multiples are spread evenly, however many there are.
 _GOLDEN_RATIO = 0.6180339887498949
 
@@ -63,8 +65,8 @@ def merged_ranges(
 
 
 def _merged_range(listed: Any, count: int, asked: _Range, room: int) -> memoryview:
-    # Pages that no one writes to cost nothing.
-    out, written = mmap.mmap(-1, room, flags=mmap.MAP_PRIVATE | mmap.MAP_ANONYMOUS), c_size_t()
+    # Pages that no one writes to cost nothing, and are not counted either.
+    out, written = mmap.mmap(-1, room, flags=mmap.MAP_PRIVATE | mmap.MAP_ANONYMOUS | _MAP_NORESERVE), c_size_t()
     array = (c_char * room).from_buffer(out)
     _advise_large_pages(ctypes.addressof(array), room)
     _check(_library.xet_merge_range(listed, count, byref(asked), array, room, byref(written)))
@@ -84,7 +86,7 @@ def cuts(
 
 def _sample(data: Sequence[Tuple[int, int]]) -> Iterator[Words]:
     """Gives hashes of shards' records, each record in proportion to its rows."""
-    size = sum(length for _, length in data)
+    size = sum(length for _, length in data) or 1
     before, number, info = 0, 0, _Info()
     for address, length in data:
         # How many of the points that are spread evenly over all bytes are in this shard.
