@@ -12,7 +12,6 @@ import os
 import pathlib
 import tempfile
 import time
-from concurrent.futures import ThreadPoolExecutor
 from typing import Any, Callable, List, Sequence
 
 import xet_shards
@@ -25,19 +24,12 @@ def make(folder: str, number: int, xorbs: int) -> int:
     return pathlib.Path(folder, f"{number}.mdb").write_bytes(made_shard(number, xorbs))
 
 
-def merge_files(folder: str, numbers: Sequence[int]) -> bytes:
-    return xet_shards.merge([pathlib.Path(folder, f"{it}.mdb").read_bytes() for it in numbers])
+def merge_files(folder: str, numbers: Sequence[int], threads: int = 1) -> bytes:
+    return xet_shards.merge([pathlib.Path(folder, f"{it}.mdb").read_bytes() for it in numbers], threads=threads)
 
 
 def groups(items: Sequence[Any], size: int) -> List[Sequence[Any]]:
     return [items[at : at + size] for at in range(0, len(items), size)]
-
-
-def merge_in_threads(folder: str, count: int, threads: int) -> bytes:
-    """Merges a part of the files in each thread, and then what they give. A call of the library lets others run."""
-    with ThreadPoolExecutor(threads) as pool:
-        parts = groups(range(count), -(-count // threads))
-        return xet_shards.merge(list(pool.map(merge_files, [folder] * len(parts), parts)))
 
 
 def merge_on(client: Client, folder: str, count: int, size: int) -> bytes:
@@ -70,7 +62,7 @@ def main() -> None:
         sizes = client.gather(client.map(make, [folder] * count, numbers, [given.xorbs] * count))
         print(f"{count} shards, {sum(sizes)} bytes; {os.cpu_count()} processors")
         alone = timed("one thread", merge_files, folder, numbers)
-        threads = timed(f"{given.workers} threads", merge_in_threads, folder, count, given.workers)
+        threads = timed(f"{given.workers} threads", merge_files, folder, numbers, given.workers)
         together = timed(f"{given.workers} workers", merge_on, client, folder, count, given.children)
     info = xet_shards.load(alone)
     print(f"their union: {info.files} files, {info.xorbs} xorbs, {info.chunks} chunks, {len(alone)} bytes")
