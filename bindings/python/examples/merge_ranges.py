@@ -90,7 +90,7 @@ def concatenate(parts: Sequence[pathlib.Path], to: pathlib.Path) -> int:
 
 
 def merge_on(client: Client, paths: Sequence[pathlib.Path], to: pathlib.Path, ranges: int) -> int:
-    """Writes the merge of some shards to a file, and returns its size. The parts are in a folder beside it meanwhile."""
+    """Writes the merge of some shards to a file, and returns its size. A folder beside it has the parts meanwhile."""
     words = [(at << 64) // ranges for at in range(ranges + 1)]
     with tempfile.TemporaryDirectory(dir=to.parent) as folder:
         parts = [pathlib.Path(folder, f"{at}.mdb") for at in range(ranges)]

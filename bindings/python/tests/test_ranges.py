@@ -35,7 +35,7 @@ def one_word(_):
 
 
 def text_of(choice, word):
-    """Returns a hash with this first word."""
+    """Returns a hash with a first word of this kind."""
     return f"{word(choice):016x}{choice.randrange(2):016x}{choice.randrange(8):032x}"
 
 
@@ -89,7 +89,7 @@ def check_same(shards, threads, **named):
 
 def check_parts(shards, threads, whole, start=None, stop=None):
     """Looks whether the ranges of a merge follow one another, and returns how many there are."""
-    parts = ranges.merged_ranges(shards, threads, False, start, stop)
+    parts = ranges.range_merges(shards, threads, False, start, stop)
     assert len(parts) <= threads
     assert not parts or xet_shards.concatenate(parts) == whole
     return len(parts)
@@ -130,33 +130,33 @@ def test_version_2():
 
 
 def test_keyed_shards():
-    def keyed(_, shards):
+    def export_under_a_key(_, shards):
         return [xet_shards.export(it, hash_text("7"), 0, 9) for it in shards]
 
-    check_many(skewed, 30, most=5, change=keyed)
+    check_many(skewed, 30, most=5, change=export_under_a_key)
 
 
 def test_other_keys():
-    def mixed(choice, shards):
+    def export_under_keys(choice, shards):
         return [xet_shards.export(it, hash_text(str(choice.randrange(2))), 0, 9) for it in shards]
 
-    check_many(spread, 30, change=mixed)
+    check_many(spread, 30, change=export_under_keys)
 
 
 def test_shards_without_tables():
-    def bare(choice, shards):
+    def leave_tables_out(choice, shards):
         options = {it: choice.random() < 0.5 for it in ("xorb_table", "chunk_table")}
         made = [xet_shards.minimal(it, 0) if choice.random() < 0.5 else it for it in shards]
         return [xet_shards.export(it, xet_shards.NO_KEY, 0, 9, **options) for it in made]
 
-    check_many(spread, 30, most=4, change=bare)
+    check_many(spread, 30, most=4, change=leave_tables_out)
     check_many(spread, 30, most=4, change=lambda _, shards: [xet_shards.minimal(it, 0) for it in shards])
 
 
 def test_other_bytes():
     """Numbers of records, tables and footers that are not those of any shard, and bytes that are cut."""
 
-    def changed(choice, shards):
+    def change_bytes(choice, shards):
         found = []
         for it in map(bytearray, shards):
             for _ in range(choice.randrange(3)):
@@ -166,14 +166,14 @@ def test_other_bytes():
         return found
 
     for word in (spread, few, skewed):
-        check_many(word, 40, change=changed)
+        check_many(word, 40, change=change_bytes)
 
 
 def test_records_that_do_not_agree():
-    def others(choice, shards):
+    def add_others(choice, shards):
         return shards + random_shards(choice, few)
 
-    check_many(few, 30, most=4, change=others)
+    check_many(few, 30, most=4, change=add_others)
 
 
 def test_ranges_of_ranges():
@@ -205,6 +205,7 @@ def test_errors():
     assert check_same([more, one, two], 2)[2] == 11
     for threads in (0, -1):
         raises(ValueError, xet_shards.merge, [ONE_FILE], threads=threads)
+    assert xet_shards.merge([more, ONE_FILE], threads=10**9) == xet_shards.merge([more, ONE_FILE])
     assert xet_shards.merge([more, ONE_FILE], threads=1) == xet_shards.merge([more, ONE_FILE])
 
 
@@ -237,7 +238,7 @@ def test_ranges_are_of_about_one_size():
             for _ in range(count):
                 shard.add_xorb(text_of(choice, word), *["21:1"] * choice.randrange(5))
             shards.append(shard.written())
-        sizes = [len(it) - 344 for it in ranges.merged_ranges(shards, 4, False, None, None)]
+        sizes = [len(it) - 344 for it in ranges.range_merges(shards, 4, False, None, None)]
         assert len(sizes) == 4 and max(sizes) < 0.35 * sum(sizes), sizes
 
 
@@ -246,7 +247,7 @@ def test_a_range_that_fails():
     shards = [ONE_FILE, XORB_AND_FILE]
     whole = xet_shards.merge(shards)
     for name in ("_list", "_advise_large_pages", "_merge_to"):
-        kept = getattr(ranges, name)
+        original = getattr(ranges, name)
 
         def fails(*_):
             raise MemoryError
@@ -255,7 +256,7 @@ def test_a_range_that_fails():
         try:
             assert xet_shards.merge(shards, threads=2) == whole
         finally:
-            setattr(ranges, name, kept)
+            setattr(ranges, name, original)
 
 
 def test_bytes_of_large_merges():

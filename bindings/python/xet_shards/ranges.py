@@ -1,4 +1,4 @@
-"""Merges by ranges of hashes, each in a thread."""
+"""Merges in threads: each thread merges a range of hashes."""
 from __future__ import annotations
 
 import ctypes
@@ -16,13 +16,16 @@ from . import (
 # The four words of a hash, by which hashes are ordered.
 Words = Tuple[int, ...]
 
+# How many hashes of the inputs are looked at to find cuts.
 _SAMPLE = 1024
 # The bytes of a row of a section, and of a row of the tables of files and xorbs.
 _ROW, _TABLE_ROW = 48, 12
-# Of Linux; the module mmap names it from Python 3.13 on.
-_MAP_NORESERVE = 0x4000
+# The bytes of a hash.
+_HASH = 32
 # The fractional parts of its multiples are spread evenly, however many there are.
 _GOLDEN_RATIO = 0.6180339887498949
+# Of Linux; the module mmap names it from Python 3.13 on.
+_MAP_NORESERVE = 0x4000
 
 
 def merge_in_threads_to(
@@ -30,24 +33,25 @@ def merge_in_threads_to(
 ) -> Optional[int]:
     """Writes a merge to the front of a buffer, and returns the number of its bytes.
 
-    It is None if a merge without threads has to be made: of what can't be cut, and if anything fails. That merge gives
-    the error, or the bytes of shards which can be merged and not concatenated.
+    It returns None, and writes nothing, if there is no hash to cut at or if anything fails. A merge by one call then
+    gives the error. It also gives the bytes of shards that can be merged, but whose parts can't be concatenated.
     """
     try:
+        # An output that shares memory with a shard is an error before anything is written to it.
         with _output_apart(out, shards):
             pass
-        parts = merged_ranges(shards, threads, strict, start, stop)
+        parts = range_merges(shards, threads, strict, start, stop)
         return _merge_to(_library.xet_concatenate, parts, out) if parts else None
     except Exception:
         return None
 
 
-def merged_ranges(
+def range_merges(
     shards: Sequence[Buffer], threads: int, strict: bool, start: Optional[str], stop: Optional[str]
 ) -> List[memoryview]:
-    """Returns the merges of ranges that follow one another from `start` to `stop`, made by so many threads at most.
+    """Returns the merges of ranges that follow one another from `start` to `stop`, one for each thread at most.
 
-    There are none if there is no hash to cut at, or if with `strict` the shards are malformed or do not agree.
+    The list is empty if there is no hash to cut at, or if with `strict` the shards are malformed or do not agree.
     """
     bounds = [None if it is None else tuple(_words(it)) for it in (start, stop)]
     with _Addresses(*shards) as data, ThreadPoolExecutor(threads) as pool:
@@ -60,12 +64,12 @@ def merged_ranges(
         ranges = [_range(*it) for it in zip(bounds, bounds[1:])]
         # As in xet_union_room of xet.h.
         room = 352 + sum(length for _, length in data) // 3 * 8
-        merges = [pool.submit(_merged_range, _list(data), len(data), it, room) for it in ranges]
+        merges = [pool.submit(_range_merge, _list(data), len(data), it, room) for it in ranges]
         return [it.result() for it in merges] if all(it.result() is None for it in checks) else []
 
 
-def _merged_range(listed: Any, count: int, asked: _Range, room: int) -> memoryview:
-    # Pages that no one writes to cost nothing, and are not counted either.
+def _range_merge(listed: Any, count: int, asked: _Range, room: int) -> memoryview:
+    # Pages that no one writes to cost nothing, and the system reserves no memory for them.
     out, written = mmap.mmap(-1, room, flags=mmap.MAP_PRIVATE | mmap.MAP_ANONYMOUS | _MAP_NORESERVE), c_size_t()
     array = (c_char * room).from_buffer(out)
     _advise_large_pages(ctypes.addressof(array), room)
@@ -76,16 +80,17 @@ def _merged_range(listed: Any, count: int, asked: _Range, room: int) -> memoryvi
 def cuts(
     data: Sequence[Tuple[int, int]], ranges: int, start: Optional[Words], stop: Optional[Words]
 ) -> List[Words]:
-    """Returns hashes that cut the records between two bounds into so many ranges at most, of about equal size.
+    """Returns ascending hashes that cut the records between two bounds into so many ranges at most.
 
-    They ascend. Any would do, so what the shards hold is not checked.
+    The ranges are of about one size. Any hashes would do, so nothing that is read here is checked.
     """
     hashes = sorted(it for it in _sample(data) if (start is None or start < it) and (stop is None or it < stop))
-    return sorted({hashes[len(hashes) * at // ranges] for at in range(1, ranges)}) if hashes else []
+    ranges = min(ranges, len(hashes) + 1)
+    return sorted({hashes[len(hashes) * at // ranges] for at in range(1, ranges)})
 
 
 def _sample(data: Sequence[Tuple[int, int]]) -> Iterator[Words]:
-    """Gives hashes of shards' records, each record in proportion to its rows."""
+    """Gives hashes of records of the shards. How often a record is among them is in proportion to its size."""
     size = sum(length for _, length in data) or 1
     before, number, info = 0, 0, _Info()
     for address, length in data:
@@ -101,26 +106,26 @@ def _sample(data: Sequence[Tuple[int, int]]) -> Iterator[Words]:
         for at in range(count):
             number += 1
             place = sections.place((at + number * _GOLDEN_RATIO % 1) / count, address, length)
-            if place is not None and 0 <= place <= length - 32:
-                yield struct.unpack("<4Q", string_at(address + place, 32))
+            if place is not None and 0 <= place <= length - _HASH:
+                yield struct.unpack("<4Q", string_at(address + place, _HASH))
 
 
 class _Sections(NamedTuple):
-    """Of files and of xorbs where their section starts and ends, where their table starts, and its rows."""
+    """Where the sections of files and of xorbs start and end, where their tables start, and the rows of these."""
 
     files: Tuple[int, int, int, int]
     xorbs: Tuple[int, int, int, int]
 
     def place(self, fraction: float, address: int, length: int) -> Optional[int]:
-        """Returns where in a shard the record is that is at about this fraction of both sections, if there is one."""
+        """Returns where the record is that is at about this fraction of both sections, if there is one."""
         at = self.files[0] + int(fraction * (self.xorbs[1] - self.files[0]))
         start, end, table, count = self.files if at < self.files[1] else self.xorbs
-        # Behind the records is one row more.
+        # A row of ones is behind the records.
         rows = (end - start) // _ROW - 1
         if rows <= 0:
             return None
         part = (at - start) / (end - start)
-        # Without a table nothing tells where records start, but the hashes in all rows are spread like theirs.
+        # Without a table nothing tells where records start, but the hashes of all rows are spread like theirs.
         row = int(part * rows)
         if count:
             at = table + int(part * count) * _TABLE_ROW

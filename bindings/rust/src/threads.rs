@@ -21,9 +21,9 @@ const ROW_AT: u64 = 8;
 /// The fractional parts of its multiples are spread evenly, however many there are.
 const GOLDEN_RATIO: f64 = 0.618_033_988_749_894_9;
 
-/// The bytes of [`merge`], by so many threads at most, which merge a range of hashes each; [`concatenate`] puts their
-/// results together. So the bytes of the output are in memory twice. If there is no hash to cut at, or less than two
-/// threads, it is [`merge`].
+/// The bytes of [`merge`], by so many threads at most, each of which merges a range of hashes. [`concatenate`] puts
+/// their results together, so the bytes of the output are in memory twice. If there is no hash to cut at, or if there
+/// are fewer than two threads, it is [`merge`].
 ///
 /// # Errors
 ///
@@ -38,7 +38,7 @@ const GOLDEN_RATIO: f64 = 0.618_033_988_749_894_9;
 /// ```
 pub fn merge_in_threads<T: AsRef<[u8]>>(shards: &[T], threads: usize) -> Result<Vec<u8>> {
     // The merge by one call gives the error, or the bytes of shards that can be merged and not concatenated.
-    made_of_ranges(shards, threads, false).map_or_else(|| merge(shards), Ok)
+    merge_by_ranges(shards, threads, false).map_or_else(|| merge(shards), Ok)
 }
 
 /// The bytes of [`merge_agreeing`], by so many threads at most, as [`merge_in_threads`] makes those of [`merge`].
@@ -57,21 +57,21 @@ pub fn merge_in_threads<T: AsRef<[u8]>>(shards: &[T], threads: usize) -> Result<
 /// # }
 /// ```
 pub fn merge_agreeing_in_threads<T: AsRef<[u8]>>(shards: &[T], threads: usize) -> Result<Vec<u8>> {
-    made_of_ranges(shards, threads, true).map_or_else(|| merge_agreeing(shards), Ok)
+    merge_by_ranges(shards, threads, true).map_or_else(|| merge_agreeing(shards), Ok)
 }
 
-/// A merge that is made of ranges, or `None` if there is but one, if anything fails, or if shards that have to be
-/// well-formed and agree do not.
-fn made_of_ranges<T: AsRef<[u8]>>(shards: &[T], threads: usize, strict: bool) -> Option<Vec<u8>> {
+/// A merge of ranges that are put together. It is `None` if there is no hash to cut at, if anything fails, or if with
+/// `strict` the shards are malformed or do not agree.
+fn merge_by_ranges<T: AsRef<[u8]>>(shards: &[T], threads: usize, strict: bool) -> Option<Vec<u8>> {
     if threads < 2 {
         return None;
     }
     let mut list = with_room(shards.len()).ok()?;
     list.extend(shards.iter().map(AsRef::as_ref));
-    concatenate(&merged_ranges(&list, threads, strict)?).ok()
+    concatenate(&range_merges(&list, threads, strict)?).ok()
 }
 
-/// What a thread does.
+/// What a thread does at a time.
 enum Task {
     FindDisagreement,
     FindMalformed,
@@ -79,7 +79,7 @@ enum Task {
 }
 
 impl Task {
-    /// A merge of a range, if that is the task. It is `None` if it fails or if something is found.
+    /// The merge of a range, or nothing of a task that looks for something. It is `None` if the task fails or finds it.
     fn run(&self, shards: &[&[u8]]) -> Option<Option<Vec<u8>>> {
         match *self {
             Task::FindDisagreement => find_disagreement(shards).ok()?.is_none().then_some(None),
@@ -90,7 +90,7 @@ impl Task {
 }
 
 /// The merges of ranges that follow one another, from no bound to no bound.
-fn merged_ranges(shards: &[&[u8]], threads: usize, strict: bool) -> Option<Vec<Vec<u8>>> {
+fn range_merges(shards: &[&[u8]], threads: usize, strict: bool) -> Option<Vec<Vec<u8>>> {
     let cuts = cuts(shards, threads);
     if cuts.is_empty() {
         return None;
@@ -100,13 +100,17 @@ fn merged_ranges(shards: &[&[u8]], threads: usize, strict: bool) -> Option<Vec<V
     let checks = if strict { vec![Task::FindDisagreement, Task::FindMalformed] } else { vec![] };
     let merges = starts.zip(ends).map(|(from, to)| Task::Merge(from, to));
     let tasks: Vec<Task> = checks.into_iter().chain(merges).collect();
-    let done = done_by_threads(threads, tasks.len(), |at| tasks[at].run(shards))?;
+    let done = results_of_threads(threads, tasks.len(), |at| tasks[at].run(shards))?;
     Some(done.into_iter().flatten().collect())
 }
 
-/// What so many tasks give, in their order, or `None` if one of them does. The thread that calls is one of those that
-/// run them.
-fn done_by_threads<T: Send>(threads: usize, tasks: usize, run: impl Fn(usize) -> Option<T> + Sync) -> Option<Vec<T>> {
+/// The results of so many tasks, in their order, or `None` if that is the result of one. The thread that calls runs
+/// tasks like the others.
+fn results_of_threads<T: Send>(
+    threads: usize,
+    tasks: usize,
+    run: impl Fn(usize) -> Option<T> + Sync,
+) -> Option<Vec<T>> {
     let next = AtomicUsize::new(0);
     let work = || {
         let free = || Some(next.fetch_add(1, Ordering::Relaxed)).filter(|&at| at < tasks);
@@ -129,8 +133,8 @@ fn done_by_threads<T: Send>(threads: usize, tasks: usize, run: impl Fn(usize) ->
 fn cuts(shards: &[&[u8]], ranges: usize) -> Vec<Hash> {
     let mut hashes = sample(shards);
     hashes.sort_unstable();
-    let place = |at| (hashes.len() as f64 * at as f64 / ranges as f64) as usize;
-    let mut cuts: Vec<Hash> = (1..ranges).filter_map(|at| hashes.get(place(at)).copied()).collect();
+    let ranges = ranges.min(hashes.len() + 1);
+    let mut cuts: Vec<Hash> = (1..ranges).map(|at| hashes[hashes.len() * at / ranges]).collect();
     cuts.dedup();
     cuts
 }
@@ -199,7 +203,7 @@ mod tests {
     fn two_ranges_of_two_shards() {
         let [a, b] = ["a", "b"].map(|it| std::fs::read(format!("examples/{it}.mdb")).expect("a shard"));
         for strict in [false, true] {
-            let parts = merged_ranges(&[&a, &b], 2, strict).expect("ranges");
+            let parts = range_merges(&[&a, &b], 2, strict).expect("ranges");
             assert_eq!(parts.len(), 2);
             assert_eq!(concatenate(&parts), merge(&[&a, &b]));
         }
@@ -207,7 +211,7 @@ mod tests {
 
     #[test]
     fn results_in_order() {
-        assert_eq!(done_by_threads(3, 100, Some), Some((0..100).collect()));
-        assert_eq!(done_by_threads(3, 100, |at| (at != 50).then_some(at)), None);
+        assert_eq!(results_of_threads(3, 100, Some), Some((0..100).collect()));
+        assert_eq!(results_of_threads(3, 100, |at| (at != 50).then_some(at)), None);
     }
 }

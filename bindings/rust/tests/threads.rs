@@ -159,6 +159,7 @@ fn errors() {
         assert_eq!(xet_shards::merge_in_threads(&[&a[..], &b, other], 3), Err(error));
     }
     assert_eq!(xet_shards::merge_in_threads(&[&a, &b, &keyed], 3), Err(Error::InvalidArguments));
+    assert_eq!(xet_shards::merge_in_threads(&[&a, &b], usize::MAX), xet_shards::merge(&[&a, &b]));
     for list in [[&a, &b, &c], [&c, &malformed, &a], [&a, &malformed, &keyed], [&b, &a, &b]] {
         let list = list.map(Vec::clone);
         (0..6).for_each(|threads| check_same(&list, threads));
