@@ -64,13 +64,12 @@ def cut(path: pathlib.Path, first: int, last: int) -> bytes:
 def merge_range(paths: Sequence[pathlib.Path], first: int, last: int, to: pathlib.Path) -> int:
     """Writes the merge of a range to a file, and returns its size. The file is whole or not there."""
     shards = [cut(path, first, last) for path in paths]
-    new = to.with_suffix(f".{os.getpid()}")
-    with new.open("w+b") as file:
+    with tempfile.NamedTemporaryFile(dir=to.parent, delete=False) as file:
         file.truncate(xet_shards.merge_room(shards))
         with mmap.mmap(file.fileno(), 0) as out:
             size = xet_shards.merge_into(shards, out)
         file.truncate(size)
-    new.replace(to)
+    os.replace(file.name, to)
     return size
 
 

@@ -26,7 +26,7 @@ def killed_at_first(paths, first, last, to):
     begun = to.with_suffix(".begun")
     if to.stem in ("1", "3") and not begun.exists():
         begun.touch()
-        to.with_suffix(f".{os.getpid()}").write_bytes(b"half of a shard")
+        to.with_suffix(".half").write_bytes(b"half of a shard")
         os.kill(os.getpid(), signal.SIGKILL)
     return merge_range(paths, first, last, to)
 
