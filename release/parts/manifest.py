@@ -37,7 +37,8 @@ def sources():
 
 def stated(of, built):
     """Returns the lines by which the gate says what it ran: the commit, and the hash of each binary."""
-    return [f"release: {of['commit'] if of else 'no commit'} HEAD", *(f"release: {sum_of} {path}" for path, sum_of in built.items())]
+    commit = of["commit"] if of else "no commit"
+    return [f"release: {commit} HEAD", *(f"release: {sum_of} {path}" for path, sum_of in built.items())]
 
 
 def gate(log, of, built):

@@ -1,7 +1,7 @@
 """Runs scripts of vectors/ on the C library, and compares with what they have to print.
 
-The shards of a script are written by examples/made_shards.py, from docs/FORMAT.md alone: so each byte that goes into the
-library and each that is expected of it comes from the vectors and the format. The other commands call the library.
+The shards of a script are written by examples/made_shards.py, from docs/FORMAT.md alone: so each byte that goes into
+the library and each that is expected of it comes from the vectors and the format. The other commands call the library.
 """
 import os
 import sys

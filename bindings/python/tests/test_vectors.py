@@ -888,7 +888,8 @@ def test_disagreements():
     # Of what differs files come first, and two hashes have records that differ.
     found = xet_shards.Disagreement("file", hash_text("100"), 0, 2, 2)
     assert xet_shards.find_disagreement([one, with_parts, other]) == found
-    assert xet_shards.find_disagreement([with_parts, other]) == xet_shards.Disagreement("file", hash_text("100"), 0, 1, 1)
+    found = xet_shards.Disagreement("file", hash_text("100"), 0, 1, 1)
+    assert xet_shards.find_disagreement([with_parts, other]) == found
     # Parts that only one of two has are no difference, but where both have them they are compared.
     unlike = shards_of(({"100": ["v=366", "200:0:5:5"]}, {}))[0]
     assert xet_shards.find_disagreement([one, unlike]) is None
