@@ -227,9 +227,9 @@ uint32_t xet_merge_range(const xet_bytes *shards, size_t count, const xet_range 
  *
  * XET_INVALID_ARGUMENTS: there is no shard, the keys differ, or hashes do not ascend from one shard to the next.
  * XET_SHARD_VERSION, XET_IO: the errors of xet_load, of any of the shards.
- * XET_INVALID_SHARD: between the offsets in a footer there are other rows than it counts, a section has not the last
- *     record that its table names, as in shards that lack tables, the rows of a section pass 4294967295 or a sum of
- *     bytes 64 bits, or the rows of a table of chunks do not ascend, or are not as many as the chunks.
+ * XET_INVALID_SHARD: the tables of files and of xorbs do not have the rows that the footer counts, a section has not
+ *     the last record that its table names, as in shards that lack tables, the rows of a section pass 4294967295 or a
+ *     sum of bytes 64 bits, or the rows of a table of chunks do not ascend, or are not as many as the chunks.
  * XET_OUT_OF_MEMORY, XET_SHORT. */
 uint32_t xet_concatenate(const xet_bytes *shards, size_t count, uint8_t *out, size_t capacity, size_t *written);
 

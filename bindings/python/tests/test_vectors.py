@@ -577,8 +577,8 @@ def test_concatenate_refuses():
     refused("InvalidShard", xet_shards.concatenate, [xet_shards.minimal(one, 0)])
     bare = xet_shards.export(two, xet_shards.NO_KEY, 0, 0, chunk_table=False)
     refused("InvalidShard", xet_shards.concatenate, [one, bare])
-    # A footer that counts other rows than are there: of the file table, the xorb table and the chunk table.
-    for field in (32, 48, 64):
+    # A footer that counts other rows than are there: of the file table, and of the xorb table.
+    for field in (32, 48):
         at = len(two) - 200 + field
         refused("InvalidShard", xet_shards.concatenate, [one, two[:at] + b"\2" + two[at + 1 :]])
     # Bytes that are cut, and none.
