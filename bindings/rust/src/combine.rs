@@ -267,7 +267,7 @@ pub fn concatenate<T: AsRef<[u8]>>(shards: &[T]) -> Result<Vec<u8>> {
 /// let whole = xet_shards::merge(&shards)?;
 /// let mut out = vec![7; whole.len() + 1];
 /// assert_eq!(xet_shards::concatenate_into(&parts, &mut out[..whole.len() - 1])?, whole.len());
-/// assert!(xet_shards::concatenate_into(&[&parts[1], &parts[0]], &mut out).is_err());
+/// assert!(xet_shards::concatenate_into(&[&parts[0], &parts[0]], &mut out).is_err());
 /// assert_eq!(out, vec![7; whole.len() + 1]);
 /// assert_eq!(xet_shards::concatenate_into(&parts, &mut out)?, whole.len());
 /// assert_eq!((&out[..whole.len()], out[whole.len()]), (&whole[..], 7));
