@@ -272,6 +272,15 @@ def test_missing_library():
     assert "ImportError" in run.stderr and "run bindings/build.sh" in run.stderr and "/nowhere" in run.stderr
 
 
+def test_library_of_another_version():
+    first, second, third = map(int, xet_shards.__version__.split("."))
+    own, end = 10000 * first + 100 * second + third, 10000 * (first + 1)
+    for number in (own, own + 1, end - 1):
+        xet_shards._compare_versions("libxet.so", number)
+    for number in (own - 1, end):
+        raises(ImportError, xet_shards._compare_versions, "libxet.so", number)
+
+
 def test_forms_without_a_file_table():
     shard = shard_of("file 100 v=7 200:0:5:5", "xorb 10 21:5")
     bare = xet_shards.export(shard, xet_shards.NO_KEY, 0, 0, files=False)

@@ -476,7 +476,17 @@ def _open() -> ctypes.CDLL:
             raise ImportError(f"{path} has no {name}, so it is no library for xet_shards {__version__}",
                               name=__name__, path=path) from None
         call.argtypes, call.restype = arguments, c_uint32
+    _compare_versions(path, library.xet_version())
     return library
+
+
+def _compare_versions(path: str, number: int) -> None:
+    """A library serves the module if it has the same first number, and no lower version."""
+    first, second, third = (int(it) for it in __version__.split("."))
+    if not 10000 * first + 100 * second + third <= number < 10000 * (first + 1):
+        version = f"{number // 10000}.{number // 100 % 100}.{number % 100}"
+        raise ImportError(f"{path} has the version {version}, so it is no library for xet_shards {__version__}",
+                          name=__name__, path=path)
 
 
 _library = _open()
