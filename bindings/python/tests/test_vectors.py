@@ -468,6 +468,25 @@ def test_merge_of_one_and_of_none():
     shard.add_file("100", "200:0:5:5")
     assert xet_shards.merge([shard.written(expiry=7, version=2)]) == ONE_FILE
     raises(ValueError, xet_shards.merge, [])
+
+
+def test_many_chunks():
+    # From 2048 rows on the chunk table is sorted by the bits of the first words, unless too many of them are alike.
+    spread, xorbs = 0x9E3779B97F4A7C15, 90
+    for word_of in (
+        lambda at: at * spread % 2**64,
+        lambda at: at * spread % 2**64 if at % 2 else at,
+        lambda at: at * spread % 2**64 >> 40 << 40,
+        lambda at: at * spread % 2**32,
+        lambda at: at << 40,
+        lambda at: (xorbs * 100 - at) << 40,
+        lambda at: 7,
+    ):
+        shard = Shard()
+        for xorb in range(xorbs):
+            shard.add_xorb(str(xorb), *(f"{word_of(100 * xorb + at)}:1" for at in range(100)))
+        bytes_of = shard.written()
+        assert xet_shards.merge([bytes_of]) == xet_shards.write([], xet_shards.xorbs(bytes_of)) == bytes_of
     refused("Io", xet_shards.merge, [ONE_FILE, ONE_FILE[:199]])
 
 
