@@ -1,5 +1,6 @@
 //! What a command line asks for.
 
+use crate::files::STANDARD_STREAM;
 use crate::request::{
     Compaction, HashList, Making, Merge, Removal, Request, Sources, Strictness, Target,
 };
@@ -30,6 +31,8 @@ enum Refusal<'a> {
     NoTime(&'a str),
     /// The word is no size.
     NoSize(&'a str),
+    /// More than one word names standard input.
+    InputTwice,
 }
 
 impl From<AllocError> for Refusal<'_> {
@@ -90,6 +93,7 @@ fn message_of(alloc: Global, refusal: &Refusal<'_>) -> Result<String, AllocError
         Refusal::NoSize(word) => {
             format!(in alloc; "'{word}' is no size: it is a number of bytes, or as 64K, 256M, 2G")
         }
+        Refusal::InputTwice => String::from_str(alloc, "standard input can be read only once"),
     }
 }
 
@@ -101,6 +105,9 @@ fn request_in<'a>(
     let Some((name, matches)) = matches.subcommand() else {
         return Err(Refusal::Missing("a command"));
     };
+    if is_input_named_twice(matches) {
+        return Err(Refusal::InputTwice);
+    }
     if name == "merge" {
         let sources = sources_in(alloc, matches)?;
         return Ok(Request::Merge(sources, merge_in(matches, now)?));
@@ -109,6 +116,22 @@ fn request_in<'a>(
         Some(making) => Ok(Request::Make(making, target_in(matches)?)),
         None => inspection_in(alloc, name, matches),
     }
+}
+
+// Whether more than one word names standard input, as a shard or as a list.
+fn is_input_named_twice(matches: &ArgMatches<'_>) -> bool {
+    let mut named = false;
+    for id in [id::FILE, id::FIRST, id::SECOND, id::LIST, id::HASH_LIST] {
+        for word in matches.get_strs(id).unwrap_or_default() {
+            if *word == STANDARD_STREAM {
+                if named {
+                    return true;
+                }
+                named = true;
+            }
+        }
+    }
+    false
 }
 
 fn inspection_in<'a>(
