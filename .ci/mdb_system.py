@@ -384,9 +384,23 @@ def merge_in_parts_takes_little_memory(place):
         resource.setrlimit(resource.RLIMIT_AS, (room, room))
 
     run = place.run("merge", "many", "-o", "out.mdb", preexec_fn=little_room)
-    wants("in one", run.returncode == 1 and run.stderr.endswith(b": out of memory\n"))
+    said = b"120 files, many/0.mdb the first: out of memory: with --memory SIZE a merge takes about that much\n"
+    wants("in one", (run.returncode, run.stderr) == (1, said))
     run = place.run("merge", "many", "--memory", "1M", "-o", "out.mdb", preexec_fn=little_room)
     wants("in parts", (run.returncode, run.stderr) == (0, b""))
+
+
+def merge_of_more_than_memory_reads_nothing(place):
+    # Shards of 1 TB together, of which only the ends are on the disk.
+    for name in ("one.mdb", "two.mdb"):
+        place.write(name, place.made["one_file.mdb"])
+        with open(place.path(name), "r+b") as file:
+            file.seek(1 << 39)
+            file.write(place.made["one_file.mdb"][-200:])
+    run = place.run("merge", "one.mdb", "two.mdb", "-o", "out.mdb")
+    said = b"one.mdb and two.mdb: out of memory: with --memory SIZE a merge takes about that much\n"
+    wants("a refusal", (run.returncode, run.stderr) == (1, said))
+    wants("nothing is written", not os.path.exists(place.path("out.mdb")))
 
 
 def failed_merge_in_parts_leaves_the_target(place):
@@ -494,9 +508,9 @@ ROWS = (
     pipe_is_written_to, link_is_followed, link_to_nothing_is_refused, folder_is_refused, taken_names_block_nothing,
     full_disk_leaves_the_target, killed_run_leaves_the_target, word_that_is_no_text, standard_input_is_a_shard,
     lists_name_shards, names_in_folders_are_reported, what_is_no_shard_is_not_read_whole,
-    large_file_is_not_read_whole, controls_are_not_printed,
-    closed_pipe_ends_quietly, terminal_gets_no_shard, terminal_shows_progress, now_is_the_clock,
-    merge_in_parts_is_the_merge, merge_in_parts_takes_little_memory, failed_merge_in_parts_leaves_the_target,
+    large_file_is_not_read_whole, controls_are_not_printed, closed_pipe_ends_quietly, terminal_gets_no_shard,
+    terminal_shows_progress, now_is_the_clock, merge_in_parts_is_the_merge, merge_in_parts_takes_little_memory,
+    merge_of_more_than_memory_reads_nothing, failed_merge_in_parts_leaves_the_target,
     killed_merge_in_parts_leaves_one_file, merge_in_parts_wants_regular_files, groups_are_named_by_their_bytes,
     lists_may_end_with_zero_bytes, pages_have_all_commands,
 )

@@ -12,6 +12,7 @@ mod compaction;
 mod expiry;
 mod failure;
 mod files;
+mod free_memory;
 mod hash_list;
 mod help;
 mod id;

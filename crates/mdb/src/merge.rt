@@ -5,7 +5,8 @@ use crate::by_key::{distinct_keys, path_under, values_under};
 use crate::compaction::merge_groups;
 use crate::expiry::without_expired;
 use crate::failure::Failure;
-use crate::files::{Contents, STANDARD_STREAM};
+use crate::files::{Contents, STANDARD_STREAM, is_worth_reading, open_sized, read_ends};
+use crate::free_memory::free_memory;
 use crate::make::{contents_of, in_version, put};
 use crate::progress::{Progress, Stage};
 use crate::request::{Merge, Strictness};
@@ -58,8 +59,50 @@ fn merge_remaining<
     made
 }
 
-// Writes the merge of shards that are all in memory.
+// Writes the merge of shards that are all in memory at once.
 fn merge_in_memory<
+    'a,
+    R: Files + Input + Clock + Print + Eprint + RandomSource + AllocGlobal + Clone + Drop,
+>(rt: &R, files: &[&'a str], merge: Merge<'a>, progress: &mut Progress) -> Result<(), Failure<'a>> {
+    if exceed_memory(rt, files) {
+        return Err(on_all(files, Fault::NoRoomAtOnce));
+    }
+    match read_and_merge(rt, files, merge, progress) {
+        Err(
+            Failure {
+                subject,
+                fault: Fault::OutOfMemory,
+            },
+        ) => Err(Failure {
+            subject,
+            fault: Fault::NoRoomAtOnce,
+        }),
+        made => made,
+    }
+}
+
+// Whether the shards in some regular files have more bytes together than there is memory for.
+fn exceed_memory<R: Files + AllocGlobal>(rt: &R, files: &[&str]) -> bool {
+    let mut size = 0u64;
+    for file in files {
+        size = size.saturating_add(size_at(rt, file));
+    }
+    size > free_memory(rt)
+}
+
+// The number of bytes that are read of a regular file; 0 of anything else.
+fn size_at<R: Files + AllocGlobal>(rt: &R, path: &str) -> u64 {
+    match open_sized(rt, path) {
+        Ok(Some((_, size))) => match read_ends(rt, path) {
+            Ok(ends) if is_worth_reading(rt.alloc(), ends.as_slice()) => size,
+            _ => 0,
+        },
+        _ => 0,
+    }
+}
+
+// Reads the shards, merges them and writes the merge.
+fn read_and_merge<
     'a,
     R: Files + Input + Clock + Print + Eprint + RandomSource + AllocGlobal + Clone + Drop,
 >(rt: &R, files: &[&'a str], merge: Merge<'a>, progress: &mut Progress) -> Result<(), Failure<'a>> {

@@ -21,6 +21,8 @@ pub enum Fault {
     /// A file or a stream can't be read or written.
     Device(io::Error),
     OutOfMemory,
+    /// There is too little memory for a merge that `--memory` makes in parts.
+    NoRoomAtOnce,
     /// The bytes of a shard are not those that the library would write.
     Bytes(Finding),
     /// So many files share this first word of a hash that the lookup gives up.
@@ -74,19 +76,11 @@ impl fmt::Display for Fault {
     fn fmt<W: fmt::Write>(&self, f: &mut fmt::Formatter<W>) -> fmt::Result {
         match self {
             Fault::Device(error) => write!(f, "{error}"),
-            Fault::OutOfMemory => write!(f, "out of memory"),
             Fault::Bytes(finding) => write!(f, "{}", InWords(*finding)),
             Fault::Collision(word) => {
                 write!(
                     f,
                     "eight or more files have hashes that begin with {word:016x}"
-                )
-            }
-            Fault::KeysDiffer => write!(f, "the shards are under different keys"),
-            Fault::NoUnion => {
-                write!(
-                    f,
-                    "the shards have a file in common that can't be combined, or too many rows"
                 )
             }
             Fault::Disagree(1, first) => write!(f, "a record differs, of {}", Named(*first)),
@@ -100,36 +94,44 @@ impl fmt::Display for Fault {
                     Named(*hash)
                 )
             }
-            Fault::HasKey => write!(f, "its chunk hashes are under a key already"),
-            Fault::LateExpiry => write!(f, "the expiry is past the last timestamp"),
-            Fault::NoVerification => write!(f, "a file has no verification rows"),
-            Fault::HasAuxRow => {
-                write!(
-                    f,
-                    "a file has an auxiliary row, which version 2 of the format does not have"
-                )
-            }
             Fault::NoTable(table) => write!(f, "it has no {table}, which this needs"),
             Fault::NoXorb(hash) => write!(f, "no xorb has the hash {hash}"),
             Fault::NoRecord(hash) => write!(f, "no file and no xorb has the hash {hash}"),
             Fault::NoHash(line) => {
                 write!(f, "line {line} is no hash: it has 64 hexadecimal digits")
             }
-            Fault::TooManyRounds => write!(
-                f,
-                "the lookup gave up: it has read from the file too many times"
-            ),
-            Fault::NoFiles => write!(f, "there are no files to merge"),
-            Fault::NoText => write!(f, "the name is not UTF-8, so it can't be opened"),
-            Fault::LongWord => write!(f, "an argument is too long"),
-            Fault::Terminal => write!(
-                f,
-                "it is a terminal: write the shard to a file, by -o, or to a pipe"
-            ),
-            Fault::NoParts => write!(f, "it is no regular file, which --memory and --to need"),
-            Fault::NoPlace => write!(f, "it is no regular file, which --memory needs to write to"),
-            Fault::Changed => write!(f, "it was changed while it was read"),
             Fault::Other(error) => write!(f, "{error}"),
+            fault => write!(f, "{}", fault.text()),
+        }
+    }
+}
+
+impl Fault {
+    // The text of a fault that has no values.
+    fn text(&self) -> &'static str {
+        match self {
+            Fault::OutOfMemory => "out of memory",
+            Fault::NoRoomAtOnce =>
+                "out of memory: with --memory SIZE a merge takes about that much",
+            Fault::KeysDiffer => "the shards are under different keys",
+            Fault::NoUnion => {
+                "the shards have a file in common that can't be combined, or too many rows"
+            }
+            Fault::HasKey => "its chunk hashes are under a key already",
+            Fault::LateExpiry => "the expiry is past the last timestamp",
+            Fault::NoVerification => "a file has no verification rows",
+            Fault::HasAuxRow => {
+                "a file has an auxiliary row, which version 2 of the format does not have"
+            }
+            Fault::TooManyRounds => "the lookup gave up: it has read from the file too many times",
+            Fault::NoFiles => "there are no files to merge",
+            Fault::NoText => "the name is not UTF-8, so it can't be opened",
+            Fault::LongWord => "an argument is too long",
+            Fault::Terminal => "it is a terminal: write the shard to a file, by -o, or to a pipe",
+            Fault::NoParts => "it is no regular file, which --memory and --to need",
+            Fault::NoPlace => "it is no regular file, which --memory needs to write to",
+            Fault::Changed => "it was changed while it was read",
+            _ => "it failed",
         }
     }
 }
