@@ -25,5 +25,6 @@ pub mod Searching
 pub mod Sizes
 pub mod Versions
 pub mod Walking
+pub mod Walks
 pub mod Whole
 pub mod Written

@@ -1,5 +1,5 @@
--- The record at a row of a section.
-use Rattle.std.specs.Prelude.{◌⊎◌, ℕ, ◌^◌, ◌≤◌, List, drop, Option, None, Some}
+-- The record at a row of a section, and walks from row to row.
+use Rattle.std.specs.Prelude.{◌≡◌, ◌⊎◌, ℕ, ◌+◌, ◌^◌, ◌<◌, ◌≤◌, List, [], ◌∷◌, map, drop, Option, None, Some}
 use Rattle.xet_core_structures.specs.declared.error.CoreError.{CoreError}
 use Rattle.xet_core_structures.specs.declared.file_structs.MDBFileInfo.{MDBFileInfo}
 use Rattle.xet_core_structures.specs.declared.xorb_structs.MDBXorbInfo.{MDBXorbInfo}
@@ -7,9 +7,11 @@ use Rattle.xet_core_structures.specs.declared.shard_format.MDBShardInfo.{MDBShar
 use Rattle.xet_core_structures.specs.TwoShards.ByteResults.{LoadRefusal}
 use Rattle.xet_core_structures.specs.Ends.{HasHeaderAndFooter}
 use Rattle.xet_core_structures.specs.Lookup.{RecordAt, row_at}
-use Rattle.xet_core_structures.specs.SectionReading.{SectionCase, BeginsWithBookend, BeginsRefused, EndsEarly, files_of}
+use Rattle.xet_core_structures.specs.FileRecord.{row_count}
+use Rattle.xet_core_structures.specs.SectionReading.{IsSection, files_of}
+use Rattle.xet_core_structures.specs.SectionReading.{SectionCase, BeginsWithBookend, BeginsRefused, EndsEarly}
 use Rattle.xet_core_structures.specs.Table.{IsBareInvalidShard}
-use Rattle.xet_core_structures.specs.XorbRecord.{xorb_records}
+use Rattle.xet_core_structures.specs.XorbRecord.{xorb_records, xorb_row_count}
 use Rattle.xet_records.specs.RecordKind.{RecordKind}
 
 module _ {H R : Type 0} (K : RecordKind H R) (bytes : List ℕ) (offset row : ℕ) where
@@ -56,3 +58,22 @@ abbrev pub RefusesXorbAt : List ℕ → ℕ → CoreError → Type 0
 RefusesXorbAt bytes row e =
     LoadRefusal bytes e
     ⊎ WithEnds bytes (λ info. NotAtRow xorb_records bytes info.metadata.xorb_info_offset row e)
+
+-- a walk from a row on, which fits 32 bits: there is no record, and the walk ends; or there is one,
+-- and the walk goes on as many rows later as the record has
+abbrev pub Walks : {R : Type 0} → (ℕ → Option R → Type 0) → (R → ℕ) → ℕ → List R → Type 0
+Walks IsAt rows row [] = (row < 2 ^ 32) × IsAt row None
+Walks IsAt rows row (r ∷ rs) = (row < 2 ^ 32) × IsAt row (Some r) × Walks IsAt rows (row + rows r) rs
+
+-- the records that `file_at` has at row 0 of the bytes and, one after another, at each next row
+abbrev pub WalksFiles : List ℕ → List MDBFileInfo → Type 0
+WalksFiles bytes found = Walks (HasFileAt bytes) row_count 0 found
+
+-- the records that `xorb_at` has at row 0 of the bytes and, one after another, at each next row
+abbrev pub WalksXorbs : List ℕ → List MDBXorbInfo → Type 0
+WalksXorbs bytes found = Walks (HasXorbAt bytes) xorb_row_count 0 found
+
+-- the bytes are a section, and these are its records as reading returns them
+abbrev pub IsSectionReadAs : {H R : Type 0} → RecordKind H R → List ℕ → List R → Type 0
+IsSectionReadAs {R = R} K bytes found =
+    (stored : List R) × IsSection K bytes stored × (map K.as_read stored ≡ found)

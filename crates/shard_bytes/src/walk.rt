@@ -1,7 +1,19 @@
 //! Walking through a section of a shard, one record after another.
 
-ghost use Rattle.std.specs.Prelude.{◌≡◌, MatchResult};
+ghost use Rattle.std.specs.Prelude.{◌≡◌, ◌↔◌, ◌+◌, ◌<◌, ◌^◌, ℕ, List, Option, Some, MatchResult, drop, length};
+ghost use Rattle.std.specs.FinMap as finite;
+ghost use Rattle.xet_core_structures.specs.declared.error.CoreError.{CoreError};
+ghost use Rattle.xet_core_structures.specs.declared.file_structs.MDBFileInfo.{MDBFileInfo};
+ghost use Rattle.xet_core_structures.specs.declared.shard_format.MDBShardInfo.{MDBShardInfo};
+ghost use Rattle.xet_core_structures.specs.declared.xorb_structs.MDBXorbInfo.{MDBXorbInfo};
+ghost use Rattle.xet_core_structures.specs.Ends.{HasHeaderAndFooter};
+ghost use Rattle.xet_core_structures.specs.FileRecord.{row_count, rows_after};
+ghost use Rattle.xet_core_structures.specs.Records.ShardContents.{HasShard};
+ghost use Rattle.xet_core_structures.specs.SectionReading.{files_of};
+ghost use Rattle.xet_core_structures.specs.Shard.{Shard};
+ghost use Rattle.xet_core_structures.specs.XorbRecord.{xorb_records, xorb_row_count};
 ghost use Rattle.shard_bytes.specs.Walking.{HasFileAt, RefusesFileAt, HasXorbAt, RefusesXorbAt};
+ghost use Rattle.shard_bytes.specs.Walking.{WalksFiles, WalksXorbs, IsSectionReadAs};
 ghost use Rattle.shard_bytes.specs.Steps.Walking.{IsRead};
 
 use std::alloc::Global;
@@ -36,6 +48,46 @@ pub fn xorb_at(alloc: Global, bytes: &[u8], row: u32) -> Result<Option<MDBXorbIn
     let info = MDBShardInfo::load_from_reader(alloc, &mut source)?;
     unless_bookend(info.read_xorb_info(alloc, &mut source, row))
 }
+
+/// Does nothing. Its contract says that a walk by [`file_at`], from row 0 on and to each next row
+/// until there is no record, meets exactly the records of the section to which the footer leads, in
+/// their order. If the bytes hold a shard, these are the shard's files by ascending hash. The same
+/// is said of [`xorb_at`].
+pub fn walks_meet_all_records()
+    ensures files { (bytes : List ℕ) → (info : MDBShardInfo) → (found : List MDBFileInfo)
+        → HasHeaderAndFooter bytes info
+        → WalksFiles bytes found
+        ↔ IsSectionReadAs (files_of info) (drop info.metadata.file_info_offset bytes) found }
+    ensures xorbs { (bytes : List ℕ) → (info : MDBShardInfo) → (found : List MDBXorbInfo)
+        → HasHeaderAndFooter bytes info
+        → WalksXorbs bytes found
+        ↔ IsSectionReadAs xorb_records (drop info.metadata.xorb_info_offset bytes) found }
+    ensures files_of_shard { (s : Shard) → (bytes : List ℕ) → (found : List MDBFileInfo)
+        → HasShard s bytes → WalksFiles bytes found ↔ (found ≡ finite.values s.files) }
+    ensures xorbs_of_shard { (s : Shard) → (bytes : List ℕ) → (found : List MDBXorbInfo)
+        → HasShard s bytes → WalksXorbs bytes found ↔ (found ≡ finite.values s.xorbs) }
+{}
+
+/// Does nothing. Its contract says of [`file_at`] and [`xorb_at`] that bytes have at a row one
+/// record at most, or the bookend (`one_file`), and where they do, a call fails only if an
+/// allocation does (`file_refused`). A record has the rows that its header announces, and its
+/// header's (`file_rows`).
+pub fn rows_have_one_record()
+    ensures one_file { (bytes : List ℕ) → (row : ℕ) → (x y : Option MDBFileInfo)
+        → HasFileAt bytes row x → HasFileAt bytes row y → x ≡ y }
+    ensures one_xorb { (bytes : List ℕ) → (row : ℕ) → (x y : Option MDBXorbInfo)
+        → HasXorbAt bytes row x → HasXorbAt bytes row y → x ≡ y }
+    ensures file_refused { (bytes : List ℕ) → (row : ℕ) → (found : Option MDBFileInfo)
+        → (e : CoreError) → length bytes < 2 ^ 64 → HasFileAt bytes row found
+        → RefusesFileAt bytes row e → e ≡ CoreError.OutOfMemory }
+    ensures xorb_refused { (bytes : List ℕ) → (row : ℕ) → (found : Option MDBXorbInfo)
+        → (e : CoreError) → length bytes < 2 ^ 64 → HasXorbAt bytes row found
+        → RefusesXorbAt bytes row e → e ≡ CoreError.OutOfMemory }
+    ensures file_rows { (bytes : List ℕ) → (row : ℕ) → (r : MDBFileInfo)
+        → HasFileAt bytes row (Some r) → row_count r ≡ 1 + rows_after r.metadata }
+    ensures xorb_rows { (bytes : List ℕ) → (row : ℕ) → (r : MDBXorbInfo)
+        → HasXorbAt bytes row (Some r) → xorb_row_count r ≡ 1 + r.metadata.num_entries }
+{}
 
 /// The record, or `None` where reading one met a bookend, whose error is `InternalError`.
 pub(crate) fn unless_bookend<R: Drop>(read: Result<R>) -> Result<Option<R>>
