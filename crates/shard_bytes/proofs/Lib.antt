@@ -6,6 +6,7 @@ pub mod CutOut
 pub mod EndsAlone
 pub mod Exclusive
 pub mod Expiring
+pub mod ExportedShards
 pub mod Exporting
 pub mod Formats
 pub mod Fronts

@@ -23,7 +23,7 @@ use Rattle.xet_core_structures.specs.SectionReading.{files_of, IsSection}
 use Rattle.xet_core_structures.specs.XorbRecord.{IsXorb, xorb_records, xorb_record_bytes, xorb_bookend}
 use Rattle.xet_core_structures.specs.declared.merklehash.DataHash.{DataHash}
 use Rattle.xet_core_structures.specs.Hash.{hash_cmp}
-use Rattle.xet_core_structures.specs.Records.ShardContents.{Holds, files_at, xorbs_at}
+use Rattle.xet_core_structures.specs.Records.ShardContents.{Holds, HoldsShard, IsSectionOf, files_at, xorbs_at}
 use Rattle.xet_core_structures.specs.Shard.{Shard}
 use Rattle.xet_core_structures.proofs.Records.Items.{has_at}
 use Rattle.xet_core_structures.proofs.Records.ListMaps.{list_map, section_of_list, values-list_map}
@@ -51,6 +51,7 @@ use Rattle.shard_bytes.specs.declared.check.Part.TheVariants.{Header, FileSectio
 use Rattle.shard_bytes.specs.declared.check.Finding.{Finding}
 use Rattle.shard_bytes.specs.declared.check.Finding.TheVariants.{Unsupported, TooShort, Cut, Refused, OutOfOrder, Malformed, Differs, Reordered, Size}
 use Rattle.shard_bytes.specs.Checking.{IsContent, IsWhole, IsIntact, IsReadAs, IsReordering, IsReorderedTable, IsOutOfOrder, IsAlikePart, IsFinding, IsNote, HoldsSomeShard, layout_with}
+use Rattle.shard_bytes.specs.Exporting.{FollowsHeader}
 
 -- what holds of each value of a map holds of its entries
 of_entries : {R : Type 0} (Is : R → Type 0) (m : FinMap hash_cmp R) → All Is (values m) → All (λ e. Is e.1) (entries m)
@@ -259,25 +260,38 @@ module _ (bytes : List ℕ) (w : IsIntact bytes) where
     xorbs = section_of_list xorb_records w.xorbs w.content.xorbs_ascend (xorbs_at bytes info) w.xorbs xorbs_there (map-id w.xorbs);
   }
 
+  holds_the_shard : HoldsShard w.options.key the_shard bytes
+  holds_the_shard = record {
+    shard = record {
+      files = record {
+        keyed = holds_it.files.keyed;
+        well_formed = of_entries IsWellFormed (list_map file_records w.files) (subst (All IsWellFormed) (sym (values-list_map file_records w.files w.content.files_ascend)) w.content.files_formed);
+      };
+      file_rows = subst (λ rs. total_rows file_records rs ≤ MAX_ROWS) (sym (values-list_map file_records w.files w.content.files_ascend)) w.content.files_fit.rows;
+      xorbs = record {
+        keyed = holds_it.xorbs.keyed;
+        well_formed = of_entries IsXorb (list_map xorb_records w.xorbs) (subst (All IsXorb) (sym (values-list_map xorb_records w.xorbs w.content.xorbs_ascend)) w.content.xorbs_formed);
+      };
+      xorb_rows = subst (λ rs. total_rows xorb_records rs ≤ MAX_ROWS) (sym (values-list_map xorb_records w.xorbs w.content.xorbs_ascend)) w.content.xorbs_fit.rows;
+    };
+    has = record { info = info; ends = ends; holds = holds_it };
+    under = refl;
+  }
+
   pub holds_one : HoldsSomeShard bytes
-  holds_one = (
+  holds_one = (w.options.key, the_shard, holds_the_shard)
+
+  -- whose sections follow the header
+  pub follows_one : (key : DataHash) × (s : Shard) × HoldsShard key s bytes × FollowsHeader s bytes
+  follows_one = (
     w.options.key,
     the_shard,
+    holds_the_shard,
     record {
-      shard = record {
-        files = record {
-          keyed = holds_it.files.keyed;
-          well_formed = of_entries IsWellFormed (list_map file_records w.files) (subst (All IsWellFormed) (sym (values-list_map file_records w.files w.content.files_ascend)) w.content.files_formed);
-        };
-        file_rows = subst (λ rs. total_rows file_records rs ≤ MAX_ROWS) (sym (values-list_map file_records w.files w.content.files_ascend)) w.content.files_fit.rows;
-        xorbs = record {
-          keyed = holds_it.xorbs.keyed;
-          well_formed = of_entries IsXorb (list_map xorb_records w.xorbs) (subst (All IsXorb) (sym (values-list_map xorb_records w.xorbs w.content.xorbs_ascend)) w.content.xorbs_formed);
-        };
-        xorb_rows = subst (λ rs. total_rows xorb_records rs ≤ MAX_ROWS) (sym (values-list_map xorb_records w.xorbs w.content.xorbs_ascend)) w.content.xorbs_fit.rows;
-      };
-      has = record { info = info; ends = ends; holds = holds_it };
-      under = refl;
+      header = have.header;
+      files = section_of_list (file_records_in have.header.version) w.files w.content.files_ascend (drop 48 bytes) w.files have.file_section (all_as_read w.files w.content.files_formed);
+      xorbs = subst (λ rs. IsSectionOf xorb_records (drop (xorbs_after rs) bytes) the_shard.xorbs) (sym (values-list_map file_records w.files w.content.files_ascend))
+          (section_of_list xorb_records w.xorbs w.content.xorbs_ascend (drop (xorbs_after w.files) bytes) w.xorbs have.xorb_section (map-id w.xorbs));
     },
   )
 

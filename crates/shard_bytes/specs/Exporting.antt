@@ -1,5 +1,6 @@
 -- What a keyed export of a shard's bytes is, and why there is none.
-use Rattle.std.specs.Prelude.{◌≡◌, ◌⊎◌, ℕ, List, drop}
+use Rattle.std.specs.Prelude.{◌≡◌, ◌⊎◌, ℕ, ◌+◌, Bool, List, drop, if◌then◌else◌}
+use Rattle.std.specs.FinMap.{empty, values}
 use Rattle.xet_core_structures.specs.declared.error.CoreError.{CoreError}
 use Rattle.xet_core_structures.specs.declared.error.CoreError.TheVariants.{InvalidArguments}
 use Rattle.xet_core_structures.specs.declared.file_structs.MDBFileInfo.{MDBFileInfo}
@@ -9,7 +10,11 @@ use Rattle.xet_core_structures.specs.Ends.{HasHeader, HasHeaderAndFooter}
 use Rattle.xet_core_structures.specs.FileRecord.{file_records_in}
 use Rattle.xet_core_structures.specs.XorbRecord.{xorb_records}
 use Rattle.xet_core_structures.specs.KeyedExport.{export_options, exported, xorbs_after, ExportCase, CannotExport}
+use Rattle.xet_core_structures.specs.KeyedShards.{keyed_shard}
+use Rattle.xet_core_structures.specs.Records.ShardContents.{HoldsShard, IsSectionOf}
 use Rattle.xet_core_structures.specs.SectionReading.{IsSection}
+use Rattle.xet_core_structures.specs.Shard.{Shard}
+use Rattle.xet_core_structures.specs.Trees.ExportTrees.{shard_as_wanted}
 use Rattle.xet_core_structures.specs.View.{auxes_as_wanted}
 use Rattle.xet_core_structures.specs.TwoShards.ByteResults.{LoadRefusal}
 use Rattle.shard_bytes.specs.declared.export.Export.{Export}
@@ -48,3 +53,27 @@ NotExported x bytes e =
 -- shard cannot be exported, or a section is not read
 abbrev pub RefusesExport : Export → List ℕ → CoreError → Type 0
 RefusesExport x bytes = InMemory (NotExported x bytes)
+
+-- the bytes begin with a header, and then come both sections of this shard, where an export reads
+-- them; nothing is said of where the footer leads
+pub record FollowsHeader (s : Shard) (bytes : List ℕ) : Type 0 where
+  pub header : HasHeader bytes
+  pub files : IsSectionOf (file_records_in header.version) (drop 48 bytes) s.files
+  pub xorbs : IsSectionOf xorb_records (drop (xorbs_after (values s.files)) bytes) s.xorbs
+
+-- a shard with its files or without
+abbrev pub files_as_wanted : Bool → Shard → Shard
+files_as_wanted wanted s = if wanted then s else record s { files = empty }
+
+-- the shard that is exported of a shard: its chunk hashes are under the export's key, and its files
+-- have auxiliary rows or not, or are left out
+abbrev pub exported_shard : Export → Shard → Shard
+exported_shard x s =
+    files_as_wanted x.parts.files (keyed_shard x.key (shard_as_wanted x.parts.aux_ext s))
+
+-- the bytes hold the shard that is exported of a shard, under the export's key, and their footer
+-- has its times
+pub record HoldsExport (x : Export) (s : Shard) (bytes : List ℕ) : Type 0 where
+  pub holds : HoldsShard x.key (exported_shard x s) bytes
+  pub creation : holds.has.info.metadata.shard_creation_timestamp ≡ x.now
+  pub expiry : holds.has.info.metadata.shard_key_expiry ≡ x.now + x.valid_seconds

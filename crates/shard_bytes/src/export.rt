@@ -1,9 +1,16 @@
 //! Exporting a shard under a key.
 
-ghost use Rattle.std.specs.Prelude.{◌≡◌, ◌⊎◌, length, IfOk, IsErrAnd, MatchResult};
+ghost use Rattle.std.specs.Prelude.{◌≡◌, ◌⊎◌, ◌+◌, ◌^◌, ◌<◌, ℕ, List, length, IfOk, IfErr, IsErrAnd, MatchResult};
+ghost use Rattle.std.specs.FinMap as finite;
 ghost use Rattle.xet_core_structures.specs.declared.error.CoreError.{CoreError};
-ghost use Rattle.xet_core_structures.specs.KeyedExport.{ExportFails, CannotExport};
-ghost use Rattle.shard_bytes.specs.Exporting.{ExportsBytes, RefusesExport};
+ghost use Rattle.xet_core_structures.specs.declared.merklehash.DataHash.{DataHash};
+ghost use Rattle.xet_core_structures.specs.KeyedExport.{ExportFails, CannotExport, xorbs_after};
+ghost use Rattle.xet_core_structures.specs.Hash.{IsHash};
+ghost use Rattle.xet_core_structures.specs.KeyedHash.{no_key};
+ghost use Rattle.xet_core_structures.specs.Records.ShardContents.{HasShard, HoldsShard};
+ghost use Rattle.xet_core_structures.specs.Shard.{Shard, IsShard};
+ghost use Rattle.shard_bytes.specs.Checking.{IsIntact};
+ghost use Rattle.shard_bytes.specs.Exporting.{ExportsBytes, RefusesExport, FollowsHeader, HoldsExport};
 ghost use Rattle.shard_bytes.specs.Sizes.{IsRewriteSize};
 ghost use Rattle.shard_bytes.specs.Steps.Exporting.{WritesExport};
 
@@ -44,6 +51,11 @@ pub fn export_bytes(alloc: Global, bytes: &[u8], export: &Export) -> Result<Vec<
     ensures exported { MatchResult result
         (λ exported. ExportsBytes export.entry.now bytes.now exported.items)
         (RefusesExport export.entry.now bytes.now) }
+    ensures of_shard { (s : Shard) → IsShard s → FollowsHeader s bytes.now
+        → IfOk result (λ exported. HoldsExport export.entry.now s exported.items) }
+    ensures succeeds { (s : Shard) → HoldsShard no_key s bytes.now → FollowsHeader s bytes.now
+        → export.entry.now.now + export.entry.now.valid_seconds < 2 ^ 64
+        → IfErr result (λ e. e ≡ CoreError.OutOfMemory) }
     ensures size { IfOk result (λ exported. IsRewriteSize bytes.now (length exported.items)) }
 {
     let mut source = MemorySource::new(bytes);
@@ -55,6 +67,26 @@ pub fn export_bytes(alloc: Global, bytes: &[u8], export: &Export) -> Result<Vec<
         Err(error) => Err(in_memory(error)),
     }
 }
+
+/// Does nothing. Its contract says what a shard's export holds, of any bytes in which the shard
+/// follows the header (`held`), and that, without a key and with an expiry that fits 64 bits, it
+/// fails only if an allocation does (`refused`). The shard that bytes hold follows the header if the
+/// footer's offsets are those of sections right behind the header (`by_footer`), and in bytes in
+/// which [`check_bytes`](crate::check::check_bytes) finds nothing but notes (`intact`).
+pub fn exports_hold_the_shard()
+    ensures held { (x : Export) → (s : Shard) → (bytes out : List ℕ) → IsHash x.key
+        → x.now < 2 ^ 64 → IsShard s → FollowsHeader s bytes → ExportsBytes x bytes out
+        → HoldsExport x s out }
+    ensures refused { (x : Export) → (s : Shard) → (bytes : List ℕ) → (e : CoreError)
+        → x.now + x.valid_seconds < 2 ^ 64 → HoldsShard no_key s bytes → FollowsHeader s bytes
+        → RefusesExport x bytes e → e ≡ CoreError.OutOfMemory }
+    ensures by_footer { (s : Shard) → (bytes : List ℕ) → (has : HasShard s bytes)
+        → has.info.metadata.file_info_offset ≡ 48
+        → has.info.metadata.xorb_info_offset ≡ xorbs_after (finite.values s.files)
+        → FollowsHeader s bytes }
+    ensures intact { (bytes : List ℕ) → IsIntact bytes
+        → (key : DataHash) × (s : Shard) × HoldsShard key s bytes × FollowsHeader s bytes }
+{}
 
 // Writes the export that is asked for.
 fn write_export<S: ShardSource, W: Write>(

@@ -1,9 +1,11 @@
-use Rattle.std.proofs.Common.{◌≡◌, inl, ℕ, List, length, sym, ap, ◌∙◌, subst}
+use Rattle.std.proofs.Common.{◌≡◌, inl, ℕ, List, length, sym, ap, ◌∙◌, subst, arith}
 use Rattle.std.proofs.lemmas.Result.{err_from_is_err_and}
-use Rattle.xet_core_structures.specs.Source.{Source}
 use Rattle.xet_core_structures.specs.Ends.{HasHeaderAndFooter}
 use Rattle.shard_bytes.proofs.Exporting.{export_refused, export_made}
+use Rattle.shard_bytes.proofs.ExportedShards.{export_held, refused, export_succeeds}
+use Rattle.xet_core_structures.specs.Source.{Source}
 use Rattle.xet_core_structures.specs.KeyedExport.{export_options}
+use Rattle.shard_bytes.specs.Exporting.{ExportsBytes}
 use Rattle.shard_bytes.specs.Sizes.{IsRewriteSize}
 use Rattle.shard_bytes.proofs.RewriteSizes.{size_of_export}
 use Rattle.shard_bytes.proofs.export.export_bytes.Goals as goal
@@ -34,3 +36,26 @@ returns-in-Ok-clause-size c =
     subst (λ (zs : List ℕ). IsRewriteSize c.args.bytes.now (length zs)) (sym made.written)
     (size_of_export c.args.bytes.now made.header.version made.files made.xorbs made.file_section made.xorb_section x.parts.aux_ext
     (export_options x.key x.now x.valid_seconds x.parts.files x.parts.xorb_table x.parts.chunk_table))
+
+pub returns-in-Ok-clause-of_shard : goal.returns-in-Ok-clause-of_shard
+returns-in-Ok-clause-of_shard c = λ s shard follows.
+    let x = c.args.export.now in
+    let widths = c.in-Ok.ensures.made.ends.footer_widths in
+    export_held s c.args.bytes.now follows x c.write_export.new.writer.items shard widths.key (widths.timestamps 0 x.now (omega arith)) (returns-in-Ok-clause-exported c)
+
+pub returns-in_err-info-clause-succeeds : goal.returns-in_err-info-clause-succeeds
+returns-in_err-info-clause-succeeds c = λ s holds follows fits.
+    let x : c.new-source.result.bytes.now ≡ c.args.bytes.now = ap (λ (s : Source). s.bytes) c.new-source.ensures in
+    let info = holds.has.info in
+    absurd (omega (arith, (c.in_err-info.ensures.ends info (subst (λ bytes. HasHeaderAndFooter bytes info) (sym x) holds.has.ends)).0))
+
+pub returns-in_err-seek_to-clause-succeeds : goal.returns-in_err-seek_to-clause-succeeds
+returns-in_err-seek_to-clause-succeeds c = λ s holds follows fits. absurd (omega (arith, c.in_err-seek_to.ensures.failures))
+
+pub returns-in_err-exported-clause-succeeds : goal.returns-in_err-exported-clause-succeeds
+returns-in_err-exported-clause-succeeds c = λ s holds follows fits.
+    export_succeeds s c.args.bytes.now follows c.args.export.now holds fits (λ exported. ExportsBytes c.args.export.now c.args.bytes.now exported.items) _
+    (returns-in_err-exported-clause-exported c)
+
+pub returns-in-Err-clause-succeeds : goal.returns-in-Err-clause-succeeds
+returns-in-Err-clause-succeeds c = λ s holds follows fits. refused s c.args.bytes.now follows c.args.export.now holds fits _ (returns-in-Err-clause-exported c)
