@@ -111,14 +111,17 @@ static void check_malformed(const struct input *input, const struct block *found
     require(!is_told || (record.first < input->count && record.first == record.second), "the record is of no shard");
 }
 
+static bool is_of_two(const struct input *input, const xet_disagreement *it) {
+    return it->first < input->count && it->second < input->count && it->first != it->second;
+}
+
 /* A disagreement is told exactly if there is one, and names two shards of the list. */
 static void check_disagreement(const struct input *input, const struct block *found, size_t differing, bool is_told) {
     xet_disagreement first;
     memcpy(&first, found->bytes, sizeof first);
     require((differing > 0) == is_told, "the count of disagreements is another");
     require(differing > 0 || is_filled(found, 0), "the disagreement is touched");
-    bool is_pair = first.first < input->count && first.second < input->count && first.first != first.second;
-    require(differing == 0 || is_pair, "the disagreement is not of two shards");
+    require(differing == 0 || is_of_two(input, &first), "the disagreement is not of two shards");
 }
 
 static uint32_t call_merge_agreeing(const struct input *input, void *out, size_t capacity, size_t *written) {
@@ -136,6 +139,47 @@ static uint32_t call_merge_agreeing(const struct input *input, void *out, size_t
     }
     free_block(&found);
     return within_room(error, bytes_of(list, input->count), *written);
+}
+
+/* The order of disagreements: those of files first, then by the hash. */
+static int compare_disagreements(const xet_disagreement *one, const xet_disagreement *other) {
+    if (one->is_xorb != other->is_xorb)
+        return one->is_xorb ? 1 : -1;
+    for (size_t at = 0; at < 4; at++)
+        if (one->hash[at] != other->hash[at])
+            return one->hash[at] < other->hash[at] ? -1 : 1;
+    return 0;
+}
+
+/* All disagreements are in order, each of two shards; the first, and how many there are, is what xet_find_disagreement
+ * shows. */
+static void check_disagreements(const struct input *input, const xet_disagreement *all, size_t count) {
+    xet_bytes list[SHARDS];
+    list_shards(input, list);
+    xet_disagreement first;
+    size_t differing;
+    require(xet_find_disagreement(list, input->count, &differing, &first) == XET_OK, "no disagreements are counted");
+    require(differing == count, "the count of disagreements is another");
+    require(count == 0 || compare_disagreements(&first, all) == 0, "the first disagreement is another");
+    for (size_t at = 0; at < count; at++) {
+        require(is_of_two(input, &all[at]), "a disagreement is not of two shards");
+        require(at == 0 || compare_disagreements(&all[at - 1], &all[at]) < 0, "disagreements are out of order");
+    }
+}
+
+static uint32_t call_find_disagreements(const struct input *input, void *out, size_t capacity, size_t *written) {
+    xet_bytes list[SHARDS];
+    list_shards(input, list);
+    xet_disagreement *all = out;
+    uint32_t error = xet_find_disagreements(list, input->count, all, capacity, written);
+    if (error != XET_OK)
+        return error;
+    check_disagreements(input, all, *written);
+    /* The bytes between two fields may be any. */
+    size_t start = offsetof(xet_disagreement, is_xorb) + sizeof(bool), end = offsetof(xet_disagreement, first);
+    for (size_t at = 0; at < *written; at++)
+        memset((uint8_t *)&all[at] + start, 0, end - start);
+    return error;
 }
 
 static uint32_t call_export(const struct input *input, void *out, size_t capacity, size_t *written) {
@@ -303,6 +347,7 @@ static const struct filling fillings[] = {
     {"xet_merge_range", 1, OF_MERGING, call_merge_range, 3},
     {"xet_concatenate", 1, OF_MERGING, call_concatenate, 3},
     {"xet_merge_agreeing", 1, OF_MERGING | BIT(XET_DISAGREE) | BIT(XET_MALFORMED), call_merge_agreeing, 3},
+    {"xet_find_disagreements", sizeof(xet_disagreement), OF_SECTIONS, call_find_disagreements, 0},
     {"xet_export", 1, OF_MERGING, call_export, 3},
     {"xet_minimal", 1, OF_SECTIONS, call_minimal, 3},
     {"xet_subset", 1, OF_SECTIONS, call_subset, 3},

@@ -252,6 +252,13 @@ typedef struct xet_disagreement {
  * XET_OUT_OF_MEMORY. */
 uint32_t xet_find_disagreement(const xet_bytes *shards, size_t count, size_t *differing, xet_disagreement *found);
 
+/* Writes all disagreements, one for each hash that xet_find_disagreement counts: those of files before those of xorbs,
+ * and each in ascending order of the hashes. `capacity` and `*written` count disagreements.
+ *
+ * The errors are those of xet_find_disagreement, and XET_SHORT. */
+uint32_t xet_find_disagreements(const xet_bytes *shards, size_t count, xet_disagreement *out, size_t capacity,
+                                size_t *written);
+
 /* Looks for a record that no shard may have: a file whose header has a reserved word that is not 0, or flags but those
  * of verification rows, a metadata row and an auxiliary row (bits 31, 30 and 29), or a xorb whose chunks have more than
  * 4294967295 bytes together. A shard without such a record is well-formed. A union keeps the reserved word and the
@@ -277,7 +284,8 @@ uint32_t xet_find_malformed(const xet_bytes *shards, size_t count, bool *malform
  * XET_MALFORMED: one of them has a record that no shard may have. `found` is as xet_find_malformed sets it, and
  *     `*written` and `*differing` are 0.
  * XET_DISAGREE: two of them do not agree. `*differing` and `found` are as xet_find_disagreement sets them, and
- *     `*written` is 0. With any other result but these two `*differing` is 0, and `found` stays as it is.
+ *     `*written` is 0. xet_find_disagreements lists them all. With any other result but these two `*differing` is 0,
+ *     and `found` stays as it is.
  * The other errors are those of xet_merge. */
 uint32_t xet_merge_agreeing(const xet_bytes *shards, size_t count, uint8_t *out, size_t capacity, size_t *written,
                             size_t *differing, xet_disagreement *found);

@@ -927,6 +927,37 @@ def test_disagreements():
     refused("Io", xet_shards.find_disagreement, [one, one[:199]])
 
 
+def three_that_disagree():
+    """Returns shards of which each two disagree under one hash, and the disagreements."""
+    shards = shards_of(
+        ({"100": ["200:0:5:5"], "102": ["200:0:5:5"]}, {"11": ["23:5"]}),
+        ({"101": ["200:0:5:5"], "102": ["200:0:6:5"]}, {"10": ["21:5"], "11": ["23:5"]}),
+        ({"100": ["200:0:6:5"], "101": ["200:0:5:5"]}, {"10": ["21:6"], "11": ["23:5"]}),
+    )
+    return shards, [
+        xet_shards.Disagreement("file", hash_text("100"), 0, 2, 3),
+        xet_shards.Disagreement("file", hash_text("102"), 0, 1, 3),
+        xet_shards.Disagreement("xorb", hash_text("10"), 1, 2, 3),
+    ]
+
+
+def test_all_disagreements():
+    shards, found = three_that_disagree()
+    assert xet_shards.find_disagreements(iter(shards)) == found
+    assert xet_shards.find_disagreement(shards) == found[0]
+    assert xet_shards.find_disagreements(shards[:2]) == [xet_shards.Disagreement("file", hash_text("102"), 0, 1, 1)]
+    for agreeing in ([], shards[:1], shards[1:2] * 3):
+        assert xet_shards.find_disagreements(agreeing) == []
+    refused("Io", xet_shards.find_disagreements, [shards[0], shards[0][:199]])
+    error = raises(xet_shards.DisagreementError, xet_shards.merge, shards, strict=True)
+    lists = "one of 3 hashes that find_disagreements lists"
+    assert str(error) == f"the shards at 0 and 2 do not agree on file {hash_text('100')}, {lists} (Disagree)"
+    # More than the first room.
+    many = shards_of(*(({str(1000 + at): [f"200:0:{end}:5"] for at in range(1100)}, {}) for end in (5, 6)))
+    found = [xet_shards.Disagreement("file", hash_text(str(1000 + at)), 0, 1, 1100) for at in range(1100)]
+    assert xet_shards.find_disagreements(many) == found
+
+
 def test_strict_merge():
     one, other, again = shards_of(
         ({"100": ["200:0:5:5"]}, {}), ({"100": ["200:0:6:5"]}, {}), ({"101": ["200:0:6:5"]}, {"10": ["21:5"]})
@@ -1030,6 +1061,30 @@ def test_outputs_of_eligible():
     assert [list(it.words) for it in out] == [[9] * 4] * 3
     assert (call(shard, len(shard), out, 3, ctypes.byref(written)), written.value) == (0, 2)
     assert [list(it.words) for it in out] == [[21, 1, 0, 0], [22, 1, 0, 0], [9] * 4]
+
+
+def test_outputs_of_disagreements():
+    # Three, with room for less and for more.
+    shards, found = three_that_disagree()
+    out, written = (xet_shards._Disagreement * 4)(), ctypes.c_size_t(12345)
+    ctypes.memset(out, 9, ctypes.sizeof(out))
+    before, size = bytes(out), ctypes.sizeof(xet_shards._Disagreement)
+
+    def call(inputs, room):
+        with xet_shards._Addresses(*inputs) as data:
+            number = xet_shards._library.xet_find_disagreements(
+                xet_shards._list(data), len(data), out, room, ctypes.byref(written)
+            )
+        return number, written.value
+
+    assert [call(shards, room) for room in (0, 2)] == [(19, 3)] * 2
+    assert call([shards[0], shards[1][:199]], 4) == (1, 0)
+    assert call(shards[:1], 4) == (0, 0)
+    assert bytes(out) == before
+    assert call(shards, 4) == (0, 3)
+    assert [xet_shards._disagreement(it, 3) for it in out[:3]] == found
+    assert bytes(out)[3 * size :] == before[3 * size :]
+    assert call(shards, 3) == (0, 3)
 
 
 def test_outputs_of_queries():

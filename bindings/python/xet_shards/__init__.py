@@ -27,12 +27,12 @@ from typing import Any, Callable, Dict, Iterable, Iterator, List, Optional, Sequ
 
 __all__ = [
     "Buffer", "Chunk", "Disagreement", "DisagreementError", "File", "Finding", "Index", "Info", "ListedFile",
-    "MalformedError", "MalformedRecord", "NO_EXPIRY", "NO_KEY", "Run", "Segment", "Table", "WritableBuffer",
-    "XetError", "Xorb", "check", "chunk_rows", "concatenate", "concatenate_into", "difference", "eligible", "export",
-    "file_at", "file_in", "files", "find_disagreement", "find_file", "find_malformed", "find_places", "find_rows",
-    "from_table", "hash_bytes", "hash_of_name", "hash_texts", "hmac", "load", "merge", "merge_into", "merge_room",
-    "minimal", "query_at", "query_chunks", "shard_name", "subset", "table", "union", "write", "write_v2", "xorb_at",
-    "xorb_in", "xorbs",
+    "MalformedError", "MalformedRecord", "NO_EXPIRY", "NO_KEY", "Run", "Segment", "Table", "WritableBuffer", "XetError",
+    "Xorb", "check", "chunk_rows", "concatenate", "concatenate_into", "difference", "eligible", "export", "file_at",
+    "file_in", "files", "find_disagreement", "find_disagreements", "find_file", "find_malformed", "find_places",
+    "find_rows", "from_table", "hash_bytes", "hash_of_name", "hash_texts", "hmac", "load", "merge", "merge_into",
+    "merge_room", "minimal", "query_at", "query_chunks", "shard_name", "subset", "table", "union", "write", "write_v2",
+    "xorb_at", "xorb_in", "xorbs",
 ]
 
 __version__ = "0.1.0"
@@ -116,7 +116,7 @@ class Disagreement:
     """A hash under which two shards have records that do not agree.
 
     `kind` is "file" or "xorb". `first` and `second` are the places of two such shards in the list. `count` is how many
-    hashes there are, of which this is the first: of files before xorbs, and the least hash first.
+    such hashes the list has in all.
     """
 
     kind: str
@@ -127,7 +127,7 @@ class Disagreement:
 
 
 class DisagreementError(XetError):
-    """Shards that have to agree do not: `disagreement` is where."""
+    """Shards that have to agree do not: `disagreement` is the first that `find_disagreements` lists."""
 
     def __init__(self, disagreement: Disagreement) -> None:
         super().__init__(_DISAGREE)
@@ -135,7 +135,7 @@ class DisagreementError(XetError):
 
     def __str__(self) -> str:
         it = self.disagreement
-        count = f", the first of {it.count} hashes" if it.count > 1 else ""
+        count = f", one of {it.count} hashes that find_disagreements lists" if it.count > 1 else ""
         return f"the shards at {it.first} and {it.second} do not agree on {it.kind} {it.hash}{count} ({self.name})"
 
     def __reduce__(self) -> Tuple[Any, ...]:
@@ -424,6 +424,7 @@ _CALLS = {
     "xet_concatenate": [*_LIST, *_OUT],
     "xet_merge_agreeing": [*_LIST, *_OUT, POINTER(c_size_t), POINTER(_Disagreement)],
     "xet_find_disagreement": [*_LIST, POINTER(c_size_t), POINTER(_Disagreement)],
+    "xet_find_disagreements": [*_LIST, POINTER(_Disagreement), c_size_t, POINTER(c_size_t)],
     "xet_find_malformed": [*_LIST, POINTER(c_bool), POINTER(_Disagreement)],
     "xet_difference": [*_SHARD, *_SHARD, *_OUT],
     "xet_export": [*_SHARD, POINTER(_Export), *_OUT],
@@ -1334,11 +1335,30 @@ def concatenate_into(shards: Iterable[Buffer], out: WritableBuffer) -> int:
 
 
 def find_disagreement(shards: Iterable[Buffer]) -> Optional[Disagreement]:
-    """Returns a hash under which two of the shards have records that do not agree, or None if each two agree."""
+    """Returns the first hash under which two of the shards have records that do not agree, or None if each two agree.
+
+    Those of files are before those of xorbs, and the least hash is first.
+    """
     differing, found = c_size_t(), _Disagreement()
     with _Addresses(*shards) as data:
         _check(_library.xet_find_disagreement(_list(data), len(data), byref(differing), byref(found)))
     return _disagreement(found, differing.value) if differing.value else None
+
+
+def find_disagreements(shards: Iterable[Buffer]) -> List[Disagreement]:
+    """Returns all hashes under which two of the shards have records that do not agree, each once.
+
+    Those of files are before those of xorbs, and each in ascending order. The list is empty if each two shards agree.
+    """
+    with _Addresses(*shards) as data:
+        listed = _list(data)
+        # Where there are more all records are compared twice.
+        found = _filled(
+            _Disagreement,
+            1024,
+            lambda out, room, written: _library.xet_find_disagreements(listed, len(data), out, room, byref(written)),
+        )
+    return [_disagreement(it, len(found)) for it in found]
 
 
 def find_malformed(shards: Iterable[Buffer]) -> Optional[MalformedRecord]:

@@ -50,6 +50,7 @@ library! {
     fn xet_merge_range(shards: &[Bytes], range: &Range, out: &mut [u8], written: &mut usize) -> u32;
     fn xet_concatenate(shards: &[Bytes], out: &mut [u8], written: &mut usize) -> u32;
     fn xet_find_disagreement(shards: &[Bytes], differing: &mut usize, found: &mut Disagreement) -> u32;
+    fn xet_find_disagreements(shards: &[Bytes], out: &mut [Disagreement], written: &mut usize) -> u32;
     fn xet_find_malformed(shards: &[Bytes], malformed: &mut bool, found: &mut Disagreement) -> u32;
     fn xet_merge_agreeing(
         shards: &[Bytes], out: &mut [u8], written: &mut usize, differing: &mut usize, found: &mut Disagreement,
@@ -146,7 +147,7 @@ pub struct Range {
 }
 
 #[repr(C)]
-#[derive(Default)]
+#[derive(Clone, Default)]
 pub struct Disagreement {
     pub hash: Hash,
     pub is_xorb: bool,

@@ -2,7 +2,7 @@
 
 use crate::calls::{self, Bytes};
 use crate::error::{check, Error};
-use crate::output::{bytes_of, with_room, SHORT};
+use crate::output::{bytes_of, filled, with_room, SHORT};
 use crate::{Hash, Result};
 use std::fmt;
 use std::ops::{Bound, RangeBounds};
@@ -12,6 +12,9 @@ const DISAGREE: u32 = 20;
 
 /// The number of the error that tells a record that no shard may have.
 const MALFORMED: u32 = 21;
+
+/// The first room for disagreements. Where there are more, all records are compared twice.
+const DISAGREEMENTS: usize = 1024;
 
 /// The hash of a file or of a xorb.
 #[derive(Clone, Copy, Debug, PartialEq, Eq, Hash)]
@@ -44,13 +47,13 @@ impl fmt::Display for RecordHash {
 /// A hash under which two shards have records that do not agree.
 #[derive(Clone, Copy, Debug, PartialEq, Eq, Hash)]
 pub struct Disagreement {
-    /// The first such hash: of files before xorbs, and the least hash first.
+    /// The hash.
     pub record_hash: RecordHash,
     /// The index of one such shard in the list.
     pub first: usize,
     /// The index of another.
     pub second: usize,
-    /// How many such hashes there are.
+    /// How many such hashes the list has in all.
     pub count: usize,
 }
 
@@ -65,7 +68,7 @@ impl fmt::Display for Disagreement {
         write!(f, "the shards at {} and {} do not agree on {}", self.first, self.second, self.record_hash)?;
         match self.count {
             0 | 1 => Ok(()),
-            count => write!(f, ", the first of {count} hashes"),
+            count => write!(f, ", one of {count} hashes that find_disagreements lists"),
         }
     }
 }
@@ -326,7 +329,8 @@ pub fn merge_agreeing<T: AsRef<[u8]>>(shards: &[T]) -> Result<Vec<u8>> {
     }
 }
 
-/// Looks for a hash under which two of the shards have records that do not agree. If there is none, each two agree.
+/// Looks for the first hash under which two of the shards have records that do not agree: of files before xorbs, and
+/// the least hash first. If there is none, each two agree.
 ///
 /// Two files agree if they have equal segments, and an equal optional part wherever both have it, and two xorbs if they
 /// are equal. The keys of the shards do not count.
@@ -350,6 +354,30 @@ pub fn find_disagreement<T: AsRef<[u8]>>(shards: &[T]) -> Result<Option<Disagree
     let (mut count, mut found) = (0, calls::Disagreement::default());
     check(calls::xet_find_disagreement(&list, &mut count, &mut found))?;
     Ok((count > 0).then(|| Disagreement::of(&found, count)))
+}
+
+/// All hashes under which two of the shards have records that do not agree, each once: those of files, then those of
+/// xorbs, and each in ascending order.
+///
+/// # Errors
+///
+/// Those of [`find_disagreement`].
+///
+/// ```
+/// # fn main() -> Result<(), Box<dyn std::error::Error>> {
+/// let [a, b, c] = ["a", "b", "c"].map(|it| std::fs::read(format!("examples/{it}.mdb")));
+/// let shards = [a?, b?, c?];
+/// assert_eq!(xet_shards::find_disagreements(&shards[..2])?, []);
+/// for it in xet_shards::find_disagreements(&shards)? {
+///     println!("{} differs in the shards at {} and {}", it.record_hash, it.first, it.second);
+/// }
+/// # Ok(())
+/// # }
+/// ```
+pub fn find_disagreements<T: AsRef<[u8]>>(shards: &[T]) -> Result<Vec<Disagreement>> {
+    let (list, _) = listed(shards)?;
+    let found = filled(DISAGREEMENTS, |out, written| calls::xet_find_disagreements(&list, out, written))?;
+    Ok(found.iter().map(|it| Disagreement::of(it, found.len())).collect())
 }
 
 /// Looks for a record that no shard may have, of the first shard that has one. If there is none, each shard is

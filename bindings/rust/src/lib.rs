@@ -34,8 +34,8 @@ mod walk;
 mod write;
 
 pub use combine::{
-    concatenate, concatenate_into, difference, find_disagreement, find_malformed, merge, merge_agreeing, merge_range,
-    union, Disagreement, MalformedRecord, RecordHash,
+    concatenate, concatenate_into, difference, find_disagreement, find_disagreements, find_malformed, merge,
+    merge_agreeing, merge_range, union, Disagreement, MalformedRecord, RecordHash,
 };
 pub use error::Error;
 pub use finding::{check, Finding, Part};

@@ -114,6 +114,44 @@ fn disagreements() {
 }
 
 #[test]
+fn all_disagreements() {
+    let shards = [
+        shard_of(&["file 100 200:0:5:5", "file 102 200:0:5:5", "xorb 11 23:5"]),
+        shard_of(&["file 101 200:0:5:5", "file 102 200:0:6:5", "xorb 10 21:5", "xorb 11 23:5"]),
+        shard_of(&["file 100 200:0:6:5", "file 101 200:0:5:5", "xorb 10 21:6", "xorb 11 23:5"]),
+    ];
+    let found = [
+        Disagreement { record_hash: RecordHash::File(hash("100")), first: 0, second: 2, count: 3 },
+        Disagreement { record_hash: RecordHash::File(hash("102")), first: 0, second: 1, count: 3 },
+        Disagreement { record_hash: RecordHash::Xorb(hash("10")), first: 1, second: 2, count: 3 },
+    ];
+    assert_eq!(xet_shards::find_disagreements(&shards), Ok(found.to_vec()));
+    assert_eq!(xet_shards::find_disagreement(&shards), Ok(Some(found[0])));
+    let error = xet_shards::merge_agreeing(&shards).expect_err("they do not agree");
+    assert_eq!(error, Error::Disagree(found[0]));
+    let text = format!("the shards at 0 and 2 do not agree on file {}", hash("100"));
+    assert_eq!(error.to_string(), text + ", one of 3 hashes that find_disagreements lists");
+    let found = Disagreement { count: 1, ..found[1] };
+    assert_eq!(xet_shards::find_disagreements(&shards[..2]), Ok(vec![found]));
+    assert_eq!(xet_shards::find_disagreements(&shards[..1]), Ok(vec![]));
+    assert_eq!(xet_shards::find_disagreements::<&[u8]>(&[]), Ok(vec![]));
+    assert_eq!(xet_shards::find_disagreements(&[&shards[0][..], &shards[0][..199]]), Err(Error::Io));
+}
+
+#[test]
+fn more_disagreements_than_the_first_room() {
+    let files = |end: u32| -> Vec<String> { (1000..2100).map(|it| format!("file {it} 200:0:{end}:5")).collect() };
+    let [one, other] = [5, 6].map(|end| {
+        let lines = files(end);
+        shard_of(&lines.iter().map(String::as_str).collect::<Vec<_>>())
+    });
+    let found = xet_shards::find_disagreements(&[one, other]).expect("disagreements");
+    let hashes: Vec<RecordHash> = (1000..2100).map(|it| RecordHash::File(Hash([it, 1, 0, 0]))).collect();
+    assert_eq!(found.iter().map(|it| it.record_hash).collect::<Vec<_>>(), hashes);
+    assert!(found.iter().all(|it| (it.first, it.second, it.count) == (0, 1, 1100)));
+}
+
+#[test]
 fn order_of_refusals() {
     let (file, other) = (one_file(), shard_of(&["file 100 200:0:6:5"]));
     let keyed = xet_shards::export(&file, &Export::new(hash("7"), 0, 0)).expect("an export");

@@ -1,10 +1,10 @@
 -- How disagreements of shards, and a merge of those that agree, are shown.
-use Rattle.std.specs.Prelude.{◌≡◌, ◌⊎◌, ℕ, Bool, true, false, List, [], ◌∷◌, length, Option, None, Some, Ok, Err, IfOk, MatchResult}
+use Rattle.std.specs.Prelude.{◌≡◌, ◌⊎◌, ℕ, Bool, true, false, List, [], ◌∷◌, length, map, Option, None, Some, Ok, Err, IfOk, MatchResult}
 use Rattle.xet_core_structures.specs.declared.set_operations.agreement.Disagreement.{Disagreement}
 use Rattle.xet_core_structures.specs.declared.set_operations.agreement.MalformedRecord.{MalformedRecord}
 use Rattle.xet_core_structures.specs.declared.set_operations.agreement.RecordHash.{RecordHash}
 use Rattle.xet_core_structures.specs.declared.set_operations.agreement.RecordHash.TheVariants.{File, Xorb}
-use Rattle.xet_core_structures.specs.Agreement.Agreement.{InputsRefusal}
+use Rattle.xet_core_structures.specs.Agreement.Agreement.{HasAllDisagreements, InputsRefusal}
 use Rattle.xet_core_structures.specs.Errors.{CoreResult}
 use Rattle.xet_core_structures.specs.Hash.{words_of}
 use Rattle.shard_bytes.specs.declared.agree.AgreeingMerge.{AgreeingMerge}
@@ -30,6 +30,11 @@ c_disagreement d = c_record d.record_hash d.first d.second
 -- twice, the number of the byte string that holds it
 abbrev pub c_malformed : MalformedRecord → XetDisagreement
 c_malformed m = c_record m.record_hash m.input m.input
+
+-- these show all disagreements of byte strings, in their order
+abbrev pub AreAllDisagreements : List (List ℕ) → List XetDisagreement → Type 0
+AreAllDisagreements inputs shown =
+    (all : List Disagreement) × HasAllDisagreements inputs all × (shown ≡ map c_disagreement all)
 
 -- whether there is a record that no shard may have, and the record; if there is none it stays
 abbrev pub ShowsMalformed : Option MalformedRecord → (old new : XetDisagreement) → Bool → Type 0

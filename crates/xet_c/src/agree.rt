@@ -1,6 +1,6 @@
 //! Whether shards are well-formed and agree, and the union of those that are and do.
 
-ghost use Rattle.std.specs.Prelude.{◌≡◌, ◌⊎◌, false, List, Option, map, MatchOption};
+ghost use Rattle.std.specs.Prelude.{◌≡◌, ◌⊎◌, false, List, Option, map, IfOk, IfErr, MatchOption, MatchResult};
 ghost use Rattle.xet_core_structures.specs.declared.error.CoreError.{CoreError};
 ghost use Rattle.xet_core_structures.specs.declared.set_operations.agreement.Disagreement.{Disagreement};
 ghost use Rattle.xet_core_structures.specs.declared.set_operations.agreement.MalformedRecord.{MalformedRecord};
@@ -8,12 +8,13 @@ ghost use Rattle.xet_core_structures.specs.Agreement.Agreement.{HasAllDisagreeme
 ghost use Rattle.xet_core_structures.specs.Errors.{CoreResult, variant_number};
 ghost use Rattle.shard_bytes.specs.declared.agree.AgreeingMerge.{AgreeingMerge};
 ghost use Rattle.shard_bytes.specs.Sizes.{IsResultSize};
-ghost use Rattle.xet_c.specs.Agreeing.{c_record, c_disagreement, c_malformed, ShowsFirst, ShowsMalformed, MergesIfAgreeing, ShowsMerge};
+ghost use Rattle.xet_c.specs.Agreeing.{c_record, c_disagreement, c_malformed, AreAllDisagreements, ShowsFirst, ShowsMalformed, MergesIfAgreeing, ShowsMerge};
+ghost use Rattle.xet_c.specs.Output.{Outcome};
 
-use crate::output::{XET_DISAGREE, XET_MALFORMED, error_number, give};
+use crate::output::{XET_DISAGREE, XET_MALFORMED, deliver, error_number, give};
 use shard_bytes::agree::{AgreeingMerge, merge_agreeing_bytes};
 use std::alloc::Global;
-use xet_core_structures::error::Result;
+use xet_core_structures::error::{CoreError, Result};
 use xet_core_structures::set_operations::{
     Disagreement, MalformedRecord, RecordHash, find_disagreements, find_malformed,
 };
@@ -52,6 +53,42 @@ pub extern "C" fn xet_find_disagreement(
         }
         Err(error) => error_number(&error),
     }
+}
+
+/// All hashes under which two of the shards have records that do not agree, to the front of `out`:
+/// first of files, then of xorbs, and each in ascending order.
+#[unsafe(no_mangle)]
+pub extern "C" fn xet_find_disagreements(
+    alloc: Global,
+    shards: &[&[u8]],
+    out: &mut [XetDisagreement],
+    written: &mut usize,
+) -> u32
+    ensures { Outcome (AreAllDisagreements (map (λ x. x.now) shards.now))
+        (InputsRefusal (map (λ x. x.now) shards.now)) out.old out.new written.new result }
+{
+    let found = shown_disagreements(alloc, shards);
+    deliver(found, out, written)
+}
+
+fn shown_disagreements(alloc: Global, shards: &[&[u8]]) -> Result<Vec<XetDisagreement>>
+    ensures { MatchResult result
+        (λ shown. AreAllDisagreements (map (λ x. x.now) shards.now) shown.items)
+        (InputsRefusal (map (λ x. x.now) shards.now)) }
+{
+    let all = find_disagreements(alloc, shards)?;
+    shown_all(alloc, all.as_slice())
+}
+
+fn shown_all(alloc: Global, all: &[Disagreement]) -> Result<Vec<XetDisagreement>>
+    ensures ok { IfOk result (λ shown. shown.items ≡ map c_disagreement all.now) }
+    ensures causes { IfErr result (λ e. e ≡ CoreError.OutOfMemory) }
+{
+    let mut shown = Vec::with_capacity(alloc, all.len())?;
+    for disagreement in all {
+        shown.push(disagreement_of(disagreement))?;
+    }
+    Ok(shown)
 }
 
 /// Looks for a record that no shard may have, of the first byte string that holds one. `malformed`
