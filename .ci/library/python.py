@@ -13,7 +13,7 @@ MODULE = f"{BINDINGS}/python"
 # The library beside the module.
 SONAME = f"libxet.so.{read(f'{TOP}/VERSION').split('.')[0]}"
 # Programs in the folder of the module's tests.
-TESTS = ("test_vectors.py", "test_index.py", "test_ranges.py")
+TESTS = ("test_vectors.py", "test_index.py", "test_ranges.py", "test_shard.py")
 
 # The types of fields, in Rattle and in the Python module.
 TYPES = {
@@ -118,7 +118,7 @@ def check_package(room, library):
     program = f"import pkgutil, xet_shards as it; print({names}, it.__version__)"
     folder = copied(room, library)
     printed, why = ran(sys.executable, "-c", program, cwd=room, env={"PYTHONPATH": folder, "XET_LIBRARY": ""})
-    wanted = f"index ranges {read(f'{TOP}/VERSION')}"
+    wanted = f"index ranges shard {read(f'{TOP}/VERSION')}"
     return why or (None if printed == wanted else f"the package shows {printed}")
 
 
@@ -154,7 +154,8 @@ def check_wheel(room, library):
         return f"no {os.path.basename(wheel)} is built, but {[it for it in os.listdir(room) if it.endswith('.whl')]}"
     with zipfile.ZipFile(wheel) as file:
         names = {os.path.basename(it) for it in file.namelist()}
-    missing = {"__init__.py", "index.py", "ranges.py", "py.typed", SONAME, "LICENSE", "NOTICE"} - names
+    modules = {f"{it}.py" for it in ("__init__", "index", "ranges", "shard")}
+    missing = {*modules, "py.typed", SONAME, "LICENSE", "NOTICE"} - names
     return f"the wheel lacks {sorted(missing)}" if missing else None
 
 

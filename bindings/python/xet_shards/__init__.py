@@ -5,10 +5,11 @@ comments say what it does on which bytes, and when it fails. A hash is text of 6
 it: words 0, 1, 2 and 3, each as sixteen digits. Times are in seconds.
 
 A shard is any object with a buffer: `bytes`, `bytearray`, `memoryview`, `array`, `mmap`. It is not copied, and must not
-be changed during the call. So a lookup in a file that is mapped reads the pages that it needs, and no others:
+be changed during the call. `open` maps the file of a shard, so that a lookup reads the pages that it needs, and no
+others:
 
-    with open(name, "rb") as file, mmap.mmap(file.fileno(), 0, access=mmap.ACCESS_READ) as shard:
-        print(xet_shards.find_file(shard, file_hash))
+    with xet_shards.open(name) as shard:
+        print(shard.find_file(file_hash))
 
 The shared object is the file that the environment variable XET_LIBRARY names, else libxet.so.0 beside this module.
 """
@@ -25,19 +26,20 @@ from ctypes import POINTER, byref, c_bool, c_char, c_char_p, c_int, c_size_t, c_
 from dataclasses import dataclass
 from typing import Any, Callable, Dict, Iterable, Iterator, List, Optional, Sequence, Tuple, Union
 
+# Without `open`: `from xet_shards import *` leaves that of Python as it is.
 __all__ = [
     "Buffer", "Chunk", "Disagreement", "DisagreementError", "File", "Finding", "Index", "Info", "ListedFile",
-    "MalformedError", "MalformedRecord", "NO_EXPIRY", "NO_KEY", "Run", "Segment", "Table", "WritableBuffer", "XetError",
-    "Xorb", "check", "chunk_rows", "concatenate", "concatenate_into", "difference", "eligible", "export", "file_at",
-    "file_in", "files", "find_disagreement", "find_disagreements", "find_file", "find_malformed", "find_places",
-    "find_rows", "from_table", "hash_bytes", "hash_of_name", "hash_texts", "hmac", "load", "merge", "merge_into",
-    "merge_room", "minimal", "query_at", "query_chunks", "shard_name", "subset", "table", "union", "write", "write_v2",
-    "xorb_at", "xorb_in", "xorbs",
+    "MalformedError", "MalformedRecord", "NO_EXPIRY", "NO_KEY", "Run", "Segment", "Shard", "Table", "WritableBuffer",
+    "XetError", "Xorb", "check", "chunk_rows", "concatenate", "concatenate_into", "difference", "eligible", "export",
+    "file_at", "file_in", "files", "find_disagreement", "find_disagreements", "find_file", "find_malformed",
+    "find_places", "find_rows", "from_table", "hash_bytes", "hash_of_name", "hash_texts", "hmac", "load", "merge",
+    "merge_into", "merge_room", "minimal", "query_at", "query_chunks", "shard_name", "subset", "table", "union",
+    "write", "write_v2", "xorb_at", "xorb_in", "xorbs",
 ]
 
 __version__ = "0.1.0"
 
-Buffer = Union[bytes, bytearray, memoryview, mmap.mmap, "array[Any]"]
+Buffer = Union[bytes, bytearray, memoryview, mmap.mmap, "array[Any]", "Shard"]
 """The bytes of a shard. Other objects with a buffer are taken as well."""
 
 WritableBuffer = Union[bytearray, memoryview, mmap.mmap, "array[Any]"]
@@ -509,6 +511,8 @@ class _Addresses:
     def __enter__(self) -> List[Tuple[int, int]]:
         try:
             for shard in self._shards:
+                if isinstance(shard, Shard):
+                    shard = shard.buffer
                 # The bytes of a view need not be one after another: these are copied.
                 if isinstance(shard, memoryview) and not shard.c_contiguous:
                     shard = shard.tobytes()
@@ -1497,3 +1501,4 @@ def hmac(key: str, chunk_hash: str) -> str:
 # They are made of the functions above.
 from .index import Index  # noqa: E402
 from .ranges import merge_in_threads_to as _merge_in_threads_to  # noqa: E402
+from .shard import Shard, open as open  # noqa: E402
