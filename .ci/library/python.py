@@ -118,7 +118,7 @@ def check_package(room, library):
     program = f"import pkgutil, xet_shards as it; print({names}, it.__version__)"
     folder = copied(room, library)
     printed, why = ran(sys.executable, "-c", program, cwd=room, env={"PYTHONPATH": folder, "XET_LIBRARY": ""})
-    wanted = f"index ranges shard {read(f'{TOP}/VERSION')}"
+    wanted = f"__main__ index ranges shard {read(f'{TOP}/VERSION')}"
     return why or (None if printed == wanted else f"the package shows {printed}")
 
 
@@ -154,7 +154,7 @@ def check_wheel(room, library):
         return f"no {os.path.basename(wheel)} is built, but {[it for it in os.listdir(room) if it.endswith('.whl')]}"
     with zipfile.ZipFile(wheel) as file:
         names = {os.path.basename(it) for it in file.namelist()}
-    modules = {f"{it}.py" for it in ("__init__", "index", "ranges", "shard")}
+    modules = {f"{it}.py" for it in ("__init__", "__main__", "index", "ranges", "shard")}
     missing = {*modules, "py.typed", SONAME, "LICENSE", "NOTICE"} - names
     return f"the wheel lacks {sorted(missing)}" if missing else None
 

@@ -1,4 +1,4 @@
-"""Tests of shards in files that are mapped.
+"""Tests of shards in files that are mapped, and of `python -m xet_shards`.
 
 Runs with pytest, or as a program, which ends with the line 'N passed, M failed'.
 """
@@ -7,6 +7,7 @@ import contextlib
 import inspect
 import os
 import pathlib
+import subprocess
 import sys
 import tempfile
 import threading
@@ -14,6 +15,7 @@ import threading
 sys.dont_write_bytecode = True
 sys.path.insert(0, os.path.dirname(os.path.realpath(__file__)))
 
+import scripts  # noqa: E402
 from scripts import hash_text, xet_shards  # noqa: E402
 from test_vectors import ONE_FILE, XORB_AND_FILE, main, numpy, raises, refused, shard_of  # noqa: E402
 
@@ -219,6 +221,21 @@ def test_names():
     exec("from xet_shards import *", names)
     assert "open" not in names and names["Shard"] is xet_shards.Shard and open is builtins.open
     assert sorted(xet_shards.__all__) == sorted(set(xet_shards.__all__)) == sorted(set(names) - {"__builtins__"})
+
+
+def test_versions():
+    library = os.environ.get("XET_LIBRARY") or f"{os.path.dirname(xet_shards.__file__)}/{xet_shards._LIBRARY}"
+    library = os.path.abspath(library)
+
+    def run(*words):
+        words = [sys.executable, "-m", "xet_shards", *words]
+        env, folder = {**os.environ, "XET_LIBRARY": library}, os.path.dirname(scripts.HERE)
+        return subprocess.run(words, cwd=folder, env=env, capture_output=True, text=True, check=False)
+
+    # The gate compares this version with those of the library's sources.
+    version = xet_shards.__version__
+    assert run().stdout == f"xet_shards {version}\nlibxet {version}\n{library}\n"
+    assert run("?").returncode == 2 and "python -m xet_shards" in run("?").stderr
 
 
 if __name__ == "__main__":

@@ -487,9 +487,13 @@ def _compare_versions(path: str, number: int) -> None:
     """A library serves the module if it has the same first number, and no lower version."""
     first, second, third = (int(it) for it in __version__.split("."))
     if not 10000 * first + 100 * second + third <= number < 10000 * (first + 1):
-        version = f"{number // 10000}.{number // 100 % 100}.{number % 100}"
-        raise ImportError(f"{path} has the version {version}, so it is no library for xet_shards {__version__}",
-                          name=__name__, path=path)
+        raise ImportError(f"{path} has the version {_version(number)}, so it is no library for "
+                          f"xet_shards {__version__}", name=__name__, path=path)
+
+
+def _version(number: int) -> str:
+    """Returns the version that the library says by a number."""
+    return f"{number // 10000}.{number // 100 % 100}.{number % 100}"
 
 
 _library = _open()
