@@ -181,9 +181,7 @@ fn hash_near(shard: &[u8], info: &Info, fraction: f64) -> Option<Hash> {
         part_of(rows, fraction)
     };
     let place = row.checked_mul(ROW)?.checked_add(start)?;
-    let words = bytes_at::<32>(shard, place)?;
-    let mut words = words.chunks_exact(8).map(|it| u64::from_le_bytes(it.try_into().expect("eight bytes")));
-    Some(Hash([(); 4].map(|()| words.next().expect("four words"))))
+    bytes_at::<32>(shard, place).map(Hash::from)
 }
 
 fn part_of(number: u64, fraction: f64) -> u64 {
