@@ -56,6 +56,7 @@ pub enum Finding {
 
 impl Finding {
     /// Whether this is a note, and no fault: nothing is lost.
+    #[must_use]
     pub fn is_note(&self) -> bool {
         matches!(self, Finding::Reordered)
     }

@@ -77,6 +77,7 @@ pub struct Index<S> {
 
 impl<S: AsRef<[u8]>> Index<S> {
     /// An index of no shards.
+    #[must_use]
     pub fn new() -> Index<S> {
         Index { shards: HashMap::new(), next: 0, keys: Vec::new() }
     }
@@ -144,16 +145,19 @@ impl<S: AsRef<[u8]>> Index<S> {
     }
 
     /// The shard with a number.
+    #[must_use]
     pub fn get(&self, number: u32) -> Option<&S> {
         self.shards.get(&number).map(|(_, shard)| shard)
     }
 
     /// How many shards there are.
+    #[must_use]
     pub fn len(&self) -> usize {
         self.shards.len()
     }
 
     /// Whether there are none.
+    #[must_use]
     pub fn is_empty(&self) -> bool {
         self.shards.is_empty()
     }

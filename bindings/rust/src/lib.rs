@@ -16,6 +16,7 @@
 //! # }
 //! ```
 #![deny(missing_docs, unsafe_code)]
+#![warn(clippy::must_use_candidate, clippy::return_self_not_must_use)]
 
 mod calls;
 mod combine;
@@ -56,6 +57,7 @@ pub use write::{export, minimal, subset, write_v2, Export, Minimal, Subset, Xorb
 /// let numbers: Vec<u32> = env!("CARGO_PKG_VERSION").split('.').map(|it| it.parse().unwrap()).collect();
 /// assert_eq!(xet_shards::library_version(), 10000 * numbers[0] + 100 * numbers[1] + numbers[2]);
 /// ```
+#[must_use]
 pub fn library_version() -> u32 {
     calls::xet_version()
 }

@@ -9,6 +9,7 @@ use crate::{calls, Hash, Result};
 /// let name = xet_shards::shard_name([100, 1, 0, 0].into());
 /// assert_eq!(name, format!("{:016x}{:016x}{:032x}.mdb", 100, 1, 0));
 /// ```
+#[must_use]
 pub fn shard_name(hash: Hash) -> String {
     format!("{hash}.mdb")
 }
@@ -41,6 +42,7 @@ pub fn hash_of_name(name: &str) -> Result<Hash> {
 /// let hash = xet_shards::hash_bytes(key, b"");
 /// assert_eq!(hash.to_string(), "cd715d99192b49730998c0ec4dd7e9b1c295bc001b2f73eb8f47d6d49d5fb17c");
 /// ```
+#[must_use]
 pub fn hash_bytes(key: Hash, bytes: &[u8]) -> Hash {
     let mut hash = Hash::default();
     // It has no error.
@@ -55,6 +57,7 @@ pub fn hash_bytes(key: Hash, bytes: &[u8]) -> Hash {
 /// let keyed = xet_shards::hmac(key, hash);
 /// assert_eq!(keyed.to_string(), "8e0f3ba67ec33a6eb9227792b2f55bf2609ccb2ea23ed4251b188d02aefae96a");
 /// ```
+#[must_use]
 pub fn hmac(key: Hash, hash: Hash) -> Hash {
     let mut keyed = Hash::default();
     // It has no error.

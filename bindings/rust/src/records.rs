@@ -25,6 +25,7 @@ pub struct Records {
 
 impl File {
     /// The flags of the optional parts that the file has.
+    #[must_use]
     pub fn flags(&self) -> u32 {
         let flag = |has: bool, flag: u32| if has { flag } else { 0 };
         flag(self.verification.is_some(), WITH_VERIFICATION)
@@ -35,6 +36,7 @@ impl File {
 
 impl ListedFile {
     /// A file with this hash, and with the flags of the optional parts that it has.
+    #[must_use]
     pub fn new(hash: Hash, file: File) -> ListedFile {
         ListedFile { hash, flags: file.flags(), file }
     }

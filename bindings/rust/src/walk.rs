@@ -71,6 +71,7 @@ fn step<R: Default, I: Clone + Default>(
 
 /// A walk through the file section of a shard: see [`files`].
 #[derive(Clone, Debug)]
+#[must_use = "it reads nothing unless it is asked for files"]
 pub struct FileIter<'a> {
     shard: &'a [u8],
     // The row of the next record, or `None` at the end.
@@ -152,6 +153,7 @@ pub fn file_at(shard: &[u8], row: u32) -> Result<Option<(ListedFile, u64)>> {
 
 /// A walk through the xorb section of a shard: see [`xorbs`].
 #[derive(Clone, Debug)]
+#[must_use = "it reads nothing unless it is asked for xorbs"]
 pub struct XorbIter<'a> {
     shard: &'a [u8],
     row: Option<u64>,

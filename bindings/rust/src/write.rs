@@ -32,6 +32,7 @@ impl Export {
     /// let without_files = Export { files: false, ..Export::new([7, 1, 0, 0].into(), 1_700_000_000, 3600) };
     /// assert!(without_files.chunk_table && !without_files.files);
     /// ```
+    #[must_use]
     pub fn new(key: Hash, now: u64, valid_seconds: u64) -> Export {
         Export { key, now, valid_seconds, files: true, aux_rows: true, xorb_table: true, chunk_table: true }
     }
