@@ -162,11 +162,11 @@ fn order_of_refusals() {
     assert_eq!(xet_shards::find_malformed(&[&file, &malformed]), Ok(Some(found)));
     assert_eq!(xet_shards::find_malformed(&[&file, &other, &keyed]), Ok(None));
     // The first shard decides that cannot be read or is not well-formed.
-    let error = xet_shards::merge_agreeing(&[&file, &malformed[..], cut]).expect_err("one is not well-formed");
+    let error = xet_shards::merge_agreeing(&[&file[..], &malformed, cut]).expect_err("one is not well-formed");
     assert_eq!(error, Error::Malformed(found));
     let text = format!("the shard at 1 has a record that no shard may have, of file {}", hash("100"));
     assert_eq!(error.to_string(), text);
-    assert_eq!(xet_shards::merge_agreeing(&[&file, cut, &malformed[..]]), Err(Error::Io));
+    assert_eq!(xet_shards::merge_agreeing(&[&file[..], cut, &malformed]), Err(Error::Io));
     // Then disagreements, then keys.
     let error = xet_shards::merge_agreeing(&[&other, &keyed]).expect_err("they do not agree");
     assert!(matches!(error, Error::Disagree(Disagreement { first: 0, second: 1, .. })));
