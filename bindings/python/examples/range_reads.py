@@ -3,7 +3,7 @@
 
 A lookup takes three requests at most: for both ends of the shard, which say where the tables are, for a table, and for
 the records to which its rows lead. Ends and tables are kept, so one more lookup takes one request. The server has to
-know ranges, and several in one request, as nginx does; one that does not sends the whole shard.
+know ranges, and several in one request, as nginx does; one that does not sends the whole shard, once.
 """
 from __future__ import annotations
 
@@ -53,10 +53,16 @@ class RemoteFile:
         self._connection = kind(parts.netloc, timeout=60)
         self._path = (parts.path or "/") + (f"?{parts.query}" if parts.query else "")
         self._headers: Dict[str, str] = {}
+        # The one part that a server sends that knows no ranges.
+        self._whole: List[Part] = []
         self.size = self.requests = self.bytes = 0
 
     def read(self, *ranges: Range) -> List[bytes]:
         """Returns the bytes in some ranges, by one request. Of a range that passes the end they are fewer."""
+        parts = self._whole or self._parts(ranges)
+        return [cut(parts, *it) for it in ranges]
+
+    def _parts(self, ranges: Sequence[Range]) -> List[Part]:
         asked = ",".join(str(start) if start < 0 else f"{start}-{stop - 1}" for start, stop in ranges)
         response = self._response(asked)
         # What is left of an answer would be in the way of the next.
@@ -68,7 +74,9 @@ class RemoteFile:
         if etag and not etag.startswith("W/"):
             # The parts of a shard are to be of one: if it is another by then, the next request fails.
             self._headers["If-Match"] = etag
-        return [cut(parts, *it) for it in ranges]
+        if response.status == 200:
+            self._whole = parts
+        return parts
 
     def _response(self, ranges: str) -> HTTPResponse:
         try:

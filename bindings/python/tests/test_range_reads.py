@@ -205,7 +205,8 @@ def test_a_server_without_ranges():
     with serving(a=SHARD) as server:
         remote = range_reads.RemoteShard(url(server, "whole", "a"))
         assert remote.find_file(hash_text("1001")) == xet_shards.find_file(SHARD, hash_text("1001"))
-        assert (remote.file.requests, remote.file.bytes) == (3, 3 * len(SHARD))
+        assert remote.query_chunks([hash_text("1100")]).count == 1
+        assert (remote.file.requests, remote.file.bytes, server.requests) == (1, len(SHARD), 1)
 
 
 def test_failures():

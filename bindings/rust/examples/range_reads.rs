@@ -3,7 +3,7 @@
 //!
 //! A lookup takes three requests at most: for both ends of the shard, which say where the tables are, for a table, and
 //! for the records to which its rows lead. Ends and tables are kept, so one more lookup takes one request. The server
-//! has to know ranges, and several in one request, as nginx does; one that does not sends the whole shard.
+//! has to know ranges, and several in one request, as nginx does; one that does not sends the whole shard, once.
 
 use std::collections::{BTreeMap, BTreeSet};
 use std::env;
@@ -13,6 +13,7 @@ use std::iter::zip;
 use std::net::TcpStream;
 use std::ops::Range;
 use std::process::ExitCode;
+use std::slice::from_ref;
 use xet_shards::{file_in, find_places, find_rows, hmac, load, query_at, ChunkPlace, File, Hash, Info, Run, NO_KEY};
 
 pub type Result<T> = std::result::Result<T, Box<dyn Error>>;
@@ -56,6 +57,8 @@ pub struct RemoteFile {
     host: String,
     path: String,
     etag: Option<String>,
+    /// The one part that a server sends that knows no ranges.
+    whole: Option<Part>,
     /// How many bytes the file has, as the last answer says.
     pub size: u64,
     /// How many requests there were.
@@ -69,20 +72,26 @@ impl RemoteFile {
         let rest = url.strip_prefix("http://").ok_or("the URL is not of http")?;
         let (host, path) = rest.split_once('/').unwrap_or((rest, ""));
         let path = format!("/{path}");
-        Ok(RemoteFile { host: host.into(), path, etag: None, size: 0, requests: 0, bytes: 0 })
+        Ok(RemoteFile { host: host.into(), path, etag: None, whole: None, size: 0, requests: 0, bytes: 0 })
     }
 
     /// The bytes that are asked for, by one request. Of a range that passes the end they are fewer.
     fn read(&mut self, wanted: &[Wanted]) -> Result<Vec<Vec<u8>>> {
+        if let Some(whole) = &self.whole {
+            return cut(from_ref(whole), wanted);
+        }
         let answer = self.ask(wanted)?;
-        let parts = answer.parts()?;
+        let mut parts = answer.parts()?;
         self.requests += 1;
         self.bytes += parts.iter().map(|it| it.content.len()).sum::<usize>();
         // The parts of a shard are to be of one: if it is another by then, the next request fails.
         self.etag = answer.header("etag").filter(|it| !it.starts_with("W/")).map(String::from);
         self.size = parts.first().map_or(0, |it| it.size);
-        let cut = |it| parts.iter().find_map(|part| part.cut(it)).map(<[u8]>::to_vec);
-        Ok(wanted.iter().map(cut).collect::<Option<_>>().ok_or("the server leaves out a range")?)
+        let found = cut(&parts, wanted)?;
+        if answer.status.starts_with("200") {
+            self.whole = parts.pop();
+        }
+        Ok(found)
     }
 
     fn ask(&self, wanted: &[Wanted]) -> Result<Answer> {
@@ -100,6 +109,12 @@ impl RemoteFile {
         write!(stream, "Range: bytes={ranges}\r\n\r\n")?;
         Answer::read(BufReader::new(stream))
     }
+}
+
+/// What is asked, of parts that have all of it.
+fn cut(parts: &[Part], wanted: &[Wanted]) -> Result<Vec<Vec<u8>>> {
+    let cut = |it| parts.iter().find_map(|part| part.cut(it)).map(<[u8]>::to_vec);
+    Ok(wanted.iter().map(cut).collect::<Option<_>>().ok_or("the server leaves out a range")?)
 }
 
 /// The answer to a request.

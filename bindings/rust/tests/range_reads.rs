@@ -171,7 +171,8 @@ fn other_shards_and_servers() {
 
     let mut remote = RemoteShard::open(&serve(shard(), Way::Whole)).expect("a shard");
     assert!(remote.find_file(hash("1000")).expect("an answer").is_some());
-    assert_eq!((remote.file.requests, remote.file.bytes), (3, 3 * shard().len()));
+    assert!(remote.query_chunks(&hashes(&[1100])).expect("an answer").is_some());
+    assert_eq!((remote.file.requests, remote.file.bytes), (1, shard().len()));
 
     let refused = |bytes, way| RemoteShard::open(&serve(bytes, way)).map(drop).expect_err("an error").to_string();
     assert_eq!(refused(shard(), Way::Fewer), "the server leaves out a range");
