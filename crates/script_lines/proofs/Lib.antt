@@ -1,3 +1,5 @@
+pub mod Commands
+pub mod Flags
 pub mod HexBytes
 pub mod SpelledHashes
 pub mod Splitting

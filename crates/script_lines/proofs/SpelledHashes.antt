@@ -1,9 +1,10 @@
 -- Words that spell hashes, place by place, and the rows of these hashes.
-use Rattle.std.proofs.Common.{◌≡◌, ℕ, zero, suc, ◌<◌, List, [], ◌∷◌, ◌++◌, length, get_or, map, refl, ap, ◌∙◌, sym, subst, arith, eqb}
-use Rattle.std.proofs.lemmas.List.{map-append}
+use Rattle.std.proofs.Common.{◌≡◌, ℕ, zero, suc, ◌<◌, List, [], ◌∷◌, ◌++◌, length, get_or, take, map, ◌+◌, Bor, refl, ap, ◌∙◌, sym, subst, arith, eqb}
+use Rattle.std.proofs.lemmas.List.{map-append, take_more}
 use Rattle.std.specs.List.{AllZip, slice_split}
 use Rattle.xet_core_structures.specs.declared.file_structs.HashRow.{HashRow}
 use Rattle.xet_core_structures.specs.declared.merklehash.DataHash.{DataHash}
+use Rattle.script_lines.specs.Commands.{texts}
 use Rattle.script_lines.specs.Words.{SpellsHash, ListsHashes, ListsVerification, parts_of, verification_of}
 
 -- the rows so far are those of the words so far
@@ -37,6 +38,21 @@ row_added words rows word hash h spelled = (
 
 pub listed : (list : List ℕ) (words : List (List ℕ)) (rows : List HashRow) → parts_of list ≡ words → RowsOf words rows → ListsVerification list rows
 listed list words rows parts h = (h.0, subst (λ ws. AllZip SpellsHash ws h.0) (sym parts) h.1, h.2)
+
+-- words that each spell a hash, as far as they were read
+pub spelled_more : (words : List (Bor (List ℕ))) (i : ℕ) (d : Bor (List ℕ)) (hashes : List DataHash) (hash : DataHash) → i < length words → AllZip SpellsHash (texts (take i words)) hashes
+    → SpellsHash (get_or words i d).now hash → AllZip SpellsHash (texts (take (i + 1) words)) (hashes ++ hash ∷ [])
+spelled_more words i d hashes hash in' h spelled =
+    subst (λ ws. AllZip SpellsHash ws (hashes ++ hash ∷ [])) (sym (ap texts (take_more words i d in') ∙ map-append (λ w. w.now) (take i words) (get_or words i d ∷ [])))
+    (all_zip_push SpellsHash (texts (take i words)) hashes (get_or words i d).now hash h spelled)
+
+-- and a word that spells none
+pub unspelled : (words : List (Bor (List ℕ))) (i : ℕ) (d : Bor (List ℕ)) → i < length words → ((hash : DataHash) → ¬ (SpellsHash (get_or words i d).now hash))
+    → (hashes : List DataHash) → ¬ (AllZip SpellsHash (texts words) hashes)
+unspelled [] i d in' none hashes h = absurd (omega arith)
+unspelled (w ∷ words) i d in' none [] h = absurd h
+unspelled (w ∷ words) zero d in' none (hash ∷ hashes) h = none hash h.0
+unspelled (w ∷ words) (suc i) d in' none (hash ∷ hashes) h = unspelled words i d (omega arith) none hashes h.1
 
 -- a part that spells no hash
 pub unlisted : (list word : List ℕ) (words : List (List ℕ)) (i : ℕ) → parts_of list ≡ words → i < length words → word ≡ get_or words i word → ((hash : DataHash) → ¬ (SpellsHash word hash))

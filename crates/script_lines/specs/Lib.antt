@@ -1,3 +1,4 @@
 pub mod Printed
 pub mod Words
 pub mod Trees
+pub mod Commands

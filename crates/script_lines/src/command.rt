@@ -1,13 +1,19 @@
 //! The commands of scripts, parsed from lines or their words.
 
-ghost use Rattle.std.specs.Prelude.{IfOk, IsOkAnd, IsNone, IsErrOf, IsUtf8};
-ghost use Rattle.script_lines.specs.Words.{IsSkipped};
+ghost use Rattle.std.specs.Prelude.{◌≡◌, ◌∷◌, Bool, List, ℕ, codes, if◌then◌else◌, ◌⊎◌, IfOk, IfErr, IfSome, OnErr, IsOkAnd, IsNone, IsErrOf, IsUtf8};
+ghost use Rattle.shard_bytes.specs.declared.export.ExportParts.{ExportParts as AnyParts};
+ghost use Rattle.shard_bytes.specs.declared.minimal.KeptXorbs.{KeptXorbs as AnyKept};
+ghost use Rattle.xet_core_structures.specs.declared.file_structs.KeptParts.{KeptParts as AnyKeptParts};
+ghost use Rattle.script_lines.specs.Commands.{texts, write_verb, combine_verb, verb_of, parts_word, kept_word, SpellKept, AreArguments, AreCommand, BeginWithVerb, TakesRecord};
+ghost use Rattle.script_lines.specs.Words.{AreWordsOf, IsSkipped};
+ghost use Rattle.script_lines.specs.declared.command.Command.{Command as AnyCommand};
 
 use crate::files_and_xorbs::{parse_file, parse_xorb};
 use crate::lines::{is_skipped, split_words};
 use crate::ranges::{ByteRange, parse_range};
 use crate::records::{Form, parse_hashes};
 use crate::tree::{NameTree, parse_tree};
+use crate::verb::{Verb, parse_verb};
 use crate::words::{
     ParseError, parse_flags, parse_hash, parse_key, parse_name, parse_optional_u64, parse_u64,
     parse_u64_or_dash,
@@ -140,35 +146,64 @@ pub fn parse_words<'a>(
     alloc: Global,
     words: &[&'a str],
     form: Form,
-) -> Result<Option<Command<'a>>, ParseError> {
-    let Some((command, arguments)) = words.split_first() else {
+) -> Result<Option<Command<'a>>, ParseError>
+    ensures found { IfOk result (λ found. IfSome found (AreCommand (texts words.now))) }
+    ensures none { IfOk result (λ found. IsNone found → ¬ BeginWithVerb (texts words.now)) }
+    ensures verb { OnErr result (BeginWithVerb (texts words.now)) }
+    ensures every { (command : AnyCommand) → AreCommand (texts words.now) command
+        → IfErr result (λ e. TakesRecord (verb_of command) ⊎ (e ≡ ParseError.OutOfMemory)) }
+{
+    let Some((word, arguments)) = words.split_first() else {
         return Ok(None);
     };
-    let command = match *command {
-        "shard" => parse_shard(arguments),
-        "xorb" => parse_xorb_line(alloc, arguments, form),
-        "file" => parse_file_line(alloc, arguments, form),
-        "write" => parse_write(Version::V3, arguments),
-        "write2" => parse_write(Version::V2, arguments),
-        "union" => parse_combine(Operation::Union, arguments),
-        "diff" => parse_combine(Operation::Difference, arguments),
-        "merge" => parse_merge(alloc, arguments),
-        "export" => parse_export(true, arguments),
-        "drop" => parse_export(false, arguments),
-        "minimal" => parse_minimal(true, arguments),
-        "dropmin" => parse_minimal(false, arguments),
-        "subset" => parse_subset(alloc, arguments),
-        "eligible" => parse_eligible(arguments),
-        "find" => parse_find(arguments),
-        "query" => parse_query(alloc, arguments),
-        "size" => parse_size(arguments),
-        "hex" => parse_hex(arguments),
-        _ => return Ok(None),
-    };
-    Ok(Some(command?))
+    match parse_verb(word) {
+        Some(verb) => Ok(Some(parse_arguments(alloc, verb, arguments, form)?)),
+        None => Ok(None),
+    }
 }
 
-fn parse_shard<'a>(arguments: &[&'a str]) -> Result<Command<'a>, ParseError> {
+// The command of a verb and the words behind it.
+fn parse_arguments<'a>(
+    alloc: Global,
+    verb: Verb,
+    arguments: &[&'a str],
+    form: Form,
+) -> Result<Command<'a>, ParseError>
+    ensures found { IfOk result
+        (λ command. (verb_of command ≡ verb) × AreArguments (texts arguments.now) command) }
+    ensures every { (command : AnyCommand) → verb_of command ≡ verb
+        → AreArguments (texts arguments.now) command
+        → IfErr result (λ e. TakesRecord verb ⊎ (e ≡ ParseError.OutOfMemory)) }
+{
+    match verb {
+        Verb::Shard => parse_shard(arguments),
+        Verb::Xorb => parse_xorb_line(alloc, arguments, form),
+        Verb::File => parse_file_line(alloc, arguments, form),
+        Verb::Write => parse_write(Version::V3, arguments),
+        Verb::Write2 => parse_write(Version::V2, arguments),
+        Verb::Union => parse_combine(Operation::Union, arguments),
+        Verb::Diff => parse_combine(Operation::Difference, arguments),
+        Verb::Merge => parse_merge(alloc, arguments),
+        Verb::Export => parse_export(true, arguments),
+        Verb::Drop => parse_export(false, arguments),
+        Verb::Minimal => parse_minimal(true, arguments),
+        Verb::DropMin => parse_minimal(false, arguments),
+        Verb::Subset => parse_subset(alloc, arguments),
+        Verb::Eligible => parse_eligible(arguments),
+        Verb::Find => parse_find(arguments),
+        Verb::Query => parse_query(alloc, arguments),
+        Verb::Size => parse_size(arguments),
+        Verb::Hex => parse_hex(arguments),
+    }
+}
+
+fn parse_shard<'a>(arguments: &[&'a str]) -> Result<Command<'a>, ParseError>
+    ensures found { IfOk result
+        (λ command. (verb_of command ≡ Verb.Shard) × AreArguments (texts arguments.now) command) }
+    ensures every { (command : AnyCommand) → verb_of command ≡ Verb.Shard
+        → AreArguments (texts arguments.now) command
+        → IfErr result (λ e. e ≡ ParseError.OutOfMemory) }
+{
     let [shard] = arguments else {
         return Err(ParseError::Unreadable);
     };
@@ -180,7 +215,10 @@ fn parse_xorb_line<'a>(
     alloc: Global,
     arguments: &[&'a str],
     form: Form,
-) -> Result<Command<'a>, ParseError> {
+) -> Result<Command<'a>, ParseError>
+    ensures { IfOk result
+        (λ command. (verb_of command ≡ Verb.Xorb) × AreArguments (texts arguments.now) command) }
+{
     let [shard, record @ ..] = arguments else {
         return Err(ParseError::Unreadable);
     };
@@ -193,7 +231,10 @@ fn parse_file_line<'a>(
     alloc: Global,
     arguments: &[&'a str],
     form: Form,
-) -> Result<Command<'a>, ParseError> {
+) -> Result<Command<'a>, ParseError>
+    ensures { IfOk result
+        (λ command. (verb_of command ≡ Verb.File) × AreArguments (texts arguments.now) command) }
+{
     let [shard, record @ ..] = arguments else {
         return Err(ParseError::Unreadable);
     };
@@ -202,7 +243,13 @@ fn parse_file_line<'a>(
     Ok(Command::File { shard, file })
 }
 
-fn parse_write<'a>(version: Version, arguments: &[&'a str]) -> Result<Command<'a>, ParseError> {
+fn parse_write<'a>(version: Version, arguments: &[&'a str]) -> Result<Command<'a>, ParseError>
+    ensures found { IfOk result
+        (λ command. (verb_of command ≡ (write_verb version)) × AreArguments (texts arguments.now) command) }
+    ensures every { (command : AnyCommand) → verb_of command ≡ (write_verb version)
+        → AreArguments (texts arguments.now) command
+        → IfErr result (λ e. e ≡ ParseError.OutOfMemory) }
+{
     let [shard, buffer, expiry @ ..] = arguments else {
         return Err(ParseError::Unreadable);
     };
@@ -214,10 +261,13 @@ fn parse_write<'a>(version: Version, arguments: &[&'a str]) -> Result<Command<'a
     })
 }
 
-fn parse_combine<'a>(
-    operation: Operation,
-    arguments: &[&'a str],
-) -> Result<Command<'a>, ParseError> {
+fn parse_combine<'a>(operation: Operation, arguments: &[&'a str]) -> Result<Command<'a>, ParseError>
+    ensures found { IfOk result
+        (λ command. (verb_of command ≡ (combine_verb operation)) × AreArguments (texts arguments.now) command) }
+    ensures every { (command : AnyCommand) → verb_of command ≡ (combine_verb operation)
+        → AreArguments (texts arguments.now) command
+        → IfErr result (λ e. e ≡ ParseError.OutOfMemory) }
+{
     let [first, second, buffer] = arguments else {
         return Err(ParseError::Unreadable);
     };
@@ -229,7 +279,13 @@ fn parse_combine<'a>(
     })
 }
 
-fn parse_merge<'a>(alloc: Global, arguments: &[&'a str]) -> Result<Command<'a>, ParseError> {
+fn parse_merge<'a>(alloc: Global, arguments: &[&'a str]) -> Result<Command<'a>, ParseError>
+    ensures found { IfOk result
+        (λ command. (verb_of command ≡ Verb.Merge) × AreArguments (texts arguments.now) command) }
+    ensures every { (command : AnyCommand) → verb_of command ≡ Verb.Merge
+        → AreArguments (texts arguments.now) command
+        → IfErr result (λ e. e ≡ ParseError.OutOfMemory) }
+{
     let [buffer, rest @ ..] = arguments else {
         return Err(ParseError::Unreadable);
     };
@@ -239,7 +295,13 @@ fn parse_merge<'a>(alloc: Global, arguments: &[&'a str]) -> Result<Command<'a>, 
 }
 
 /// The command of the words behind `export`, or without auxiliary rows behind `drop`.
-pub fn parse_export<'a>(aux_ext: bool, arguments: &[&'a str]) -> Result<Command<'a>, ParseError> {
+pub fn parse_export<'a>(aux_ext: bool, arguments: &[&'a str]) -> Result<Command<'a>, ParseError>
+    ensures found { IfOk result
+        (λ command. (verb_of command ≡ (if aux_ext then Verb.Export else Verb.Drop)) × AreArguments (texts arguments.now) command) }
+    ensures every { (command : AnyCommand) → verb_of command ≡ (if aux_ext then Verb.Export else Verb.Drop)
+        → AreArguments (texts arguments.now) command
+        → IfErr result (λ e. e ≡ ParseError.OutOfMemory) }
+{
     let [from, buffer, key, now, valid, parts] = arguments else {
         return Err(ParseError::Unreadable);
     };
@@ -258,7 +320,12 @@ pub fn parse_export<'a>(aux_ext: bool, arguments: &[&'a str]) -> Result<Command<
     })
 }
 
-fn parse_parts(aux_ext: bool, word: &str) -> Result<ExportParts, ParseError> {
+fn parse_parts(aux_ext: bool, word: &str) -> Result<ExportParts, ParseError>
+    ensures found { IfOk result
+        (λ parts. (parts.aux_ext ≡ aux_ext) × (word.now ≡ parts_word parts)) }
+    ensures none { OnErr result ((parts : AnyParts) → ¬ (word.now ≡ parts_word parts)) }
+    ensures causes { IfErr result (λ e. e ≡ ParseError.Unreadable) }
+{
     let [files, xorb_table, chunk_table] = parse_flags(word, b"fxc")?;
     Ok(ExportParts {
         files,
@@ -268,23 +335,44 @@ fn parse_parts(aux_ext: bool, word: &str) -> Result<ExportParts, ParseError> {
     })
 }
 
-fn parse_minimal<'a>(aux_ext: bool, arguments: &[&'a str]) -> Result<Command<'a>, ParseError> {
+fn parse_minimal<'a>(aux_ext: bool, arguments: &[&'a str]) -> Result<Command<'a>, ParseError>
+    ensures found { IfOk result
+        (λ command. (verb_of command ≡ (if aux_ext then Verb.Minimal else Verb.DropMin)) × AreArguments (texts arguments.now) command) }
+    ensures every { (command : AnyCommand) → verb_of command ≡ (if aux_ext then Verb.Minimal else Verb.DropMin)
+        → AreArguments (texts arguments.now) command
+        → IfErr result (λ e. e ≡ ParseError.OutOfMemory) }
+{
     let [from, buffer, now, option] = arguments else {
         return Err(ParseError::Unreadable);
     };
-    let [verification] = parse_flags(option, b"v")?;
     Ok(Command::Minimal {
         from: parse_name(from)?,
         buffer: parse_name(buffer)?,
         now: parse_u64(now)?,
-        kept: KeptParts {
-            verification,
-            aux_ext,
-        },
+        kept: parse_kept_parts(aux_ext, option)?,
     })
 }
 
-fn parse_subset<'a>(alloc: Global, arguments: &[&'a str]) -> Result<Command<'a>, ParseError> {
+fn parse_kept_parts(aux_ext: bool, word: &str) -> Result<KeptParts, ParseError>
+    ensures found { IfOk result
+        (λ kept. (kept.aux_ext ≡ aux_ext) × (word.now ≡ kept_word kept)) }
+    ensures none { OnErr result ((kept : AnyKeptParts) → ¬ (word.now ≡ kept_word kept)) }
+    ensures causes { IfErr result (λ e. e ≡ ParseError.Unreadable) }
+{
+    let [verification] = parse_flags(word, b"v")?;
+    Ok(KeptParts {
+        verification,
+        aux_ext,
+    })
+}
+
+fn parse_subset<'a>(alloc: Global, arguments: &[&'a str]) -> Result<Command<'a>, ParseError>
+    ensures found { IfOk result
+        (λ command. (verb_of command ≡ Verb.Subset) × AreArguments (texts arguments.now) command) }
+    ensures every { (command : AnyCommand) → verb_of command ≡ Verb.Subset
+        → AreArguments (texts arguments.now) command
+        → IfErr result (λ e. e ≡ ParseError.OutOfMemory) }
+{
     let [from, buffer, now, expiry, list @ ..] = arguments else {
         return Err(ParseError::Unreadable);
     };
@@ -303,7 +391,11 @@ fn parse_subset<'a>(alloc: Global, arguments: &[&'a str]) -> Result<Command<'a>,
 
 /// The xorbs of a list: all if it is `*`, else those with its hashes. `Unreadable` if it is empty or
 /// has another word that is not a hash.
-pub fn parse_kept(alloc: Global, list: &[&str]) -> Result<KeptXorbs, ParseError> {
+pub fn parse_kept(alloc: Global, list: &[&str]) -> Result<KeptXorbs, ParseError>
+    ensures found { IfOk result (SpellKept (texts list.now)) }
+    ensures every { (kept : AnyKept) → SpellKept (texts list.now) kept
+        → IfErr result (λ e. e ≡ ParseError.OutOfMemory) }
+{
     match list {
         [] => Err(ParseError::Unreadable),
         ["*"] => Ok(KeptXorbs::All),
@@ -311,7 +403,13 @@ pub fn parse_kept(alloc: Global, list: &[&str]) -> Result<KeptXorbs, ParseError>
     }
 }
 
-fn parse_eligible<'a>(arguments: &[&'a str]) -> Result<Command<'a>, ParseError> {
+fn parse_eligible<'a>(arguments: &[&'a str]) -> Result<Command<'a>, ParseError>
+    ensures found { IfOk result
+        (λ command. (verb_of command ≡ Verb.Eligible) × AreArguments (texts arguments.now) command) }
+    ensures every { (command : AnyCommand) → verb_of command ≡ Verb.Eligible
+        → AreArguments (texts arguments.now) command
+        → IfErr result (λ e. e ≡ ParseError.OutOfMemory) }
+{
     let [buffer] = arguments else {
         return Err(ParseError::Unreadable);
     };
@@ -319,7 +417,13 @@ fn parse_eligible<'a>(arguments: &[&'a str]) -> Result<Command<'a>, ParseError> 
     Ok(Command::Eligible { buffer })
 }
 
-fn parse_find<'a>(arguments: &[&'a str]) -> Result<Command<'a>, ParseError> {
+fn parse_find<'a>(arguments: &[&'a str]) -> Result<Command<'a>, ParseError>
+    ensures found { IfOk result
+        (λ command. (verb_of command ≡ Verb.Find) × AreArguments (texts arguments.now) command) }
+    ensures every { (command : AnyCommand) → verb_of command ≡ Verb.Find
+        → AreArguments (texts arguments.now) command
+        → IfErr result (λ e. e ≡ ParseError.OutOfMemory) }
+{
     let [buffer, hash] = arguments else {
         return Err(ParseError::Unreadable);
     };
@@ -328,7 +432,13 @@ fn parse_find<'a>(arguments: &[&'a str]) -> Result<Command<'a>, ParseError> {
     Ok(Command::Find { buffer, hash })
 }
 
-fn parse_query<'a>(alloc: Global, arguments: &[&'a str]) -> Result<Command<'a>, ParseError> {
+fn parse_query<'a>(alloc: Global, arguments: &[&'a str]) -> Result<Command<'a>, ParseError>
+    ensures found { IfOk result
+        (λ command. (verb_of command ≡ Verb.Query) × AreArguments (texts arguments.now) command) }
+    ensures every { (command : AnyCommand) → verb_of command ≡ Verb.Query
+        → AreArguments (texts arguments.now) command
+        → IfErr result (λ e. e ≡ ParseError.OutOfMemory) }
+{
     let [buffer, rest @ ..] = arguments else {
         return Err(ParseError::Unreadable);
     };
@@ -337,7 +447,13 @@ fn parse_query<'a>(alloc: Global, arguments: &[&'a str]) -> Result<Command<'a>, 
     Ok(Command::Query { buffer, hashes })
 }
 
-fn parse_size<'a>(arguments: &[&'a str]) -> Result<Command<'a>, ParseError> {
+fn parse_size<'a>(arguments: &[&'a str]) -> Result<Command<'a>, ParseError>
+    ensures found { IfOk result
+        (λ command. (verb_of command ≡ Verb.Size) × AreArguments (texts arguments.now) command) }
+    ensures every { (command : AnyCommand) → verb_of command ≡ Verb.Size
+        → AreArguments (texts arguments.now) command
+        → IfErr result (λ e. e ≡ ParseError.OutOfMemory) }
+{
     let [buffer] = arguments else {
         return Err(ParseError::Unreadable);
     };
@@ -345,7 +461,13 @@ fn parse_size<'a>(arguments: &[&'a str]) -> Result<Command<'a>, ParseError> {
     Ok(Command::Size { buffer })
 }
 
-fn parse_hex<'a>(arguments: &[&'a str]) -> Result<Command<'a>, ParseError> {
+fn parse_hex<'a>(arguments: &[&'a str]) -> Result<Command<'a>, ParseError>
+    ensures found { IfOk result
+        (λ command. (verb_of command ≡ Verb.Hex) × AreArguments (texts arguments.now) command) }
+    ensures every { (command : AnyCommand) → verb_of command ≡ Verb.Hex
+        → AreArguments (texts arguments.now) command
+        → IfErr result (λ e. e ≡ ParseError.OutOfMemory) }
+{
     let [buffer, range @ ..] = arguments else {
         return Err(ParseError::Unreadable);
     };

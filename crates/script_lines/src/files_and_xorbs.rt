@@ -1,5 +1,8 @@
 //! The records of files and xorbs that the words of a line spell.
 
+ghost use Rattle.std.specs.Prelude.{IfOk};
+ghost use Rattle.script_lines.specs.Commands.{texts, BeginWithHash};
+
 use crate::records::{
     Form, parse_aux, parse_chunks, parse_full_verification, parse_metadata, parse_segments,
     parse_verification,
@@ -20,7 +23,9 @@ use xet_core_structures::xorb_structs::{
 ///
 /// In full, other flags, another count and a reserved word may stand behind the hash, as `flags=N`,
 /// `count=N` and `unused=N`, in this order, and rows and segments are read in full.
-pub fn parse_file(alloc: Global, words: &[&str], form: Form) -> Result<MDBFileInfo, ParseError> {
+pub fn parse_file(alloc: Global, words: &[&str], form: Form) -> Result<MDBFileInfo, ParseError>
+    ensures { IfOk result (λ file. BeginWithHash (texts words.now) file.metadata.file_hash) }
+{
     let Some((hash, rest)) = words.split_first() else {
         return Err(ParseError::Unreadable);
     };
@@ -77,7 +82,9 @@ fn parse_rows(
 ///
 /// In full, others of these may stand behind the hash, as `flags=N`, `count=N`, `bytes=N` and
 /// `disk=N`, in this order, and chunks are read in full.
-pub fn parse_xorb(alloc: Global, words: &[&str], form: Form) -> Result<MDBXorbInfo, ParseError> {
+pub fn parse_xorb(alloc: Global, words: &[&str], form: Form) -> Result<MDBXorbInfo, ParseError>
+    ensures { IfOk result (λ xorb. BeginWithHash (texts words.now) xorb.metadata.xorb_hash) }
+{
     let Some((hash, rest)) = words.split_first() else {
         return Err(ParseError::Unreadable);
     };

@@ -12,4 +12,5 @@ pub mod records;
 pub mod refusal;
 pub mod show;
 pub mod tree;
+pub mod verb;
 pub mod words;

@@ -1,7 +1,9 @@
 //! Ranges of bytes, and bytes as hexadecimal digits.
 
-ghost use Rattle.std.specs.Prelude.{◌≡◌, ◌≤◌, ◌+◌, ◌↔◌, length, slice_range, string_bytes, IsOk, IfOk, IfErr};
+ghost use Rattle.std.specs.Prelude.{Option, OnErr, ◌≡◌, ◌≤◌, ◌+◌, ◌↔◌, length, slice_range, string_bytes, IsOk, IfOk, IfErr};
+ghost use Rattle.script_lines.specs.Commands.{texts, SpellRange};
 ghost use Rattle.script_lines.specs.Printed.{hex_text};
+ghost use Rattle.script_lines.specs.declared.ranges.ByteRange.{ByteRange as AnyRange};
 
 use crate::words::{ParseError, parse_u64};
 use std::alloc::{AllocError, Global};
@@ -15,7 +17,12 @@ pub struct ByteRange {
 
 /// The range of words `FROM LEN`, or none if they are left out. `Unreadable` if there are other
 /// words.
-pub fn parse_range(words: &[&str]) -> Result<Option<ByteRange>, ParseError> {
+pub fn parse_range(words: &[&str]) -> Result<Option<ByteRange>, ParseError>
+    ensures found { IfOk result (SpellRange (texts words.now)) }
+    ensures none { OnErr result
+        ((range : Option AnyRange) → ¬ (SpellRange (texts words.now) range)) }
+    ensures causes { IfErr result (λ e. e ≡ ParseError.Unreadable) }
+{
     match words {
         [] => Ok(None),
         [from, len] => {

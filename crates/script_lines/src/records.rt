@@ -2,7 +2,9 @@
 
 ghost use Rattle.std.specs.Prelude.{◌≡◌, List, length, IfOk, IfErr, IsErrOf};
 ghost use Rattle.xet_core_structures.specs.declared.merklehash.DataHash.{DataHash};
-ghost use Rattle.script_lines.specs.Words.{ListsHashes, ListsVerification};
+ghost use Rattle.std.specs.List.{AllZip};
+ghost use Rattle.script_lines.specs.Commands.{texts};
+ghost use Rattle.script_lines.specs.Words.{ListsHashes, ListsVerification, SpellsHash};
 
 use crate::words::{ParseError, parse_hash, parse_u32, parse_u64, split_at_colon};
 use std::alloc::Global;
@@ -23,6 +25,9 @@ pub enum Form {
 
 /// The hashes of words, in order. `Unreadable` if a word is not a hash.
 pub fn parse_hashes(alloc: Global, words: &[&str]) -> Result<Vec<MerkleHash>, ParseError>
+    ensures found { IfOk result (λ hashes. AllZip SpellsHash (texts words.now) hashes.items) }
+    ensures every { (hashes : List DataHash) → AllZip SpellsHash (texts words.now) hashes
+        → IfErr result (λ e. e ≡ ParseError.OutOfMemory) }
     ensures count { IfOk result (λ hashes. length hashes.items ≡ length words.now) }
 {
     let mut hashes = Vec::new(alloc);

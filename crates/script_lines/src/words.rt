@@ -1,12 +1,13 @@
 //! The words of a line, and the names, numbers and hashes that they spell.
 
-ghost use Rattle.std.specs.Prelude.{◌≡◌, ◌↔◌, ◌∷◌, ◌++◌, drop, IsTrue, IsOk, IfOk, IsOkAnd, OnErr, IfErr, MatchOption};
+ghost use Rattle.std.specs.Prelude.{◌≡◌, ◌≢◌, ℕ, Bool, Option, List, length, ◌↔◌, ◌∷◌, ◌++◌, drop, IsTrue, IsOk, IfOk, IsOkAnd, OnErr, IfErr, MatchOption};
 ghost use Rattle.std.specs.Result.{OkIff};
 ghost use Rattle.std.specs.Str.Parse.{digits_value};
 ghost use Rattle.xet_core_structures.specs.Hash.{words_of};
 ghost use Rattle.xet_core_structures.specs.Hex.{IsHexText, Spells};
 ghost use Rattle.script_lines.specs.declared.words.ParseError.TheVariants.{OutOfMemory};
 ghost use Rattle.xet_core_structures.specs.declared.merklehash.DataHash.{DataHash};
+ghost use Rattle.script_lines.specs.Commands.{texts, SpellsKey, SpellNumber, SpellsNumberOrDash, flag_byte, flags_word};
 ghost use Rattle.script_lines.specs.Words.{IsName, IsNameByte, IsNumber, SpellsHash, small_words};
 
 use std::alloc::{AllocError, AllocFailed};
@@ -105,7 +106,9 @@ pub fn parse_hash(word: &str) -> Result<MerkleHash, ParseError>
 /// The key that a word spells: `0` is the key of zeros, which is no key, and any other word is the
 /// hash that it spells. `Unreadable` if it spells none.
 pub fn parse_key(word: &str) -> Result<HMACKey, ParseError>
-    ensures { IfErr result (λ e. e ≡ ParseError.Unreadable) }
+    ensures found { IfOk result (SpellsKey word.now) }
+    ensures none { OnErr result ((key : DataHash) → ¬ (SpellsKey word.now key)) }
+    ensures causes { IfErr result (λ e. e ≡ ParseError.Unreadable) }
 {
     if word == "0" {
         return Ok(DataHash::default());
@@ -116,7 +119,9 @@ pub fn parse_key(word: &str) -> Result<HMACKey, ParseError>
 /// Whether a character of a word of options is set: it is this letter, or else it is `-`.
 /// `Unreadable` if it is neither.
 pub fn parse_flag(character: u8, letter: u8) -> Result<bool, ParseError>
-    ensures { IfErr result (λ e. e ≡ ParseError.Unreadable) }
+    ensures found { IfOk result (λ flag. character ≡ flag_byte letter flag) }
+    ensures none { OnErr result ((flag : Bool) → character ≢ flag_byte letter flag) }
+    ensures causes { IfErr result (λ e. e ≡ ParseError.Unreadable) }
 {
     if character == letter {
         Ok(true)
@@ -129,7 +134,12 @@ pub fn parse_flag(character: u8, letter: u8) -> Result<bool, ParseError>
 
 /// Whether each of these letters stands in a word at its place, or `-` in its stead. `Unreadable`
 /// if the word has anything else.
-pub fn parse_flags<const N: usize>(word: &str, letters: &[u8; N]) -> Result<[bool; N], ParseError> {
+pub fn parse_flags<const N: usize>(word: &str, letters: &[u8; N]) -> Result<[bool; N], ParseError>
+    ensures found { IfOk result (λ flags. word.now ≡ flags_word letters.now flags) }
+    ensures none { OnErr result
+        ((flags : List Bool) → length flags ≡ N → word.now ≢ flags_word letters.now flags) }
+    ensures causes { IfErr result (λ e. e ≡ ParseError.Unreadable) }
+{
     let characters = word.as_bytes();
     if characters.len() != N {
         return Err(ParseError::Unreadable);
@@ -171,7 +181,12 @@ pub fn parse_u32(word: &str) -> Result<u32, ParseError>
 
 /// The number of a word that may be left out. `Unreadable` if there are more words, or the word
 /// spells no number.
-pub fn parse_optional_u64(words: &[&str]) -> Result<Option<u64>, ParseError> {
+pub fn parse_optional_u64(words: &[&str]) -> Result<Option<u64>, ParseError>
+    ensures found { IfOk result (SpellNumber (texts words.now)) }
+    ensures none { OnErr result
+        ((number : Option ℕ) → ¬ (SpellNumber (texts words.now) number)) }
+    ensures causes { IfErr result (λ e. e ≡ ParseError.Unreadable) }
+{
     match words {
         [] => Ok(None),
         [word] => Ok(Some(parse_u64(word)?)),
@@ -180,7 +195,12 @@ pub fn parse_optional_u64(words: &[&str]) -> Result<Option<u64>, ParseError> {
 }
 
 /// The number that a word spells, or none if it is `-`. `Unreadable` if it is neither.
-pub fn parse_u64_or_dash(word: &str) -> Result<Option<u64>, ParseError> {
+pub fn parse_u64_or_dash(word: &str) -> Result<Option<u64>, ParseError>
+    ensures found { IfOk result (SpellsNumberOrDash word.now) }
+    ensures none { OnErr result
+        ((number : Option ℕ) → ¬ (SpellsNumberOrDash word.now number)) }
+    ensures causes { IfErr result (λ e. e ≡ ParseError.Unreadable) }
+{
     if word == "-" {
         return Ok(None);
     }
