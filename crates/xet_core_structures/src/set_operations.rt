@@ -15,8 +15,8 @@ mod trees;
 mod two_shards;
 
 pub use agreement::{
-    Disagreement, MalformedRecord, Merged, RecordHash, find_disagreement, find_disagreements,
-    find_malformed, merge_agreeing,
+    AgreeingMerge, Disagreement, MalformedRecord, Merged, RecordHash, find_disagreement,
+    find_disagreements, find_malformed, merge_agreeing, merge_or_disagreements,
 };
 use bumpalo::Bump;
 pub use ranges::{HashRange, merge_range, merge_range_into};

@@ -1,12 +1,14 @@
 -- Inputs in memory hold shards, and which of these disagree.
-use Rattle.std.proofs.Common.{Vec, Global, ◌≡◌, ◌⊎◌, inl, inr, ℕ, zero, suc, ◌+◌, ◌<◌, List, [], ◌∷◌, ◌++◌, length, map, take, Some, refl, sym, ap, ◌∙◌, subst, cond, arith, Bool, true, false}
-use Rattle.std.specs.Prelude.{Contains, slice_get}
+use Rattle.std.proofs.Common.{Vec, Global, ◌≡◌, ◌⊎◌, inl, inr, ℕ, zero, suc, ◌<◌, List, [], ◌∷◌, ◌++◌, length, map, Some, Ok, Err, refl, sym, ap, ◌∙◌, subst, cond, arith, Bool, true, false}
+use Rattle.std.specs.Prelude.{Contains, IfOk, IfErr, MatchResult, slice_get}
+use Rattle.std.specs.declared.result.Result.{Result}
 use Rattle.std.specs.List.{AllZip}
 use Rattle.std.specs.Ordering.{eq_by_cmp}
 use Rattle.std.specs.FinMap.{FinMap, get}
-use Rattle.std.proofs.lemmas.List.{take_more, map-append}
 use Rattle.std.proofs.lemmas.List.Elements.{Contains-append_left, Contains-append_right, Contains-append_cases}
-use Rattle.std.proofs.lemmas.Option.{same_Some, none-some, slice_get_within, get_or_from_slice_get}
+use Rattle.std.proofs.lemmas.Option.{same_Some, none-some}
+use Rattle.xet_base.specs.declared.error.CoreError.{CoreError}
+use Rattle.xet_base.specs.declared.error.CoreError.TheVariants.{OutOfMemory}
 use Rattle.xet_base.specs.declared.merklehash.DataHash.{DataHash}
 use Rattle.xet_base.specs.Hash.{hash_cmp}
 use Rattle.xet_base.proofs.HashOrder.{same_key}
@@ -19,26 +21,25 @@ use Rattle.xet_records.specs.Merging.{Agree}
 use Rattle.xet_shards.specs.Write.WithOptions.{Ascends}
 use Rattle.xet_shards.specs.Content.Shard.{Shard}
 use Rattle.xet_core_structures.specs.declared.set_operations.agreement.Disagreement.{Disagreement}
-use Rattle.xet_core_structures.specs.declared.set_operations.agreement.PlacedInputs.{PlacedInputs}
 use Rattle.xet_core_structures.specs.declared.set_operations.agreement.RecordHash.{RecordHash}
 use Rattle.xet_core_structures.specs.declared.set_operations.agreement.RecordHash.TheVariants.{File, Xorb}
 use Rattle.xet_core_structures.specs.declared.set_operations.agreement.differing.Differing.{Differing}
+use Rattle.xet_core_structures.specs.declared.set_operations.trees.inputs.PlacedInputs.{PlacedInputs}
 use Rattle.xet_core_structures.specs.declared.set_operations.trees.parts.PlacedShard.{PlacedShard}
 use Rattle.xet_core_structures.specs.declared.set_operations.trees.placed.PlacedRecord.{PlacedRecord}
-use Rattle.xet_core_structures.specs.Agreement.Agreement.{HoldsAt, InputsAgree, InputsDisagree, AgreeOn, HasAllDisagreements, disagreement_of}
-use Rattle.xet_core_structures.specs.Steps.Agreement.{AreEqual, IsPlacedOf, ArePlaced}
+use Rattle.xet_core_structures.specs.Agreement.Agreement.{HoldsAt, InputsAgree, InputsDisagree, AgreeOn, HasAllDisagreements, InputsRefusal, disagreement_of}
+use Rattle.xet_core_structures.specs.Steps.Agreement.{AreEqual}
 use Rattle.xet_core_structures.specs.Steps.ByteResults.{Records}
 use Rattle.xet_core_structures.specs.Records.RecordPairs.{key_of_record, with_hash}
 use Rattle.xet_core_structures.specs.Steps.Differing.{Differ, AgreeUnder, FindsDiffering}
 use Rattle.xet_core_structures.specs.Steps.Differing.{HasRecord}
 use Rattle.xet_core_structures.specs.Records.ShardContents.{HasShard}
-use Rattle.xet_core_structures.specs.Steps.Parts.{MayBeUnited}
+use Rattle.xet_core_structures.specs.Steps.Parts.{IsPlacedOf, ArePlaced, MayBeUnited}
 use Rattle.xet_core_structures.specs.Steps.Placed.{MayUnite}
 use Rattle.xet_core_structures.proofs.Records.Items.{has_mapped, mapped_back}
 use Rattle.xet_core_structures.proofs.Records.ShardContents.{only_shard}
 use Rattle.xet_core_structures.proofs.Records.ListMaps.{list_map, get-list_map, with_hash_of, shard_of, lists_hold}
 use Rattle.xet_core_structures.proofs.Trees.Parts.{may_be_united}
-use Rattle.xet_core_structures.proofs.Records.Zipped.{zipped_append}
 
 module _ {H R : Type 0} (K : RecordKind H R) where
   -- what a list has under a hash is one of its records, and has this hash
@@ -63,18 +64,6 @@ module _ (shard : PlacedShard) (bytes : List ℕ) (is : IsPlacedOf shard bytes) 
 
   has_shard : HasShard (shard_of records_in) bytes
   has_shard = record { info = is.0; ends = is.1; holds = lists_hold bytes is.0 records_in is.2.lists }
-
--- one input more
-pub inputs_more : (xs : List (List ℕ)) (i : ℕ) (old new : PlacedInputs) (shard : PlacedShard) (y : List ℕ) → slice_get xs i ≡ Some y → ArePlaced (take i xs) old → IsPlacedOf shard y → new.files.items ≡ old.files.items ++ shard.files ∷ []
-    → new.xorbs.items ≡ old.xorbs.items ++ shard.xorbs ∷ [] → ArePlaced (take (i + 1) xs) new
-inputs_more xs i old new shard y at placed one files xorbs = record {
-  shards = placed.shards ++ shard ∷ [];
-  each = subst (λ l. AllZip IsPlacedOf (placed.shards ++ shard ∷ []) l)
-      (sym (take_more xs i y (slice_get_within xs i y at) ∙ ap (λ z. take i xs ++ z ∷ []) (get_or_from_slice_get xs i y y at)))
-      (zipped_append IsPlacedOf placed.shards (shard ∷ []) (take i xs) (y ∷ []) placed.each (one, tt));
-  files = files ∙ ap (λ l. l ++ shard.files ∷ []) placed.files ∙ sym (map-append (λ (s : PlacedShard). s.files) placed.shards (shard ∷ []));
-  xorbs = xorbs ∙ ap (λ l. l ++ shard.xorbs ∷ []) placed.xorbs ∙ sym (map-append (λ (s : PlacedShard). s.xorbs) placed.shards (shard ∷ []));
-}
 
 zip_held : (shards : List PlacedShard) (inputs : List (List ℕ)) → AllZip IsPlacedOf shards inputs → (i : ℕ) → i < length inputs → (s : Shard) × HoldsAt inputs i s
 zip_held shards [] all i low = absurd (omega (arith, low))
@@ -240,3 +229,13 @@ none_found inputs found all none = record {
 } where
   nothing : (h : RecordHash) → ¬ Contains (map (λ d. d.record_hash) found) h
   nothing h has = absurd (omega (arith, (subst (λ l. Contains (map (λ (d : Disagreement). d.record_hash) l) h) none has).1))
+
+-- of inputs that are placed, only memory can be lacking
+pub or_no_memory : {A : Type 0} (Is : A → Type 0) (inputs : List (List ℕ)) (r : Result A CoreError) → IfOk r Is → IfErr r (λ e. e ≡ OutOfMemory) → MatchResult r Is (InputsRefusal inputs)
+or_no_memory Is inputs (Ok x) is cause = is
+or_no_memory Is inputs (Err e) is cause = inl cause
+
+-- after one kind of errors another may come
+pub or_refused : {A : Type 0} (Is : A → Type 0) (P Q : CoreError → Type 0) (r : Result A CoreError) → MatchResult r Is Q → MatchResult r Is (λ e. P e ⊎ Q e)
+or_refused Is P Q (Ok x) is = is
+or_refused Is P Q (Err e) is = inr is

@@ -32,11 +32,11 @@ use Rattle.xet_core_structures.specs.declared.set_operations.agreement.RecordHas
 use Rattle.xet_core_structures.specs.declared.set_operations.trees.parts.PlacedShard.{PlacedShard}
 use Rattle.xet_core_structures.specs.declared.set_operations.trees.placed.PlacedRecord.{PlacedRecord}
 use Rattle.xet_core_structures.specs.Agreement.Agreement.{HasMalformed, HoldShards, IsHeld}
-use Rattle.xet_core_structures.specs.Steps.Agreement.{IsPlacedOf, IsPlainFile, HasFewBytes, FindsMalformed}
+use Rattle.xet_core_structures.specs.Steps.Agreement.{IsPlainFile, HasFewBytes, FindsMalformed}
 use Rattle.xet_core_structures.specs.Steps.ByteResults.{Records}
 use Rattle.xet_core_structures.specs.Records.RecordPairs.{key_of_record}
 use Rattle.xet_core_structures.specs.Records.ShardContents.{HasShard, Holds}
-use Rattle.xet_core_structures.specs.Steps.Parts.{MayBeUnited}
+use Rattle.xet_core_structures.specs.Steps.Parts.{IsPlacedOf, MayBeUnited}
 use Rattle.xet_core_structures.specs.Steps.Placed.{Places, PlacesAll}
 use Rattle.xet_core_structures.proofs.Records.Items.{has_at, has_mapped, mapped_back, below_or_at}
 use Rattle.xet_core_structures.proofs.Records.ListMaps.{list_map, values-list_map, get-list_map, with_hash_of, shard_of, lists_hold}

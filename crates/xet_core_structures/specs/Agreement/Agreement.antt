@@ -21,6 +21,8 @@ use Rattle.xet_core_structures.specs.declared.set_operations.agreement.RecordHas
 use Rattle.xet_core_structures.specs.declared.set_operations.agreement.RecordHash.TheVariants.{File, Xorb}
 use Rattle.xet_core_structures.specs.declared.set_operations.agreement.differing.Differing.{Differing}
 use Rattle.xet_core_structures.specs.declared.set_operations.MergePlan.{MergePlan}
+use Rattle.xet_core_structures.specs.declared.set_operations.agreement.AgreeingMerge.{AgreeingMerge}
+use Rattle.xet_core_structures.specs.declared.set_operations.agreement.AgreeingMerge.TheVariants.{Bytes as MergedBytes, Disagreements, Malformed as FoundMalformed}
 use Rattle.xet_core_structures.specs.declared.set_operations.agreement.Merged.{Merged}
 use Rattle.xet_core_structures.specs.declared.set_operations.agreement.Merged.TheVariants.{Bytes, Disagreement as Disagreed, Malformed}
 use Rattle.xet_core_structures.specs.TwoShards.ByteResults.{key_of, LoadRefusal}
@@ -134,3 +136,11 @@ IsMerged inputs plan (Bytes bytes) =
     HoldShards inputs × InputsAgree inputs × TreeWrites inputs plan bytes.items
 IsMerged inputs plan (Disagreed d) = InputsDisagree inputs d
 IsMerged inputs plan (Malformed m) = HoldMalformed inputs m
+
+-- the same, with all that do not agree, of which there is one at least
+abbrev pub MergesOrFinds : List (List ℕ) → MergePlan → AgreeingMerge → Type 0
+MergesOrFinds inputs plan (MergedBytes bytes) =
+    HoldShards inputs × InputsAgree inputs × TreeWrites inputs plan bytes.items
+MergesOrFinds inputs plan (Disagreements found) =
+    HoldShards inputs × (0 < length found.items) × HasAllDisagreements inputs found.items
+MergesOrFinds inputs plan (FoundMalformed m) = HoldMalformed inputs m

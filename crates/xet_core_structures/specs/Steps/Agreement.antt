@@ -1,6 +1,5 @@
 -- Steps towards what `Agreement` defines, which only contracts inside the crate speak of.
-use Rattle.std.specs.Prelude.{◌≡◌, ℕ, ◌≤◌, List, map, All, Contains, Option, MatchOption}
-use Rattle.std.specs.List.{AllZip}
+use Rattle.std.specs.Prelude.{◌≡◌, ℕ, ◌<◌, ◌≤◌, List, length, All, Contains, Option, MatchOption}
 use Rattle.xet_base.specs.declared.merklehash.DataHash.{DataHash}
 use Rattle.xet_records.specs.declared.file_structs.header.FileDataSequenceHeader.{FileDataSequenceHeader}
 use Rattle.xet_records.specs.declared.file_structs.MDBFileInfo.{MDBFileInfo}
@@ -8,34 +7,22 @@ use Rattle.xet_records.specs.declared.xorb_structs.MDBXorbInfo.{MDBXorbInfo}
 use Rattle.xet_records.specs.Part.{announces, flags_of}
 use Rattle.xet_records.specs.RecordKind.{RecordKind}
 use Rattle.xet_records.specs.XorbRecord.{size_of_chunks}
-use Rattle.xet_shards.specs.declared.shard_format.ends.info.MDBShardInfo.{MDBShardInfo}
 use Rattle.xet_shards.specs.Content.Shard.{Shard, IsShard}
-use Rattle.xet_shards.specs.Ends.Ends.{HasHeaderAndFooter}
-use Rattle.xet_core_structures.specs.declared.set_operations.agreement.PlacedInputs.{PlacedInputs}
-use Rattle.xet_core_structures.specs.declared.set_operations.trees.parts.PlacedShard.{PlacedShard}
 use Rattle.xet_core_structures.specs.declared.set_operations.trees.placed.PlacedRecord.{PlacedRecord}
 use Rattle.xet_core_structures.specs.Records.RecordPairs.{key_of_record}
 use Rattle.xet_core_structures.specs.declared.set_operations.agreement.RecordHash.{RecordHash}
-use Rattle.xet_core_structures.specs.Agreement.Agreement.{HasMalformed}
+use Rattle.xet_core_structures.specs.declared.set_operations.agreement.CheckedInputs.{CheckedInputs}
+use Rattle.xet_core_structures.specs.declared.set_operations.agreement.CheckedInputs.TheVariants.{Agreeing, Disagreements, Malformed}
+use Rattle.xet_core_structures.specs.declared.set_operations.agreement.WellFormed.{WellFormed}
+use Rattle.xet_core_structures.specs.declared.set_operations.agreement.WellFormed.TheVariants.{Placed, Malformed as FormedMalformed}
+use Rattle.xet_core_structures.specs.Agreement.Agreement.{HasMalformed, HoldShards, HoldMalformed, InputsAgree, HasAllDisagreements}
 use Rattle.xet_core_structures.specs.Records.ShardContents.{HasShard}
-use Rattle.xet_core_structures.specs.Steps.Parts.{PlacesShard}
+use Rattle.xet_core_structures.specs.Steps.Parts.{ArePlaced}
 use Rattle.xet_core_structures.specs.Steps.Placed.{PlacesAll}
 
 -- two xorbs agree if they are equal
 abbrev pub AreEqual : MDBXorbInfo → MDBXorbInfo → Type 0
 AreEqual r s = r ≡ s
-
--- a shard in memory is one that bytes hold
-abbrev pub IsPlacedOf : PlacedShard → List ℕ → Type 0
-IsPlacedOf shard bytes =
-    (info : MDBShardInfo) × HasHeaderAndFooter bytes info × PlacesShard bytes info shard
-
--- these are the records of inputs in memory
-pub record ArePlaced (inputs : List (List ℕ)) (placed : PlacedInputs) : Type 0 where
-  pub shards : List PlacedShard
-  pub each : AllZip IsPlacedOf shards inputs
-  pub files : placed.files.items ≡ map (λ s. s.files) shards
-  pub xorbs : placed.xorbs.items ≡ map (λ s. s.xorbs) shards
 
 -- the flags of a file's header announce optional parts and nothing else, and its reserved word is
 -- zero
@@ -64,3 +51,16 @@ abbrev pub FindsMalformedIn : List ℕ → Option RecordHash → Type 0
 FindsMalformedIn bytes found =
     MatchOption found ((s : Shard) × HasShard s bytes × IsShard s)
     (λ h. (s : Shard) × HasShard s bytes × HasMalformed s h)
+
+-- inputs that hold well-formed shards were placed, or one holds a record that no shard may have
+abbrev pub IsWellFormedOr : List (List ℕ) → WellFormed → Type 0
+IsWellFormedOr inputs (Placed placed) = HoldShards inputs × ArePlaced inputs placed
+IsWellFormedOr inputs (FormedMalformed m) = HoldMalformed inputs m
+
+-- inputs that hold well-formed shards which agree were placed, or this is why they do not
+abbrev pub IsChecked : List (List ℕ) → CheckedInputs → Type 0
+IsChecked inputs (Agreeing placed) =
+    HoldShards inputs × InputsAgree inputs × ArePlaced inputs placed
+IsChecked inputs (Disagreements found) =
+    HoldShards inputs × (0 < length found.items) × HasAllDisagreements inputs found.items
+IsChecked inputs (Malformed m) = HoldMalformed inputs m

@@ -1,16 +1,22 @@
 -- Steps towards what `Parts` defines, which only contracts inside the crate speak of.
-use Rattle.std.specs.Prelude.{◌≡◌, ◌⊎◌, ℕ, List}
+use Rattle.std.specs.Prelude.{◌≡◌, ◌⊎◌, ℕ, List, map}
 use Rattle.std.specs.FinMap.{values}
+use Rattle.std.specs.List.{AllZip}
 use Rattle.xet_records.specs.FileRecord.{file_records}
 use Rattle.xet_records.specs.XorbRecord.{xorb_records}
 use Rattle.xet_shards.specs.declared.shard_format.ends.info.MDBShardInfo.{MDBShardInfo}
+use Rattle.xet_shards.specs.Ends.Ends.{HasHeaderAndFooter}
 use Rattle.xet_shards.specs.Write.WithOptions.{Ascends, FitsSection}
 use Rattle.xet_shards.specs.Content.Shard.{Shard}
+use Rattle.xet_core_structures.specs.declared.set_operations.trees.inputs.PlacedInputs.{PlacedInputs}
+use Rattle.xet_core_structures.specs.declared.set_operations.trees.parts.PlacedLists.{PlacedLists}
 use Rattle.xet_core_structures.specs.declared.set_operations.trees.parts.PlacedShard.{PlacedShard}
 use Rattle.xet_core_structures.specs.declared.set_operations.trees.parts.Part.{Part}
-use Rattle.xet_core_structures.specs.declared.set_operations.trees.parts.Part.TheVariants.{Input, United}
+use Rattle.xet_core_structures.specs.declared.set_operations.trees.parts.Part.TheVariants.{Input, Placed, United}
 use Rattle.xet_core_structures.specs.declared.set_operations.trees.parts.Opened.{Opened}
-use Rattle.xet_core_structures.specs.declared.set_operations.trees.parts.Opened.TheVariants.{Input as OpenedInput, United as OpenedUnion}
+use Rattle.xet_core_structures.specs.declared.set_operations.trees.parts.Opened.TheVariants.{Input as OpenedInput, Placed as OpenedPlaced, United as OpenedUnion}
+use Rattle.xet_core_structures.specs.declared.set_operations.trees.parts.Listed.{Listed}
+use Rattle.xet_core_structures.specs.declared.set_operations.trees.parts.Listed.TheVariants.{Own, Placed as PlacedBefore}
 use Rattle.xet_core_structures.specs.TwoShards.ByteResults.{key_of, keyed_info}
 use Rattle.xet_core_structures.specs.Steps.ByteResults.{Records}
 use Rattle.xet_core_structures.specs.Records.ByteUnion.{IsEitherFile, IsEitherXorb}
@@ -43,6 +49,29 @@ pub record PlacesShard (bytes : List ℕ) (info : MDBShardInfo) (shard : PlacedS
   pub places : PlacesRecords shard records
   pub key : shard.key ≡ key_of info
 
+-- a shard in memory is one that bytes hold
+abbrev pub IsPlacedOf : PlacedShard → List ℕ → Type 0
+IsPlacedOf shard bytes =
+    (info : MDBShardInfo) × HasHeaderAndFooter bytes info × PlacesShard bytes info shard
+
+-- these are the records of inputs in memory
+pub record ArePlaced (inputs : List (List ℕ)) (placed : PlacedInputs) : Type 0 where
+  pub shards : List PlacedShard
+  pub each : AllZip IsPlacedOf shards inputs
+  pub bytes : map (λ x. x.now) placed.inputs.items ≡ inputs
+  pub keys : placed.keys.items ≡ map (λ s. s.key) shards
+  pub files : placed.files.items ≡ map (λ s. s.files) shards
+  pub xorbs : placed.xorbs.items ≡ map (λ s. s.xorbs) shards
+
+-- the shard in memory that has these records
+abbrev pub shard_with : PlacedLists → PlacedShard
+shard_with l = record { key = l.key; files = l.files.now; xorbs = l.xorbs.now }
+
+-- the shard in memory that has the records of a part
+abbrev pub shard_in : Listed → PlacedShard
+shard_in (Own shard) = shard
+shard_in (PlacedBefore lists) = shard_with lists
+
 -- files or xorbs have no union within the rows of a section
 abbrev pub HaveNoRecordUnion : Records → Records → Type 0
 HaveNoRecordUnion one other =
@@ -60,9 +89,11 @@ pub record IsUnited (bytes : List ℕ) (info : MDBShardInfo) (shard : PlacedShar
 -- a part stands for these bytes
 abbrev pub IsPart : List ℕ → Part → Type 0
 IsPart bytes (Input x) = x.now ≡ bytes
+IsPart bytes (Placed x lists) = (x.now ≡ bytes) × IsPlacedOf (shard_with lists) bytes
 IsPart bytes (United shard) = (info : MDBShardInfo) × IsUnited bytes info shard
 
 -- a part stands for these bytes, in which these are the header and the footer
 abbrev pub IsOpened : List ℕ → MDBShardInfo → Opened → Type 0
 IsOpened bytes info (OpenedInput x i) = (x.now ≡ bytes) × (i ≡ info)
+IsOpened bytes info (OpenedPlaced lists) = PlacesShard bytes info (shard_with lists)
 IsOpened bytes info (OpenedUnion shard) = IsUnited bytes info shard

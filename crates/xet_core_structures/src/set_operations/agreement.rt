@@ -11,32 +11,32 @@
 //! one hash: of shards that are mostly the same it takes longer than their merge
 //! (`bench/README.md`).
 
-ghost use Rattle.std.specs.Prelude.{◌≡◌, ◌⊎◌, ◌<◌, ◌++◌, ℕ, List, length, map, Some, slice_get, MatchOption, MatchResult, OnOk, IfErr};
+ghost use Rattle.std.specs.Prelude.{◌≡◌, ◌⊎◌, ◌++◌, ℕ, List, map, MatchOption, MatchResult, OnOk, IfOk, IfErr};
 ghost use Rattle.xet_base.specs.declared.error.CoreError.TheVariants.{OutOfMemory};
-ghost use Rattle.xet_core_structures.specs.Trees.MergeTrees.{TreeRefusal};
-ghost use Rattle.xet_core_structures.specs.Agreement.Agreement.{InputsAgree, InputsDisagree, HasAllDisagreements, InputsRefusal, ShardRefusal, HoldShards, HoldMalformed, IsMerged, disagreement_of};
-ghost use Rattle.xet_core_structures.specs.Steps.Agreement.{ArePlaced, IsPlacedOf, FindsMalformedIn};
+ghost use Rattle.xet_core_structures.specs.Trees.MergeTrees.{TreeWrites, TreeRefusal};
+ghost use Rattle.xet_core_structures.specs.Agreement.Agreement.{InputsAgree, InputsDisagree, HasAllDisagreements, InputsRefusal, HoldShards, HoldMalformed, IsMerged, MergesOrFinds, disagreement_of};
+ghost use Rattle.xet_core_structures.specs.Steps.Agreement.{FindsMalformedIn, IsChecked, IsWellFormedOr};
+ghost use Rattle.xet_core_structures.specs.Steps.Parts.{ArePlaced, IsPlacedOf};
 
 mod differing;
 mod kinds;
 mod malformed;
 mod runs;
 
-use super::{MergePlan, shard_union_tree};
-use crate::set_operations::trees::parts::{PlacedShard, place_shard};
-use crate::set_operations::trees::placed::PlacedRecord;
+use super::MergePlan;
+use crate::set_operations::trees::inputs::{PlacedInputs, input_at, place_input, place_inputs};
+use crate::set_operations::trees::parts::{PlacedShard, part_bytes, place_tree_of};
 use crate::set_operations::two_shards::record_operation::OfUnion;
+use bumpalo::Bump;
 use differing::{Differing, find_differing};
 use kinds::Agreement;
 use malformed::find_malformed_record;
 use std::alloc::Global;
 use xet_base::error::Result;
 use xet_base::merklehash::MerkleHash;
-use xet_base::source::MemorySource;
-use xet_records::file_structs::{FileDataSequenceHeader, MDBFileInfo};
+use xet_records::file_structs::MDBFileInfo;
 use xet_records::record_reader::SectionRecord;
-use xet_records::xorb_structs::{MDBXorbInfo, XorbChunkSequenceHeader};
-use xet_shards::shard_format::MDBShardInfo;
+use xet_records::xorb_structs::MDBXorbInfo;
 
 /// The hash of a file or of a xorb.
 #[derive(Clone, Copy)]
@@ -67,13 +67,6 @@ pub struct MalformedRecord {
     pub input: usize,
 }
 
-/// The records of all inputs, a list for each input.
-#[derive(Drop)]
-pub struct PlacedInputs<'a> {
-    pub files: Vec<Vec<PlacedRecord<'a, FileDataSequenceHeader>>>,
-    pub xorbs: Vec<Vec<PlacedRecord<'a, XorbChunkSequenceHeader>>>,
-}
-
 /// For each hash under which two of the shards that the inputs hold have records that do not agree,
 /// two such inputs: first of files, then of xorbs, and each in ascending order of the hashes. There
 /// is none exactly if each two of the shards agree.
@@ -83,6 +76,15 @@ pub fn find_disagreements(alloc: Global, inputs: &[&[u8]]) -> Result<Vec<Disagre
         (InputsRefusal (map (λ x. x.now) inputs.now)) }
 {
     let placed = place_inputs(alloc, inputs)?;
+    disagreements_of(alloc, &placed)
+}
+
+// The same of inputs whose records are placed.
+fn disagreements_of(alloc: Global, placed: &PlacedInputs<'_>) -> Result<Vec<Disagreement>>
+    ensures ok { (inputs : List (List ℕ)) → ArePlaced inputs placed.now
+        → IfOk result (λ found. HasAllDisagreements inputs found.items) }
+    ensures causes { IfErr result (λ e. e ≡ OutOfMemory) }
+{
     let files = find_differing::<MDBFileInfo, OfUnion>(alloc, placed.files.as_slice())?;
     let xorbs = find_differing::<MDBXorbInfo, OfUnion>(alloc, placed.xorbs.as_slice())?;
     let mut found = Vec::new(alloc);
@@ -166,42 +168,127 @@ fn malformed_in(alloc: Global, shard: &PlacedShard<'_>) -> Result<Option<RecordH
     }
 }
 
-// The records of the inputs.
-fn place_inputs<'a>(alloc: Global, inputs: &[&'a [u8]]) -> Result<PlacedInputs<'a>>
-    ensures { MatchResult result (ArePlaced (map (λ x. x.now) inputs.now))
+/// What a merge of inputs that have to agree gives.
+#[derive(Drop)]
+pub enum AgreeingMerge {
+    /// The bytes of the merge: each input holds a well-formed shard, and these agree pairwise.
+    Bytes(Vec<u8>),
+    /// The hashes under which two of the shards have records that do not agree, with two such
+    /// shards for each: at least one.
+    Disagreements(Vec<Disagreement>),
+    /// A record that no shard may have, of the first input that holds one.
+    Malformed(MalformedRecord),
+}
+
+/// Unites the inputs at the leaves of a tree, if each input holds a well-formed shard and these
+/// agree pairwise. Else it gives a record that no shard may have, of the first input that holds
+/// one; or, if there is none, all that disagree. Each input is read once for all of this.
+///
+/// The inputs are read one after another, up to the first that cannot be read, whose error is that
+/// of [`find_disagreements`], or that holds a malformed record. Errors of the tree, as
+/// [`shard_union_tree`](super::shard_union_tree) has them, come last. `OutOfMemory` if an
+/// allocation fails.
+pub fn merge_or_disagreements(
+    alloc: Global,
+    plan: &MergePlan,
+    inputs: &[&[u8]],
+) -> Result<AgreeingMerge>
+    ensures { MatchResult result
+        (MergesOrFinds (map (λ x. x.now) inputs.now) plan.now)
+        (λ e. InputsRefusal (map (λ x. x.now) inputs.now) e
+        ⊎ TreeRefusal (map (λ x. x.now) inputs.now) plan.now e) }
+{
+    let checked = check_inputs(alloc, inputs)?;
+    match checked {
+        CheckedInputs::Agreeing(placed) => merge_placed(alloc, plan, &placed),
+        CheckedInputs::Disagreements(found) => Ok(AgreeingMerge::Disagreements(found)),
+        CheckedInputs::Malformed(found) => Ok(AgreeingMerge::Malformed(found)),
+    }
+}
+
+/// Inputs that hold well-formed shards which agree, placed; or why they do not.
+#[derive(Drop)]
+pub enum CheckedInputs<'a> {
+    Agreeing(PlacedInputs<'a>),
+    Disagreements(Vec<Disagreement>),
+    Malformed(MalformedRecord),
+}
+
+// Places the inputs, and looks for malformed records and for disagreements.
+fn check_inputs<'a>(alloc: Global, inputs: &[&'a [u8]]) -> Result<CheckedInputs<'a>>
+    ensures { MatchResult result (IsChecked (map (λ x. x.now) inputs.now))
         (InputsRefusal (map (λ x. x.now) inputs.now)) }
 {
-    let mut files = Vec::new(alloc);
-    let mut xorbs = Vec::new(alloc);
+    let formed = place_well_formed(alloc, inputs)?;
+    match formed {
+        WellFormed::Placed(placed) => {
+            let found = disagreements_of(alloc, &placed)?;
+            if found.is_empty() {
+                return Ok(CheckedInputs::Agreeing(placed));
+            }
+            Ok(CheckedInputs::Disagreements(found))
+        }
+        WellFormed::Malformed(found) => Ok(CheckedInputs::Malformed(found)),
+    }
+}
+
+/// Inputs that hold well-formed shards, placed; or a record that no shard may have.
+#[derive(Drop)]
+pub enum WellFormed<'a> {
+    Placed(PlacedInputs<'a>),
+    Malformed(MalformedRecord),
+}
+
+// Places the inputs one after another, up to one that holds a malformed record.
+fn place_well_formed<'a>(alloc: Global, inputs: &[&'a [u8]]) -> Result<WellFormed<'a>>
+    ensures { MatchResult result (IsWellFormedOr (map (λ x. x.now) inputs.now))
+        (InputsRefusal (map (λ x. x.now) inputs.now)) }
+{
+    let mut placed = PlacedInputs::new(alloc);
     let mut at = 0;
     while at < inputs.len() {
         let bytes = input_at(inputs, at);
         let shard = place_input(alloc, bytes)?;
-        files.push(shard.files)?;
-        xorbs.push(shard.xorbs)?;
+        if let Some(hash) = malformed_in(alloc, &shard)? {
+            return Ok(WellFormed::Malformed(MalformedRecord {
+                record_hash: hash,
+                input: at,
+            }));
+        }
+        placed.add(bytes, shard)?;
         at += 1;
     }
-    Ok(PlacedInputs { files, xorbs })
+    Ok(WellFormed::Placed(placed))
 }
 
-// The input at an index.
-fn input_at<'a>(inputs: &[&'a [u8]], at: usize) -> &'a [u8]
-    requires { at < length inputs.now }
-    ensures { slice_get (map (λ x. x.now) inputs.now) at ≡ Some result.now }
+// The merge of inputs that hold well-formed shards which agree, and whose records are placed.
+fn merge_placed(alloc: Global, plan: &MergePlan, placed: &PlacedInputs<'_>) -> Result<AgreeingMerge>
+    requires { (inputs : List (List ℕ)) × ArePlaced inputs placed.now }
+    ensures { (inputs : List (List ℕ)) → ArePlaced inputs placed.now → HoldShards inputs
+        → InputsAgree inputs → MatchResult result (MergesOrFinds inputs plan.now)
+        (TreeRefusal inputs plan.now) }
 {
-    inputs[at]
+    let bytes = merge_in_arena(alloc, plan, &*placed)?;
+    Ok(AgreeingMerge::Bytes(bytes))
 }
 
-// The records of an input.
-fn place_input<'a>(alloc: Global, bytes: &'a [u8]) -> Result<PlacedShard<'a>>
-    ensures { MatchResult result (λ shard. IsPlacedOf shard bytes.now) (ShardRefusal bytes.now) }
+// The bytes that the tree writes. The list and its records share one lifetime: the borrow checker
+// finds no lifetime within both theirs and the arena's.
+fn merge_in_arena<'a>(
+    alloc: Global,
+    plan: &MergePlan,
+    placed: &'a PlacedInputs<'a>,
+) -> Result<Vec<u8>>
+    requires { (inputs : List (List ℕ)) × ArePlaced inputs placed.now }
+    ensures { (inputs : List (List ℕ)) → ArePlaced inputs placed.now → MatchResult result
+        (λ bytes. TreeWrites inputs plan.now bytes.items) (TreeRefusal inputs plan.now) }
 {
-    let mut source = MemorySource::new(bytes);
-    let info = MDBShardInfo::load_from_reader(alloc, &mut source)?;
-    place_shard(alloc, bytes, &info)
+    let arena = Bump::new(alloc);
+    let part = place_tree_of(alloc, &arena, plan, placed)?;
+    part_bytes(alloc, part)
 }
 
-/// What a merge of inputs that have to agree gives.
+/// What a merge of inputs that have to agree gives, with one disagreement.
 #[derive(Drop)]
 pub enum Merged {
     /// The bytes of the union: each two inputs agree.
@@ -212,21 +299,17 @@ pub enum Merged {
     Malformed(MalformedRecord),
 }
 
-/// Unites the inputs at the leaves of a tree, if each input holds a well-formed shard and these
-/// agree pairwise. A malformed record is looked for first.
-///
-/// The errors are those of [`find_disagreements`] and [`shard_union_tree`].
+/// As [`merge_or_disagreements`], with the first disagreement alone.
 pub fn merge_agreeing(alloc: Global, plan: &MergePlan, inputs: &[&[u8]]) -> Result<Merged>
     ensures { MatchResult result
         (IsMerged (map (λ x. x.now) inputs.now) plan.now)
         (λ e. InputsRefusal (map (λ x. x.now) inputs.now) e
         ⊎ TreeRefusal (map (λ x. x.now) inputs.now) plan.now e) }
 {
-    if let Some(found) = find_malformed(alloc, inputs)? {
-        return Ok(Merged::Malformed(found));
-    }
-    match find_disagreement(alloc, inputs)? {
-        Some(found) => Ok(Merged::Disagreement(found)),
-        None => Ok(Merged::Bytes(shard_union_tree(alloc, plan, inputs)?)),
+    let merged = merge_or_disagreements(alloc, plan, inputs)?;
+    match merged {
+        AgreeingMerge::Bytes(bytes) => Ok(Merged::Bytes(bytes)),
+        AgreeingMerge::Disagreements(found) => Ok(Merged::Disagreement(found[0])),
+        AgreeingMerge::Malformed(found) => Ok(Merged::Malformed(found)),
     }
 }

@@ -1,8 +1,8 @@
 //! A tree of unions over inputs in memory. Records stay where they are until the tree is done, and
 //! are written once.
 
-ghost use Rattle.std.specs.Prelude.{◌≡◌, ◌⊎◌, ◌↔◌, ℕ, IsTrue, List, map, MatchResult};
-ghost use Rattle.xet_base.specs.declared.error.CoreError.TheVariants.{OutOfMemory};
+ghost use Rattle.std.specs.Prelude.{◌≡◌, ◌⊎◌, ◌↔◌, ◌≤◌, ℕ, IsTrue, List, length, map, Some, slice_get, MatchResult};
+ghost use Rattle.xet_base.specs.declared.error.CoreError.TheVariants.{InvalidArguments, OutOfMemory};
 ghost use Rattle.xet_base.specs.Errors.{IsInvalidShard};
 ghost use Rattle.xet_shards.specs.declared.shard_format.ends.info.MDBShardInfo.{MDBShardInfo};
 ghost use Rattle.xet_shards.specs.Ends.Ends.{HasHeaderAndFooter};
@@ -13,9 +13,10 @@ ghost use Rattle.xet_core_structures.specs.Steps.ByteResults.{Records, AreCombin
 ghost use Rattle.xet_core_structures.specs.Trees.Filling.{Fills, FillsWith};
 ghost use Rattle.xet_core_structures.specs.Trees.MergeTrees.{TreeWrites, TreeRefusal};
 ghost use Rattle.xet_core_structures.specs.Trees.Parts.{SectionsRefusal};
-ghost use Rattle.xet_core_structures.specs.Steps.Parts.{PlacesRecords, MayBeUnited, MayBeWritten, PlacesShard, HaveNoRecordUnion, IsPart, IsOpened};
+ghost use Rattle.xet_core_structures.specs.Steps.Parts.{PlacesRecords, MayBeUnited, MayBeWritten, PlacesShard, HaveNoRecordUnion, ArePlaced, IsPart, IsOpened, shard_in};
 
 use super::filling::{frame_of, put_shard};
+use super::inputs::PlacedInputs;
 use super::placed::{PlacedRecord, place_records, unite_placed};
 use crate::set_operations::MergePlan;
 use crate::set_operations::two_shards::record_operation::OfUnion;
@@ -38,18 +39,65 @@ pub struct PlacedShard<'a> {
     pub xorbs: Vec<PlacedRecord<'a, XorbChunkSequenceHeader>>,
 }
 
-/// What a tree gives: an input, or a union of which no byte is written yet.
+/// The records of an input that is placed already, and the key of its chunk hashes.
+#[derive(Clone, Copy)]
+pub struct PlacedLists<'a> {
+    pub key: HMACKey,
+    pub files: &'a Vec<PlacedRecord<'a, FileDataSequenceHeader>>,
+    pub xorbs: &'a Vec<PlacedRecord<'a, XorbChunkSequenceHeader>>,
+}
+
+/// What a tree gives: an input, whose records may be placed already, or a union of which no byte is
+/// written yet.
 #[derive(Drop)]
 pub enum Part<'a> {
     Input(&'a [u8]),
+    Placed(&'a [u8], PlacedLists<'a>),
     United(PlacedShard<'a>),
 }
 
-/// The same, with the header and the footer of an input.
+/// The same, with the header and the footer of an input whose records are not placed yet.
 #[derive(Drop)]
 pub enum Opened<'a> {
     Input(&'a [u8], MDBShardInfo),
+    Placed(PlacedLists<'a>),
     United(PlacedShard<'a>),
+}
+
+/// The records of a part: its own, or those of an input that was placed before.
+#[derive(Drop)]
+pub enum Listed<'a> {
+    Own(PlacedShard<'a>),
+    Placed(PlacedLists<'a>),
+}
+
+impl<'a> Listed<'a> {
+    fn key(&self) -> HMACKey
+        ensures { result ≡ (shard_in self.now).key }
+    {
+        match self {
+            Listed::Own(shard) => shard.key,
+            Listed::Placed(lists) => lists.key,
+        }
+    }
+
+    fn files(&self) -> &[PlacedRecord<'a, FileDataSequenceHeader>]
+        ensures { result.now ≡ (shard_in self.now).files.items }
+    {
+        match self {
+            Listed::Own(shard) => shard.files.as_slice(),
+            Listed::Placed(lists) => lists.files.as_slice(),
+        }
+    }
+
+    fn xorbs(&self) -> &[PlacedRecord<'a, XorbChunkSequenceHeader>]
+        ensures { result.now ≡ (shard_in self.now).xorbs.items }
+    {
+        match self {
+            Listed::Own(shard) => shard.xorbs.as_slice(),
+            Listed::Placed(lists) => lists.xorbs.as_slice(),
+        }
+    }
 }
 
 /// What a tree gives. Records that are in no input are placed in the arena.
@@ -77,6 +125,46 @@ pub fn place_tree<'a>(
             unite_parts(alloc, arena, one, other)
         }
     }
+}
+
+/// The same of inputs whose records are placed already.
+pub fn place_tree_of<'a>(
+    alloc: Global,
+    arena: &'a Bump,
+    plan: &MergePlan,
+    placed: &'a PlacedInputs<'a>,
+) -> Result<Part<'a>>
+    requires { (inputs : List (List ℕ)) × ArePlaced inputs placed.now }
+    ensures { (inputs : List (List ℕ)) → ArePlaced inputs placed.now → MatchResult result
+        (λ part. (bytes : List ℕ) × TreeWrites inputs plan.now bytes × IsPart bytes part)
+        (TreeRefusal inputs plan.now) }
+{
+    match plan {
+        MergePlan::Leaf(index) => placed_leaf(placed, *index),
+        MergePlan::Both(left, right) => {
+            let first = place_tree_of(alloc, arena, left, placed)?;
+            let second = place_tree_of(alloc, arena, right, placed)?;
+            unite_parts(alloc, arena, first, second)
+        }
+    }
+}
+
+// The input at an index.
+fn placed_leaf<'a>(placed: &'a PlacedInputs<'a>, index: usize) -> Result<Part<'a>>
+    requires { (inputs : List (List ℕ)) × ArePlaced inputs placed.now }
+    ensures { (inputs : List (List ℕ)) → ArePlaced inputs placed.now → MatchResult result
+        (λ part. (bytes : List ℕ) × (slice_get inputs index ≡ Some bytes) × IsPart bytes part)
+        (λ e. (e ≡ InvalidArguments) × (length inputs ≤ index)) }
+{
+    if index >= placed.inputs.len() {
+        return Err(CoreError::InvalidArguments);
+    }
+    let lists = PlacedLists {
+        key: placed.keys[index],
+        files: &placed.files[index],
+        xorbs: &placed.xorbs[index],
+    };
+    Ok(Part::Placed(placed.inputs[index], lists))
 }
 
 /// The union of two parts.
@@ -115,6 +203,7 @@ fn open<'a>(alloc: Global, part: Part<'a>) -> Result<Opened<'a>>
             let info = MDBShardInfo::load_from_reader(alloc, &mut source)?;
             Ok(Opened::Input(bytes, info))
         }
+        Part::Placed(_, lists) => Ok(Opened::Placed(lists)),
         Part::United(shard) => Ok(Opened::United(shard)),
     }
 }
@@ -126,6 +215,7 @@ fn key(opened: &Opened<'_>) -> HMACKey
 {
     match opened {
         Opened::Input(_, info) => info.metadata.chunk_hash_hmac_key,
+        Opened::Placed(lists) => lists.key,
         Opened::United(shard) => shard.key,
     }
 }
@@ -138,13 +228,15 @@ fn are_equal(first: HMACKey, second: HMACKey) -> bool
 }
 
 // The records of a part.
-fn lists<'a>(alloc: Global, opened: Opened<'a>) -> Result<PlacedShard<'a>>
+fn lists<'a>(alloc: Global, opened: Opened<'a>) -> Result<Listed<'a>>
     ensures { (bytes : List ℕ) (info : MDBShardInfo) → IsOpened bytes info opened.entry
-        → MatchResult result (PlacesShard bytes info) (SectionsRefusal bytes info) }
+        → MatchResult result (λ listed. PlacesShard bytes info (shard_in listed))
+        (SectionsRefusal bytes info) }
 {
     match opened {
-        Opened::Input(bytes, info) => place_shard(alloc, bytes, &info),
-        Opened::United(shard) => Ok(shard),
+        Opened::Input(bytes, info) => Ok(Listed::Own(place_shard(alloc, bytes, &info)?)),
+        Opened::Placed(lists) => Ok(Listed::Placed(lists)),
+        Opened::United(shard) => Ok(Listed::Own(shard)),
     }
 }
 
@@ -175,33 +267,23 @@ pub fn place_shard<'a>(
     })
 }
 
-/// The union of the records of two shards.
+/// The union of the records of two parts.
 pub fn unite_lists<'a>(
     alloc: Global,
     arena: &'a Bump,
-    first: &PlacedShard<'a>,
-    second: &PlacedShard<'a>,
+    first: &Listed<'a>,
+    second: &Listed<'a>,
 ) -> Result<PlacedShard<'a>>
-    ensures { (one other : Records) → MayBeUnited first.now one → MayBeUnited second.now other
-        → MatchResult result
+    ensures { (one other : Records) → MayBeUnited (shard_in first.now) one
+        → MayBeUnited (shard_in second.now) other → MatchResult result
         (λ shard. (made : Records) × AreCombined IsEitherFile IsEitherXorb one other made
-        × PlacesRecords shard made × (shard.key ≡ first.now.key))
+        × PlacesRecords shard made × (shard.key ≡ (shard_in first.now).key))
         (λ e. (e ≡ OutOfMemory) ⊎ (IsInvalidShard e × HaveNoRecordUnion one other)) }
 {
-    let files = unite_placed::<MDBFileInfo, OfUnion>(
-        alloc,
-        arena,
-        first.files.as_slice(),
-        second.files.as_slice(),
-    )?;
-    let xorbs = unite_placed::<MDBXorbInfo, OfUnion>(
-        alloc,
-        arena,
-        first.xorbs.as_slice(),
-        second.xorbs.as_slice(),
-    )?;
+    let files = unite_placed::<MDBFileInfo, OfUnion>(alloc, arena, first.files(), second.files())?;
+    let xorbs = unite_placed::<MDBXorbInfo, OfUnion>(alloc, arena, first.xorbs(), second.xorbs())?;
     Ok(PlacedShard {
-        key: first.key,
+        key: first.key(),
         files,
         xorbs,
     })
@@ -215,6 +297,7 @@ pub fn part_bytes(alloc: Global, part: Part<'_>) -> Result<Vec<u8>>
 {
     match part {
         Part::Input(bytes) => Ok(Vec::from_slice(alloc, bytes)?),
+        Part::Placed(bytes, _) => Ok(Vec::from_slice(alloc, bytes)?),
         Part::United(shard) => shard_bytes(alloc, &shard),
     }
 }
@@ -242,6 +325,7 @@ pub fn fill_with_part(alloc: Global, part: Part<'_>, out: &mut [u8]) -> Result<u
 {
     match part {
         Part::Input(bytes) => Ok(fill_with(out, bytes)),
+        Part::Placed(bytes, _) => Ok(fill_with(out, bytes)),
         Part::United(shard) => fill_with_shard(alloc, &shard, out),
     }
 }

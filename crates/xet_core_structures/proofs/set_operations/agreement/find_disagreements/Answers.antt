@@ -1,17 +1,10 @@
-use Rattle.std.proofs.Common.{◌≡◌, ℕ, List, ◌++◌, map, sym, ◌∙◌, subst}
+use Rattle.std.proofs.Common.{ℕ, List, map}
 use Rattle.std.specs.Borrow.{Bor}
-use Rattle.xet_core_structures.specs.declared.set_operations.agreement.RecordHash.TheVariants.{File, Xorb}
-use Rattle.xet_core_structures.specs.Agreement.Agreement.{HasAllDisagreements, disagreement_of}
-use Rattle.xet_core_structures.specs.Steps.ByteResults.{Records}
-use Rattle.xet_core_structures.proofs.Agreement.AgreeingInputs.{lists_of, files_lie, xorbs_lie, all_disagreements}
+use Rattle.xet_core_structures.specs.Agreement.Agreement.{HasAllDisagreements}
+use Rattle.xet_core_structures.proofs.Agreement.AgreeingInputs.{or_no_memory}
 use Rattle.xet_core_structures.proofs.set_operations.agreement.find_disagreements.Goals as goal
 
 pub returns : goal.returns
 returns c =
     let inputs : List (List ℕ) = map (λ (x : Bor (List ℕ)). x.now) c.args.inputs.now in
-    let placed = c.in_ok-placed.ensures in
-    let files = c.in_ok-files.ensures (lists_of (λ (r : Records). r.files) placed.shards inputs placed.each) (files_lie inputs c.in_ok-placed.placed placed c.as_slice.result.now c.as_slice.ensures.value) in
-    let xorbs = c.in_ok-xorbs.ensures (lists_of (λ (r : Records). r.xorbs) placed.shards inputs placed.each) (xorbs_lie inputs c.in_ok-placed.placed placed c.as_slice-2.result.now c.as_slice-2.ensures.value) in
-    let found_is : c.add_all-2.new.found.items ≡ map (disagreement_of File) c.in_ok-files.files.items ++ map (disagreement_of Xorb) c.in_ok-xorbs.xorbs.items =
-    c.in_ok-add_all-2.ensures.ok ∙ (λ i. (c.in_ok-add_all.ensures.ok ∙ (λ j. c.new-found.ensures.items j ++ map (disagreement_of File) (c.as_slice-3.ensures.value j))) i ++ map (disagreement_of Xorb) (c.as_slice-4.ensures.value i)) in
-    subst (HasAllDisagreements inputs) (sym found_is) (all_disagreements placed.shards inputs placed.each c.in_ok-files.files.items c.in_ok-xorbs.xorbs.items files xorbs)
+    or_no_memory (λ found. HasAllDisagreements inputs found.items) inputs c.disagreements_of.result (c.disagreements_of.ensures.ok inputs c.in_ok-placed.ensures) c.disagreements_of.ensures.causes

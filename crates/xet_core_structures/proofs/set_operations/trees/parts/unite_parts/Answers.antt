@@ -1,5 +1,6 @@
 use Rattle.std.proofs.Common.{◌≡◌, inl, inr, refl, sym, ◌∙◌, true≢false}
 use Rattle.std.proofs.lemmas.Result.{err_from_is_err_and}
+use Rattle.xet_core_structures.specs.Steps.Parts.{shard_in}
 use Rattle.xet_core_structures.specs.TwoShards.ByteResults.{key_of}
 use Rattle.xet_core_structures.proofs.Trees.Parts.{first_refused, second_refused, may_be_united, lists_refused, shards_united}
 use Rattle.xet_core_structures.proofs.set_operations.trees.parts.unite_parts.Goals as goal
@@ -57,7 +58,7 @@ returns-in_err-shard c = λ x y left right.
       inr (
         same,
         lists_refused x one.0 y other.0 first.records second.records _ first.lists second.lists
-            (c.in_err-shard.ensures first.records second.records (may_be_united x one.0 c.in_ok-first.first first) (may_be_united y other.0 c.in_ok-second.second second)),
+            (c.in_err-shard.ensures first.records second.records (may_be_united x one.0 (shard_in c.in_ok-first.first) first) (may_be_united y other.0 (shard_in c.in_ok-second.second) second)),
       ),
     )))
 
@@ -69,7 +70,7 @@ returns c = λ x y left right.
     let same : key_of one.0 ≡ key_of other.0 = sym (c.key-first_key.ensures x one.0 one.2) ∙ equal ∙ c.key-second_key.ensures y other.0 other.2 in
     let first = c.in_ok-first.ensures x one.0 one.2 in
     let second = c.in_ok-second.ensures y other.0 other.2 in
-    let found = c.in_ok-shard.ensures first.records second.records (may_be_united x one.0 c.in_ok-first.first first) (may_be_united y other.0 c.in_ok-second.second second) in
+    let found = c.in_ok-shard.ensures first.records second.records (may_be_united x one.0 (shard_in c.in_ok-first.first) first) (may_be_united y other.0 (shard_in c.in_ok-second.second) second) in
     let united = shards_united x one.0 y other.0 one.1 other.1 first.records second.records found.0 (record { same_key = same; first = first.lists; second = second.lists }) found.1
     c.in_ok-shard.shard found.2 (found.3 ∙ first.key) in
     (united.0, united.1, (united.2, united.3))
