@@ -297,6 +297,8 @@ if shutil.which("nginx"):
                 assert (remote.file.requests, remote.file.bytes) == (3, 248 + 9 * 16 + 8 * 96)
                 remote = range_reads.RemoteShard(f"http://127.0.0.1:{port}/none.mdb")
                 assert remote.find_file(hash_text("1000")) is None and remote.file.requests == 1
+else:
+    print("nginx is not there, so the server of these tests alone was asked for ranges")
 
 
 if __name__ == "__main__":
