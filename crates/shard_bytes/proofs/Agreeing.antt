@@ -1,23 +1,26 @@
 -- A merge of inputs that agree gives the bytes of the join of the shards that they hold.
-use Rattle.std.proofs.Common.{◌≡◌, ℕ, suc, ◌<◌, List, [], ◌∷◌, length, Some, refl, sym, ◌∙◌, subst, arith}
-use Rattle.std.specs.Prelude.{Contains, slice_get}
+use Rattle.std.proofs.Common.{◌≡◌, ◌⊎◌, inl, inr, ℕ, suc, ◌<◌, List, [], ◌∷◌, length, Some, Ok, Err, refl, sym, ◌∙◌, subst, arith}
+use Rattle.std.specs.Prelude.{Contains, IfOk, MatchResult, slice_get}
 use Rattle.std.specs.List.{AllZip}
 use Rattle.std.proofs.lemmas.Option.{same_Some, slice_get_within}
 use Rattle.xet_core_structures.specs.declared.merklehash.DataHash.{DataHash}
 use Rattle.xet_core_structures.specs.declared.file_structs.MDBFileInfo.{MDBFileInfo}
 use Rattle.xet_core_structures.specs.declared.xorb_structs.MDBXorbInfo.{MDBXorbInfo}
 use Rattle.xet_core_structures.specs.declared.set_operations.MergePlan.{MergePlan}
+use Rattle.xet_core_structures.specs.declared.set_operations.agreement.AgreeingMerge.{AgreeingMerge}
+use Rattle.xet_core_structures.specs.declared.set_operations.agreement.AgreeingMerge.TheVariants.{Bytes, Disagreements, Malformed}
 use Rattle.xet_core_structures.specs.declared.set_operations.agreement.Disagreement.{Disagreement}
 use Rattle.xet_core_structures.specs.declared.set_operations.agreement.MalformedRecord.{MalformedRecord}
 use Rattle.xet_core_structures.specs.declared.set_operations.agreement.RecordHash.{RecordHash}
 use Rattle.xet_core_structures.specs.declared.set_operations.agreement.RecordHash.TheVariants.{File, Xorb}
-use Rattle.xet_core_structures.specs.Agreement.Agreement.{HoldsAt, IsHeld, HasKey, HasMalformed, HoldShards, HoldMalformed, InputsAgree, InputsDisagree, HasAllDisagreements}
+use Rattle.xet_core_structures.specs.Agreement.Agreement.{HoldsAt, IsHeld, HasKey, HasMalformed, HoldShards, HoldMalformed, InputsAgree, InputsDisagree, HasAllDisagreements, InputsRefusal, MergesOrFinds}
 use Rattle.xet_core_structures.specs.FileRecord.{IsWellFormed}
 use Rattle.xet_core_structures.specs.XorbRecord.{IsXorb}
 use Rattle.xet_core_structures.specs.Records.ShardContents.{HasShard, HoldsShard}
 use Rattle.xet_core_structures.specs.Joins.{AgreePairwise}
 use Rattle.xet_core_structures.specs.Shard.{Shard, IsShard}
-use Rattle.xet_core_structures.specs.Trees.MergeTrees.{leaves}
+use Rattle.xet_core_structures.specs.Errors.{CoreResult}
+use Rattle.xet_core_structures.specs.Trees.MergeTrees.{leaves, TreeRefusal}
 use Rattle.xet_core_structures.proofs.Agreement.AgreeingTrees.{of_hash, held_agree, agreeing_tree}
 use Rattle.xet_core_structures.proofs.Agreement.Malformed.{held_formed}
 use Rattle.xet_core_structures.proofs.Records.ShardContents.{only_shard}
@@ -26,9 +29,11 @@ use Rattle.xet_core_structures.proofs.Records.Zipped.{zip_at, zip_back, zipped_m
 use Rattle.xet_core_structures.proofs.Trees.SameTrees.{join_of_same}
 use Rattle.xet_shards.proofs.Content.AgreeingJoins.{joins_exist}
 use Rattle.xet_shards.proofs.ShardInMemory.FileUnions.{holds_in_map}
-use Rattle.shard_bytes.specs.Agreeing.{IsMergeOfAgreeing, HoldNoneAgreeing}
-use Rattle.shard_bytes.specs.Merging.{MergesBytes}
+use Rattle.shard_bytes.specs.Agreeing.{MergesAgreeing, IsMergeOfAgreeing, HoldNoneAgreeing, GivesJoin}
+use Rattle.shard_bytes.specs.Merging.{IsMergePlan, MergesBytes, RefusesMerge}
+use Rattle.shard_bytes.specs.Sizes.{HasResultSize}
 use Rattle.shard_bytes.proofs.Merging.{plan_covers}
+use Rattle.shard_bytes.proofs.Sizes.{size_of_merge}
 
 module _ (shards : List Shard) (inputs : List (List ℕ)) (hold : AllZip HasShard shards inputs) where
   -- what an input holds is one of the shards, and each of them is held
@@ -113,3 +118,25 @@ module _ (inputs : List (List ℕ)) (out : List ℕ) (hold : HoldShards inputs) 
         is_join = join_of_same (Contains at.0) (Contains all.0) to_all from_all join.0 join.1;
         bytes_are = written.1;
       }
+
+-- a merge by the plan of the list is one of the list
+pub merges_agreeing : (inputs : List (List ℕ)) (plan : MergePlan) → IsMergePlan (length inputs) plan → (r : CoreResult AgreeingMerge) → MatchResult r (MergesOrFinds inputs plan) (λ e. InputsRefusal inputs e ⊎ TreeRefusal inputs plan e)
+    → MatchResult r (MergesAgreeing inputs) (λ e. InputsRefusal inputs e ⊎ RefusesMerge inputs e)
+merges_agreeing inputs plan is (Ok (Bytes bytes)) (hold, agree, writes) = (hold, agree, (plan, is, writes))
+merges_agreeing inputs plan is (Ok (Disagreements found)) (hold, some, all) = (some, all)
+merges_agreeing inputs plan is (Ok (Malformed m)) holds = holds
+merges_agreeing inputs plan is (Err e) (inl refused) = inl refused
+merges_agreeing inputs plan is (Err e) (inr refused) = inr (inr (inr (plan, is, refused)))
+
+-- what is made is the join, or there is none
+pub gives_join : (inputs : List (List ℕ)) (r : CoreResult AgreeingMerge) → MatchResult r (MergesAgreeing inputs) (λ e. InputsRefusal inputs e ⊎ RefusesMerge inputs e) → IfOk r (GivesJoin inputs)
+gives_join inputs (Ok (Bytes bytes)) (hold, agree, merges) = merge_of_agreeing inputs bytes.items hold agree merges
+gives_join inputs (Ok (Disagreements found)) (some, all) = some_disagree inputs found.items some all
+gives_join inputs (Ok (Malformed m)) holds = one_malformed inputs m holds
+gives_join inputs (Err e) refused = tt
+
+pub result_size : (inputs : List (List ℕ)) (r : CoreResult AgreeingMerge) → MatchResult r (MergesAgreeing inputs) (λ e. InputsRefusal inputs e ⊎ RefusesMerge inputs e) → IfOk r (HasResultSize inputs)
+result_size inputs (Ok (Bytes bytes)) (hold, agree, (plan, is, writes)) = size_of_merge inputs plan bytes.items is writes
+result_size inputs (Ok (Disagreements found)) is = tt
+result_size inputs (Ok (Malformed m)) is = tt
+result_size inputs (Err e) refused = tt

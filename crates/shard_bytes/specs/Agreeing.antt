@@ -7,8 +7,8 @@ use Rattle.xet_core_structures.specs.Joins.{IsJoinOf, AgreePairwise}
 use Rattle.xet_core_structures.specs.Records.ShardContents.{HasShard, HoldsShard}
 use Rattle.xet_core_structures.specs.Shard.{Shard}
 use Rattle.xet_core_structures.specs.TwoShards.ByteResults.{keyed_layout}
-use Rattle.shard_bytes.specs.declared.agree.AgreeingMerge.{AgreeingMerge}
-use Rattle.shard_bytes.specs.declared.agree.AgreeingMerge.TheVariants.{Bytes, Disagreements, Malformed}
+use Rattle.xet_core_structures.specs.declared.set_operations.agreement.AgreeingMerge.{AgreeingMerge}
+use Rattle.xet_core_structures.specs.declared.set_operations.agreement.AgreeingMerge.TheVariants.{Bytes, Disagreements, Malformed}
 use Rattle.shard_bytes.specs.Merging.{MergesBytes}
 
 -- what the merge gives: its bytes, if each input holds a well-formed shard and these agree

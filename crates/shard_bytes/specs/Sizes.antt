@@ -1,7 +1,7 @@
 -- How large results are.
 use Rattle.std.specs.Prelude.{⊤, ℕ, ◌+◌, ◌*◌, ◌≤◌, List, [], ◌∷◌, length, sum_by}
-use Rattle.shard_bytes.specs.declared.agree.AgreeingMerge.{AgreeingMerge}
-use Rattle.shard_bytes.specs.declared.agree.AgreeingMerge.TheVariants.{Bytes, Disagreements, Malformed}
+use Rattle.xet_core_structures.specs.declared.set_operations.agreement.AgreeingMerge.{AgreeingMerge}
+use Rattle.xet_core_structures.specs.declared.set_operations.agreement.AgreeingMerge.TheVariants.{Bytes, Disagreements, Malformed}
 use Rattle.shard_bytes.specs.declared.combine.Operation.{Operation}
 use Rattle.shard_bytes.specs.declared.combine.Operation.TheVariants.{Union, Difference}
 

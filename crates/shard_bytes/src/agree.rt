@@ -1,37 +1,29 @@
 //! The merge of a list of shards that have to agree.
 
 ghost use Rattle.std.specs.Prelude.{◌⊎◌, map, IfOk, MatchResult};
-ghost use Rattle.xet_core_structures.specs.Agreement.Agreement.{HoldShards, InputsRefusal};
+ghost use Rattle.xet_core_structures.specs.Agreement.Agreement.{InputsRefusal};
 ghost use Rattle.shard_bytes.specs.Agreeing.{MergesAgreeing, GivesJoin};
 ghost use Rattle.shard_bytes.specs.Merging.{RefusesMerge};
 ghost use Rattle.shard_bytes.specs.Sizes.{HasResultSize};
 
-use crate::merge::merge_bytes;
+use crate::merge::merge_plan;
 use std::alloc::Global;
-use xet_core_structures::error::Result;
-use xet_core_structures::set_operations::{
-    Disagreement, MalformedRecord, find_disagreements, find_malformed,
-};
+use xet_core_structures::error::{CoreError, Result};
+pub use xet_core_structures::set_operations::AgreeingMerge;
+use xet_core_structures::set_operations::merge_or_disagreements;
 
-/// What a merge of shards that have to agree gives.
-#[derive(Drop)]
-pub enum AgreeingMerge {
-    /// The bytes of the merge: each input holds a well-formed shard, and these agree pairwise.
-    Bytes(Vec<u8>),
-    /// The hashes under which two of the shards have records that do not agree, with two such
-    /// shards for each: at least one.
-    Disagreements(Vec<Disagreement>),
-    /// A record that no shard may have, of the first input that holds one.
-    Malformed(MalformedRecord),
-}
-
-/// The bytes of the union of one shard or more, from their bytes, as [`merge_bytes`] makes it, if
-/// each input holds a well-formed shard and these agree pairwise. Then they are the bytes of the
-/// join, under the key that all have, in any order of the list. Nothing need be known of the
-/// inputs. A malformed record is looked for first, then records that disagree.
+/// The bytes of the union of one shard or more, from their bytes, as
+/// [`merge_bytes`](crate::merge::merge_bytes) makes it, if each input holds a well-formed shard and
+/// these agree pairwise. Then they are the bytes of the join, under the key that all have, in any
+/// order of the list. Nothing need be known of the inputs, and the records of each are placed once.
 ///
-/// `InvalidArguments` if the list is empty or the keys differ. Else the errors are those of
-/// [`find_disagreements`] and [`merge_bytes`].
+/// The inputs are read one after another, up to the first that cannot be read or that holds a
+/// malformed record; so of these two, the earlier input's is answered. If there is neither, records
+/// that disagree are looked for, and then the merge is made.
+///
+/// `InvalidArguments` if the list is empty, or the keys of shards that agree differ. Else the errors
+/// are those of [`find_disagreements`](xet_core_structures::set_operations::find_disagreements) and
+/// [`merge_bytes`](crate::merge::merge_bytes).
 pub fn merge_agreeing_bytes(alloc: Global, shards: &[&[u8]]) -> Result<AgreeingMerge>
     ensures any_bytes { MatchResult result
         (MergesAgreeing (map (λ x. x.now) shards.now))
@@ -40,25 +32,9 @@ pub fn merge_agreeing_bytes(alloc: Global, shards: &[&[u8]]) -> Result<AgreeingM
     ensures one_byte_string { IfOk result (GivesJoin (map (λ x. x.now) shards.now)) }
     ensures size { IfOk result (HasResultSize (map (λ x. x.now) shards.now)) }
 {
-    match find_malformed(alloc, shards)? {
-        Some(malformed) => Ok(AgreeingMerge::Malformed(malformed)),
-        None => merge_well_formed(alloc, shards),
+    if shards.is_empty() {
+        return Err(CoreError::InvalidArguments);
     }
-}
-
-// The same of inputs that hold well-formed shards.
-fn merge_well_formed(alloc: Global, shards: &[&[u8]]) -> Result<AgreeingMerge>
-    requires { HoldShards (map (λ x. x.now) shards.now) }
-    ensures any_bytes { MatchResult result
-        (MergesAgreeing (map (λ x. x.now) shards.now))
-        (λ e. InputsRefusal (map (λ x. x.now) shards.now) e
-        ⊎ RefusesMerge (map (λ x. x.now) shards.now) e) }
-    ensures one_byte_string { IfOk result (GivesJoin (map (λ x. x.now) shards.now)) }
-    ensures size { IfOk result (HasResultSize (map (λ x. x.now) shards.now)) }
-{
-    let found = find_disagreements(alloc, shards)?;
-    if !found.is_empty() {
-        return Ok(AgreeingMerge::Disagreements(found));
-    }
-    Ok(AgreeingMerge::Bytes(merge_bytes(alloc, shards)?))
+    let plan = merge_plan(alloc, shards.len())?;
+    merge_or_disagreements(alloc, &plan, shards)
 }

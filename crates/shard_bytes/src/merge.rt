@@ -104,7 +104,7 @@ pub fn merge_range_bytes_into(
 }
 
 // The tree by which so many inputs are merged.
-fn merge_plan(alloc: Global, count: usize) -> Result<MergePlan>
+pub(crate) fn merge_plan(alloc: Global, count: usize) -> Result<MergePlan>
     requires { 0 < count }
     ensures ok { IfOk result (IsMergePlan count) }
     ensures causes { IfErr result (λ e. e ≡ CoreError.OutOfMemory) }

@@ -7,8 +7,8 @@ use Rattle.xet_core_structures.specs.declared.set_operations.agreement.RecordHas
 use Rattle.xet_core_structures.specs.Agreement.Agreement.{HasAllDisagreements, InputsRefusal}
 use Rattle.xet_core_structures.specs.Errors.{CoreResult}
 use Rattle.xet_core_structures.specs.Hash.{words_of}
-use Rattle.shard_bytes.specs.declared.agree.AgreeingMerge.{AgreeingMerge}
-use Rattle.shard_bytes.specs.declared.agree.AgreeingMerge.TheVariants.{Bytes, Disagreements, Malformed}
+use Rattle.xet_core_structures.specs.declared.set_operations.agreement.AgreeingMerge.{AgreeingMerge}
+use Rattle.xet_core_structures.specs.declared.set_operations.agreement.AgreeingMerge.TheVariants.{Bytes, Disagreements, Malformed}
 use Rattle.shard_bytes.specs.Agreeing.{MergesAgreeing, GivesJoin}
 use Rattle.shard_bytes.specs.Merging.{RefusesMerge}
 use Rattle.xet_c.specs.declared.agree.XetDisagreement.{XetDisagreement}

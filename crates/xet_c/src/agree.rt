@@ -6,7 +6,7 @@ ghost use Rattle.xet_core_structures.specs.declared.set_operations.agreement.Dis
 ghost use Rattle.xet_core_structures.specs.declared.set_operations.agreement.MalformedRecord.{MalformedRecord};
 ghost use Rattle.xet_core_structures.specs.Agreement.Agreement.{HasAllDisagreements, HoldShards, HoldMalformed, InputsRefusal};
 ghost use Rattle.xet_core_structures.specs.Errors.{CoreResult, variant_number};
-ghost use Rattle.shard_bytes.specs.declared.agree.AgreeingMerge.{AgreeingMerge};
+ghost use Rattle.xet_core_structures.specs.declared.set_operations.agreement.AgreeingMerge.{AgreeingMerge};
 ghost use Rattle.shard_bytes.specs.Sizes.{IsResultSize};
 ghost use Rattle.xet_c.specs.Agreeing.{c_record, c_disagreement, c_malformed, AreAllDisagreements, ShowsFirst, ShowsMalformed, MergesIfAgreeing, ShowsMerge};
 ghost use Rattle.xet_c.specs.Output.{Outcome};

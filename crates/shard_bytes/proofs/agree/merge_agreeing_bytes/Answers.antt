@@ -1,20 +1,23 @@
-use Rattle.std.proofs.Common.{ℕ, List, map, Bor, subst}
-use Rattle.std.specs.Prelude.{MatchOption}
-use Rattle.xet_core_structures.specs.Agreement.Agreement.{HoldShards, HoldMalformed}
-use Rattle.shard_bytes.proofs.Agreeing.{one_malformed}
+use Rattle.std.proofs.Common.{ℕ, List, map, Bor, sym, subst}
+use Rattle.std.proofs.lemmas.List.{length-map}
+use Rattle.shard_bytes.specs.Merging.{IsMergePlan}
+use Rattle.shard_bytes.proofs.Agreeing.{merges_agreeing, gives_join, result_size}
 use Rattle.shard_bytes.proofs.agree.merge_agreeing_bytes.Goals as goal
 
-pub merge_well_formed-requires : goal.merge_well_formed-requires
-merge_well_formed-requires c =
-    let inputs : List (List ℕ) = map (λ (x : Bor (List ℕ)). x.now) c.args.shards.now in
-    subst (λ o. MatchOption o (HoldShards inputs) (HoldMalformed inputs)) c.in-None.is c.in_ok-malformed.ensures
+pub returns-clause-any_bytes : goal.returns-clause-any_bytes
+returns-clause-any_bytes c =
+    let inputs = map (λ (x : Bor (List ℕ)). x.now) c.args.shards.now in
+    let is_plan = subst (λ n. IsMergePlan n c.in_ok-plan.plan) (sym (length-map c.args.shards.now (λ (x : Bor (List ℕ)). x.now))) c.in_ok-plan.ensures.ok in
+    merges_agreeing inputs c.in_ok-plan.plan is_plan c.merge_or_disagreements.result c.merge_or_disagreements.ensures
 
-pub returns-in-Some-clause-any_bytes : goal.returns-in-Some-clause-any_bytes
-returns-in-Some-clause-any_bytes c =
-    let inputs : List (List ℕ) = map (λ (x : Bor (List ℕ)). x.now) c.args.shards.now in
-    subst (λ o. MatchOption o (HoldShards inputs) (HoldMalformed inputs)) c.in-Some.is c.in_ok-malformed.ensures
+pub returns-clause-one_byte_string : goal.returns-clause-one_byte_string
+returns-clause-one_byte_string c =
+    let inputs = map (λ (x : Bor (List ℕ)). x.now) c.args.shards.now in
+    let is_plan = subst (λ n. IsMergePlan n c.in_ok-plan.plan) (sym (length-map c.args.shards.now (λ (x : Bor (List ℕ)). x.now))) c.in_ok-plan.ensures.ok in
+    gives_join inputs c.merge_or_disagreements.result (merges_agreeing inputs c.in_ok-plan.plan is_plan c.merge_or_disagreements.result c.merge_or_disagreements.ensures)
 
-pub returns-in-Some-clause-one_byte_string : goal.returns-in-Some-clause-one_byte_string
-returns-in-Some-clause-one_byte_string c =
-    let inputs : List (List ℕ) = map (λ (x : Bor (List ℕ)). x.now) c.args.shards.now in
-    one_malformed inputs c.in-Some.malformed (subst (λ o. MatchOption o (HoldShards inputs) (HoldMalformed inputs)) c.in-Some.is c.in_ok-malformed.ensures)
+pub returns-clause-size : goal.returns-clause-size
+returns-clause-size c =
+    let inputs = map (λ (x : Bor (List ℕ)). x.now) c.args.shards.now in
+    let is_plan = subst (λ n. IsMergePlan n c.in_ok-plan.plan) (sym (length-map c.args.shards.now (λ (x : Bor (List ℕ)). x.now))) c.in_ok-plan.ensures.ok in
+    result_size inputs c.merge_or_disagreements.result (merges_agreeing inputs c.in_ok-plan.plan is_plan c.merge_or_disagreements.result c.merge_or_disagreements.ensures)
