@@ -1,29 +1,41 @@
 -- Each record in bytes that no shard may have is found.
-use Rattle.std.proofs.Common.{◌≡◌, ◌⊎◌, ◌↔◌, inl, inr, Bool, ℕ, ◌+◌, ◌*◌, ◌<◌, ◌≤◌, List, [], ◌∷◌, ◌++◌, length, flat_map, drop, get_or, Some, refl, sym, ap, ◌∙◌, subst, append_assoc, add-one, drop-cons, arith}
+use Rattle.std.proofs.Common.{◌≡◌, ◌⊎◌, ◌↔◌, inl, inr, Bool, ℕ, ◌+◌, ◌*◌, ◌<◌, ◌≤◌, List, [], ◌∷◌, ◌++◌, length, flat_map, take, drop, get_or, Some, refl, sym, ap, ◌∙◌, subst, append_assoc, append-nil, add-one, drop-cons, arith}
 use Rattle.std.specs.Prelude.{All, IsTrue, slice_get, if◌then◌else◌}
-use Rattle.std.proofs.lemmas.List.{length-append, length-map, get_or-map}
+use Rattle.std.proofs.lemmas.List.{length-append, take-append-drop}
 use Rattle.std.proofs.lemmas.List.Concat.{flat_map-cons}
-use Rattle.std.proofs.lemmas.List.Sums.{get_or-le-sum_by}
+use Rattle.std.proofs.lemmas.List.Elements.{All-nil, All-cons, All-drop}
+use Rattle.std.proofs.lemmas.List.Sums.{get_or-le-sum_by, sum_by-cons}
 use Rattle.std.proofs.lemmas.Option.{same_Some, slice_get_within, slice_get-get_or}
-use Rattle.xet_base.proofs.Lists.{same_parts}
+use Rattle.xet_base.specs.declared.merklehash.DataHash.{DataHash}
+use Rattle.xet_base.specs.Bytes.{u64_bytes}
+use Rattle.xet_base.specs.Hash.{hash_bytes}
+use Rattle.xet_base.proofs.Lists.{front_is, rest_is, same_parts}
+use Rattle.xet_records.specs.declared.file_structs.rows.HashRow.{HashRow}
+use Rattle.xet_records.specs.declared.xorb_structs.XorbChunkSequenceEntry.{XorbChunkSequenceEntry}
+use Rattle.xet_records.specs.FileRow.{FitsHashRow, hash_row, segment_row}
 use Rattle.xet_records.specs.Limits.{MAX_ROWS}
 use Rattle.xet_records.specs.Part.{optional_rows}
-use Rattle.xet_records.proofs.Lengths.{length-file_record_bytes}
-use Rattle.xet_records.proofs.RecordKinds.{file_laws}
+use Rattle.xet_records.specs.RecordKind.{RecordKind, KindLaws, IsHeaderRow}
+use Rattle.xet_records.specs.Rows.{ReadsRow}
+use Rattle.xet_records.specs.XorbRecord.{total_bytes}
+use Rattle.xet_records.specs.XorbRow.{FitsChunk, chunk_row}
+use Rattle.xet_records.proofs.Lengths.{length-chunk_row, length-hash_row, length-segment_rows}
+use Rattle.xet_records.proofs.Unique.{hash_row-injective}
+use Rattle.xet_records.proofs.XorbUnique.{chunk_row-injective}
+use Rattle.xet_core_structures.specs.declared.file_structs.FileDataSequenceHeader.{FileDataSequenceHeader}
 use Rattle.xet_core_structures.specs.declared.file_structs.MDBFileInfo.{MDBFileInfo}
 use Rattle.xet_core_structures.specs.declared.xorb_structs.MDBXorbInfo.{MDBXorbInfo}
-use Rattle.xet_core_structures.specs.FileRecord.{IsStored, IsWellFormed, FitsItsHeader, as_read, file_record_bytes, row_count}
-use Rattle.xet_core_structures.specs.XorbRecord.{HasItsChunks, IsStoredXorb, IsXorb, size_of_chunks, xorb_row_count}
+use Rattle.xet_core_structures.specs.declared.xorb_structs.XorbChunkSequenceHeader.{XorbChunkSequenceHeader}
+use Rattle.xet_core_structures.specs.FileRecord.{IsWellFormed, file_records, file_rows_bytes}
+use Rattle.xet_core_structures.specs.XorbRecord.{IsXorb, size_of_chunks, xorb_records}
 use Rattle.xet_core_structures.specs.Steps.Agreement.{IsPlainHeader}
-use Rattle.xet_core_structures.proofs.Agreement.Malformed.{file_clear}
 use Rattle.xet_core_structures.proofs.Records.Items.{below_or_at}
 use Rattle.xet_shards.specs.Steps.FileStore.{AreClear}
-use Rattle.xet_shards.proofs.Read.Readback.{one_as_read}
 use Rattle.shard_bytes.specs.declared.check.Section.{Section}
 use Rattle.shard_bytes.specs.declared.check.Finding.{Finding}
 use Rattle.shard_bytes.specs.declared.check.Finding.TheVariants.{Malformed}
 use Rattle.shard_bytes.specs.Checking.{IsMalformedAt}
-use Rattle.shard_bytes.specs.Steps.Checking.{AddsFaults, AddsMalformed, AreRead, AreXorbs, IsOneRead}
+use Rattle.shard_bytes.specs.Steps.Checking.{AddsFaults, AddsMalformed, BeginsWith, HasRows}
 use Rattle.shard_bytes.proofs.Checking.{adds_as, adds_well, adds_then, adds_none, adds_if}
 
 -- what is added of the first records of a list
@@ -82,114 +94,236 @@ module _ {R : Type 0} (IsFormed : R → Type 0) (rs : List R) (section : Section
       all : FormedBefore n → All IsFormed rs
       all formed k d below = formed k (get_or rs k d) (omega (arith, past, below)) (slice_get-get_or rs k d below)
 
--- one file: it is well-formed exactly if its header is plain and it is written as it is stored
-module _ (bytes : List ℕ) (r file : MDBFileInfo) (one : IsOneRead bytes r file) where
-  pub one_whole : FitsItsHeader file
-  one_whole = subst FitsItsHeader one.returned (file_laws.as_read_stored r one.is_stored).whole
-
-  pub plain_header : IsWellFormed r → IsPlainHeader file.metadata
-  plain_header formed = subst (λ (x : MDBFileInfo). IsPlainHeader x.metadata) one.returned (formed.known_flags, formed.reserved)
-
-  pub same_rows_written : IsWellFormed r → file_record_bytes file ≡ bytes
-  same_rows_written formed = ap file_record_bytes (sym one.returned ∙ one_as_read r formed) ∙ sym one.bytes_are
-
-  pub formed_if : IsPlainHeader file.metadata → file_record_bytes file ≡ bytes → IsWellFormed r
-  formed_if plain same =
-      let as_stored : as_read r ≡ r =
-      (file_laws.front (as_read r) r [] [] (file_laws.as_read_stored r one.is_stored) one.is_stored (ap (λ bs. bs ++ []) (ap file_record_bytes one.returned ∙ same ∙ one.bytes_are))).0 in
-      let plain_too = subst (λ (x : MDBFileInfo). IsPlainHeader x.metadata) (sym one.returned) plain in
-      record {
-        is_file = one.is_stored.is_file;
-        known_flags = plain_too.0;
-        reserved = plain_too.1;
-        whole = one.is_stored.whole;
-        clear = subst (λ (x : MDBFileInfo). AreClear (optional_rows x)) as_stored (file_clear r);
-        rows = one.rows;
-        widths = one.is_stored.widths;
-      }
-
--- the rows that are left after the first files
-pub record Left (rs : List MDBFileInfo) (i : ℕ) (rest : List ℕ) : Type 0 where
+-- the rows that are left after the first records
+pub record Left {H R : Type 0} (K : RecordKind H R) (rs : List R) (i : ℕ) (rest : List ℕ) : Type 0 where
   pub tail : List ℕ
-  pub bytes_are : rest ≡ flat_map file_record_bytes (drop i rs) ++ tail
+  pub bytes_are : rest ≡ flat_map K.record_bytes (drop i rs) ++ tail
 
-pub all_left_of : (stored : List ℕ) (rs files : List MDBFileInfo) → AreRead stored rs files → Left rs 0 stored
-all_left_of stored rs files read = record { tail = read.rest; bytes_are = read.held.bytes_are }
-
-pub files_read : (stored : List ℕ) (rs files : List MDBFileInfo) → AreRead stored rs files → length files ≡ length rs
-files_read stored rs files read = ap length (sym read.returned) ∙ length-map rs as_read
+pub all_left_of : {H R : Type 0} (K : RecordKind H R) (stored : List ℕ) (rs : List R) (count : ℕ) → BeginsWith K stored rs count → Left K rs 0 stored
+all_left_of K stored rs count begins = record { tail = begins.rest; bytes_are = begins.held.bytes_are }
 
 drop_one : {X : Type 0} (xs : List X) (i : ℕ) (d : X) → i < length xs → drop i xs ≡ get_or xs i d ∷ drop (i + 1) xs
 drop_one xs i d below = rw (add-one, drop-cons xs i d) refl
 
--- the file at an index, and the rows after it
-module _ (stored : List ℕ) (rs files : List MDBFileInfo) (read : AreRead stored rs files) (i : ℕ) (file : MDBFileInfo) (low : i < length files) (is : file ≡ get_or files i file)
-    (rest : List ℕ) (left : Left rs i rest) where
-  in_rs : i < length rs
-  in_rs = omega (arith, low, files_read stored rs files read)
+pub some_of : {X : Type 0} (xs : List X) → 0 < length xs → X
+some_of [] some = absurd (omega arith)
+some_of (x ∷ xs) some = x
 
-  abbrev pub the_file : MDBFileInfo
-  the_file = get_or rs i file
+-- the record at an index, its header and the rows after it
+module _ {H R : Type 0} (K : RecordKind H R) (laws : KindLaws K) (stored : List ℕ) (rs : List R) (count : ℕ) (begins : BeginsWith K stored rs count) (i : ℕ) (low : i < count)
+    (rest : List ℕ) (left : Left K rs i rest) where
+  pub in_rs : i < length rs
+  in_rs = omega (arith, low, begins.count_is)
 
-  pub file_at : slice_get rs i ≡ Some the_file
-  file_at = slice_get-get_or rs i file in_rs
+  abbrev any : R
+  any = some_of rs (omega (arith, in_rs))
 
-  is_returned : as_read the_file ≡ file
-  is_returned = sym (get_or-map as_read rs i file file in_rs) ∙ ap (λ l. get_or l i file) read.returned ∙ sym is
+  abbrev pub the_record : R
+  the_record = get_or rs i any
 
-  is_stored_file : IsStored the_file
-  is_stored_file = read.held.are_stored i file in_rs
+  pub record_at : slice_get rs i ≡ Some the_record
+  record_at = slice_get-get_or rs i any in_rs
 
-  after_it : List ℕ
-  after_it = flat_map file_record_bytes (drop (i + 1) rs) ++ left.tail
+  is_stored : K.IsStored the_record
+  is_stored = begins.held.are_stored i any in_rs
 
-  split_rest : rest ≡ file_record_bytes the_file ++ after_it
-  unfolding after_it
+  few : K.row_count the_record ≤ MAX_ROWS
+  few = omega (arith, get_or-le-sum_by K.row_count rs i any in_rs, begins.held.rows)
+
+  abbrev first_row : List ℕ
+  first_row = K.header_bytes (K.header_of the_record)
+
+  abbrev rows_after_it : List ℕ
+  rows_after_it = K.bytes_after the_record
+
+  abbrev after_it : List ℕ
+  after_it = flat_map K.record_bytes (drop (i + 1) rs) ++ left.tail
+
+  split_rest : rest ≡ first_row ++ (rows_after_it ++ after_it)
   split_rest =
-      left.bytes_are ∙ ap (λ l. flat_map file_record_bytes l ++ left.tail) (drop_one rs i file in_rs)
-      ∙ ap (λ bs. bs ++ left.tail) (flat_map-cons file_record_bytes the_file (drop (i + 1) rs))
-      ∙ append_assoc (file_record_bytes the_file) (flat_map file_record_bytes (drop (i + 1) rs)) left.tail
+      left.bytes_are ∙ ap (λ l. flat_map K.record_bytes l ++ left.tail) (drop_one rs i any in_rs)
+      ∙ ap (λ bs. bs ++ left.tail) (flat_map-cons K.record_bytes the_record (drop (i + 1) rs))
+      ∙ append_assoc (K.record_bytes the_record) (flat_map K.record_bytes (drop (i + 1) rs)) left.tail
+      ∙ ap (λ bs. bs ++ after_it) (laws.record_bytes_are the_record)
+      ∙ append_assoc first_row rows_after_it after_it
 
-  size_of_rows : length (file_record_bytes the_file) ≡ 48 * row_count file
-  size_of_rows = length-file_record_bytes the_file is_stored_file.widths ∙ ap (λ n. 48 * n) (sym (file_laws.same_rows the_file) ∙ ap row_count is_returned)
+  pub enough : 48 ≤ length rest
+  enough = omega (arith, ap length split_rest, length-append first_row (rows_after_it ++ after_it), laws.header_size (K.header_of the_record))
 
-  pub fits_header : FitsItsHeader file
-  fits_header = subst FitsItsHeader is_returned (file_laws.as_read_stored the_file is_stored_file).whole
+  rows_left : drop 48 rest ≡ rows_after_it ++ after_it
+  rows_left = rest_is 48 rest first_row (rows_after_it ++ after_it) (laws.header_size (K.header_of the_record)) split_rest
 
-  pub few_rows : row_count file ≤ MAX_ROWS
-  few_rows = omega (arith, get_or-le-sum_by row_count rs i file in_rs, read.held.rows, file_laws.same_rows the_file, ap row_count is_returned)
+  -- the header that was read is that of the record
+  module _ (row_bytes : H → List ℕ) (Fits : H → Type 0) (as_read : H → H) (is_row : IsHeaderRow K row_bytes Fits as_read) (header : H)
+      (read : ReadsRow row_bytes Fits as_read (λ row. row ≡ take 48 (drop (48 * 0) rest)) header) where
+    same : header ≡ K.header_of the_record
+    same =
+        let bytes = sym (is_row.bytes read.stored) ∙ read.taken ∙ front_is 48 rest first_row (rows_after_it ++ after_it) (laws.header_size (K.header_of the_record)) split_rest in
+        let front = laws.header_front read.stored (K.header_of the_record) [] [] (is_row.widths read.stored read.widths) (laws.header_fits the_record is_stored) (ap (λ bs. bs ++ []) bytes) in
+        sym read.returned ∙ is_row.same read.stored ∙ front.0
 
-  pub enough_left : 48 * row_count file ≤ length rest
-  enough_left = omega (arith, size_of_rows, ap length split_rest, length-append (file_record_bytes the_file) after_it)
+    size : length rows_after_it ≡ 48 * K.rows_after header
+    size = laws.size_after the_record is_stored ∙ ap (λ h. 48 * K.rows_after h) (sym same)
 
-  pub one_read : (rows after : List ℕ) → rows ++ after ≡ rest → length rows ≡ 48 * row_count file → IsOneRead rows the_file file × Left rs (i + 1) after
-  unfolding after_it
-  one_read rows after split size =
-      let parts = same_parts rows (file_record_bytes the_file) after after_it (size ∙ sym size_of_rows) (split ∙ split_rest) in (
-        record {
-          is_stored = is_stored_file;
-          rows = omega (arith, get_or-le-sum_by row_count rs i file in_rs, read.held.rows);
-          bytes_are = parts.0;
-          returned = is_returned;
-        },
-        record { tail = left.tail; bytes_are = parts.1 },
-      )
+    pub enough_rows : 48 * K.rows_after header + 48 ≤ length rest
+    enough_rows =
+        omega (arith, size, ap length split_rest, length-append first_row (rows_after_it ++ after_it), length-append rows_after_it after_it, laws.header_size (K.header_of the_record))
 
-pub item_at : {R : Type 0} (rs : List R) (i : ℕ) (r : R) → i < length rs → r ≡ get_or rs i r → slice_get rs i ≡ Some r
-item_at rs i r low is = slice_get-get_or rs i r low ∙ ap (λ x. Some x) (sym is)
+    pub has_rows : HasRows K header (take (48 * K.rows_after header) (drop 48 rest)) the_record
+    has_rows = record {
+      is_stored = is_stored;
+      few = few;
+      header_is = same;
+      rows_are = front_is (48 * K.rows_after header) (drop 48 rest) rows_after_it after_it size rows_left;
+    }
 
-pub xorb_counted : (xorbs : List MDBXorbInfo) → AreXorbs xorbs → (i : ℕ) (x : MDBXorbInfo) → i < length xorbs → x ≡ get_or xorbs i x → HasItsChunks x
-xorb_counted xorbs are i x low is = (subst IsStoredXorb (sym is) (are.stored i x low)).count
+    pub left_after : Left K rs (i + 1) (drop (48 * K.rows_after header) (drop 48 rest))
+    left_after = record { tail = left.tail; bytes_are = rest_is (48 * K.rows_after header) (drop 48 rest) rows_after_it after_it size rows_left }
+
+-- a file is well-formed exactly if its header is plain and the rows of its parts have no reserved words
+module _ (header : FileDataSequenceHeader) (rows : List ℕ) (r : MDBFileInfo) (has : HasRows file_records header rows r) where
+  pub plain_if_formed : IsWellFormed r → IsPlainHeader header
+  plain_if_formed formed = subst IsPlainHeader (sym has.header_is) (formed.known_flags, formed.reserved)
+
+  pub formed_if : IsPlainHeader header → AreClear (optional_rows r) → IsWellFormed r
+  formed_if plain clear =
+      let plain_too = subst IsPlainHeader has.header_is plain in
+      record {
+        is_file = has.is_stored.is_file;
+        known_flags = plain_too.0;
+        reserved = plain_too.1;
+        whole = has.is_stored.whole;
+        clear = clear;
+        rows = has.few;
+        widths = has.is_stored.widths;
+      }
+
+  abbrev segments : List ℕ
+  segments = flat_map segment_row r.segments
+
+  segments_size : length segments ≡ 48 * header.num_entries
+  segments_size =
+      length-segment_rows r.segments ∙ ap (λ n. 48 * n) (has.is_stored.whole.segments ∙ ap (λ (h : FileDataSequenceHeader). h.num_entries) (sym has.header_is))
+
+  rows_split : rows ≡ segments ++ flat_map hash_row (optional_rows r)
+  unfolding file_rows_bytes
+  rows_split = has.rows_are
+
+  pub enough_segments : 48 * header.num_entries ≤ length rows
+  enough_segments = omega (arith, segments_size, ap length rows_split, length-append segments (flat_map hash_row (optional_rows r)))
+
+  pub optional_are : drop (48 * header.num_entries) rows ≡ flat_map hash_row (optional_rows r)
+  optional_are = rest_is (48 * header.num_entries) rows segments (flat_map hash_row (optional_rows r)) segments_size rows_split
 
 -- a xorb is well-formed exactly if its chunks have few bytes
-pub xorb_decides : (xorbs : List MDBXorbInfo) → AreXorbs xorbs → (i : ℕ) (x : MDBXorbInfo) → i < length xorbs → x ≡ get_or xorbs i x → (few : Bool) → (IsTrue few ↔ (size_of_chunks x ≤ 4294967295)) → IsTrue few ↔ IsXorb x
-xorb_decides xorbs are i x low is few decides = (
-  λ yes. record { is_xorb = stored.is_xorb; count = stored.count; rows = rows; bytes = decides.0 yes; widths = stored.widths },
-  λ formed. decides.1 formed.bytes,
-)
-  where
-    stored : IsStoredXorb x
-    stored = subst IsStoredXorb (sym is) (are.stored i x low)
+module _ (header : XorbChunkSequenceHeader) (rows : List ℕ) (r : MDBXorbInfo) (has : HasRows xorb_records header rows r) where
+  pub xorb_formed_if : size_of_chunks r ≤ 4294967295 → IsXorb r
+  xorb_formed_if few_bytes = record { is_xorb = has.is_stored.is_xorb; count = has.is_stored.count; rows = has.few; bytes = few_bytes; widths = has.is_stored.widths }
 
-    rows : xorb_row_count x ≤ MAX_ROWS
-    rows = omega (arith, get_or-le-sum_by xorb_row_count xorbs i x low, are.rows, ap xorb_row_count is)
+-- a row at the front of the bytes of rows is the first of them
+pub record FirstOf {T : Type 0} (row_bytes : T → List ℕ) (Fits : T → Type 0) (rows : List T) (row : T) (after : List ℕ) : Type 0 where
+  pub others : List T
+  pub rows_are : rows ≡ row ∷ others
+  pub fit : All Fits others
+  pub after_are : after ≡ flat_map row_bytes others
+
+pub first_of : {T : Type 0} (row_bytes : T → List ℕ) (Fits : T → Type 0) → ((t : T) → Fits t → length (row_bytes t) ≡ 48) → ((s t : T) → Fits s → Fits t → row_bytes s ≡ row_bytes t → s ≡ t)
+    → (rows : List T) → All Fits rows → (row : T) → Fits row → (bytes after : List ℕ) → bytes ≡ flat_map row_bytes rows → bytes ≡ row_bytes row ++ after → FirstOf row_bytes Fits rows row after
+first_of row_bytes Fits size only [] fit row fits bytes after are split =
+    let none : 0 ≡ length (row_bytes row ++ after) = ap length (sym are ∙ split) in
+    absurd (omega (arith, none, size row fits, length-append (row_bytes row) after))
+first_of row_bytes Fits size only (first ∷ others) fit row fits bytes after are split =
+    let first_fits : Fits first = fit 0 first (omega arith) in
+    let parts = same_parts (row_bytes row) (row_bytes first) after (flat_map row_bytes others) (size row fits ∙ sym (size first first_fits)) (sym split ∙ are) in
+    let same : row ≡ first = only row first fits first_fits parts.0 in
+    record {
+      others = others;
+      rows_are = ap (λ t. t ∷ others) (sym same);
+      fit = All-drop Fits 1 (first ∷ others) fit;
+      after_are = parts.1;
+    }
+
+none_left : {T : Type 0} (row_bytes : T → List ℕ) (Fits : T → Type 0) → ((t : T) → Fits t → length (row_bytes t) ≡ 48) → (rows : List T) → All Fits rows → length (flat_map row_bytes rows) < 48 → rows ≡ []
+none_left row_bytes Fits size [] fit short = refl
+none_left row_bytes Fits size (first ∷ others) fit short =
+    let both : length (row_bytes first) + length (flat_map row_bytes others) < 48 = subst (λ n. n < 48) (length-append (row_bytes first) (flat_map row_bytes others)) short in
+    absurd (omega (arith, both, size first (fit 0 first (omega arith))))
+
+-- the row of an optional part, from its hash and its reserved words
+pub joined_row : (hash : DataHash) (first second : ℕ) (bytes after_hash after_first after : List ℕ) → bytes ≡ hash_bytes hash ++ after_hash → after_hash ≡ u64_bytes first ++ after_first
+    → after_first ≡ u64_bytes second ++ after → bytes ≡ hash_row (record { hash = hash; _unused = first ∷ second ∷ [] }) ++ after
+unfolding hash_row
+joined_row hash first second bytes after_hash after_first after one two three =
+    let h = hash_bytes hash in
+    let a = u64_bytes first in
+    let b = u64_bytes second in
+    one ∙ ap (λ l. h ++ l) (two ∙ ap (λ l. a ++ l) three)
+    ∙ sym (ap (λ e. (h ++ (a ++ e)) ++ after) (append-nil b) ∙ append_assoc h (a ++ b) after ∙ ap (λ l. h ++ l) (append_assoc a b after))
+
+-- rows of optional parts, of which the last are left, and the ones before have no reserved words
+pub record ClearSoFar (stored : List HashRow) (rest : List ℕ) : Type 0 where
+  pub others : List HashRow
+  pub fit : All FitsHashRow others
+  pub rest_are : rest ≡ flat_map hash_row others
+  pub decides : AreClear others ↔ AreClear stored
+
+pub clear_at_first : (stored : List HashRow) (rows : List ℕ) → All FitsHashRow stored → rows ≡ flat_map hash_row stored → ClearSoFar stored rows
+clear_at_first stored rows fit are = record { others = stored; fit = fit; rest_are = are; decides = (λ clear. clear, λ clear. clear) }
+
+module _ (stored : List HashRow) (rest : List ℕ) (so_far : ClearSoFar stored rest) where
+  pub clear_at_last : length rest < 48 → AreClear stored
+  clear_at_last short =
+      let none = none_left hash_row FitsHashRow length-hash_row so_far.others so_far.fit (omega (arith, short, ap length so_far.rest_are)) in
+      so_far.decides.0 (subst AreClear (sym none) (All-nil (λ (row : HashRow). row._unused ≡ 0 ∷ 0 ∷ [])))
+
+  module _ (row : HashRow) (fits : FitsHashRow row) (after : List ℕ) (split : rest ≡ hash_row row ++ after) where
+    next_row : FirstOf hash_row FitsHashRow so_far.others row after
+    next_row = first_of hash_row FitsHashRow length-hash_row hash_row-injective so_far.others so_far.fit row fits rest after so_far.rest_are split
+
+    abbrev IsZero : HashRow → Type 0
+    IsZero x = x._unused ≡ 0 ∷ 0 ∷ []
+
+    pub row_is_clear : AreClear stored → row._unused ≡ 0 ∷ 0 ∷ []
+    row_is_clear clear =
+        let all : AreClear (row ∷ next_row.others) = subst AreClear next_row.rows_are (so_far.decides.1 clear) in
+        all 0 row (omega arith)
+
+    pub still_clear : row._unused ≡ 0 ∷ 0 ∷ [] → ClearSoFar stored after
+    still_clear zero = record {
+      others = next_row.others;
+      fit = next_row.fit;
+      rest_are = next_row.after_are;
+      decides = (
+        λ clear. so_far.decides.0 (subst AreClear (sym next_row.rows_are) (All-cons IsZero row next_row.others zero clear)),
+        λ clear. All-drop IsZero 1 (row ∷ next_row.others) (subst AreClear next_row.rows_are (so_far.decides.1 clear)),
+      );
+    }
+
+-- chunks, of which the last are left, and the bytes of the ones before
+pub record SumSoFar (chunks : List XorbChunkSequenceEntry) (bytes : ℕ) (rest : List ℕ) : Type 0 where
+  pub others : List XorbChunkSequenceEntry
+  pub fit : All FitsChunk others
+  pub rest_are : rest ≡ flat_map chunk_row others
+  pub sum : total_bytes chunks ≡ bytes + total_bytes others
+
+pub sum_at_first : (chunks : List XorbChunkSequenceEntry) (rows : List ℕ) → All FitsChunk chunks → rows ≡ flat_map chunk_row chunks → SumSoFar chunks 0 rows
+sum_at_first chunks rows fit are = record { others = chunks; fit = fit; rest_are = are; sum = omega arith }
+
+module _ (chunks : List XorbChunkSequenceEntry) (bytes : ℕ) (rest : List ℕ) (so_far : SumSoFar chunks bytes rest) where
+  pub sum_at_last : length rest < 48 → total_bytes chunks ≡ bytes
+  sum_at_last short =
+      let none = none_left chunk_row FitsChunk (λ c fits. length-chunk_row c) so_far.others so_far.fit (omega (arith, short, ap length so_far.rest_are)) in
+      let nothing : total_bytes so_far.others ≡ 0 = ap total_bytes none in
+      omega (arith, so_far.sum, nothing)
+
+  module _ (chunk : XorbChunkSequenceEntry) (read : ReadsRow chunk_row FitsChunk (λ c. c) (λ row. row ≡ take 48 (drop (48 * 0) rest)) chunk) where
+    next_chunk : FirstOf chunk_row FitsChunk so_far.others chunk (drop 48 rest)
+    next_chunk =
+        first_of chunk_row FitsChunk (λ c fits. length-chunk_row c) chunk_row-injective so_far.others so_far.fit chunk (subst FitsChunk read.returned read.widths) rest (drop 48 rest) so_far.rest_are
+        (sym (take-append-drop 48 rest) ∙ ap (λ bs. bs ++ drop 48 rest) (sym read.taken ∙ ap chunk_row read.returned))
+
+    pub more_bytes : SumSoFar chunks (bytes + chunk.unpacked_segment_bytes) (drop 48 rest)
+    more_bytes =
+        let more : total_bytes so_far.others ≡ chunk.unpacked_segment_bytes + total_bytes next_chunk.others =
+        ap total_bytes next_chunk.rows_are ∙ sum_by-cons (λ (c : XorbChunkSequenceEntry). c.unpacked_segment_bytes) chunk next_chunk.others in
+        record { others = next_chunk.others; fit = next_chunk.fit; rest_are = next_chunk.after_are; sum = omega (arith, so_far.sum, more) }

@@ -18,7 +18,7 @@ mod reordered;
 
 use crate::format::{Format, unsupported_for};
 use crate::load::load_bytes;
-use malformed::{push_malformed_files, push_malformed_xorbs};
+use malformed::push_malformed;
 use reordered::is_reordered;
 use std::alloc::Global;
 use std::cmp::Ordering;
@@ -27,7 +27,7 @@ use xet_core_structures::file_structs::MDBFileInfo;
 use xet_core_structures::merklehash::MerkleHash;
 use xet_core_structures::shard_format::{MDBShardFileFooter, MDBShardInfo};
 use xet_core_structures::source::{MemorySource, ShardSource};
-use xet_core_structures::xorb_structs::MDBXorbInfo;
+use xet_core_structures::xorb_structs::{MDBXorbInfo, XorbChunkSequenceHeader};
 use xet_shards::shard_writer::{LayoutOptions, write_again};
 
 // The bytes before the file section.
@@ -138,24 +138,36 @@ fn check_sections(alloc: Global, bytes: &[u8], info: &MDBShardInfo) -> Result<Ve
     ensures causes { IfErr result (λ e. e ≡ CoreError.OutOfMemory) }
 {
     let mut source = MemorySource::new(bytes);
-    // One section comes after the other, whatever the footer says.
-    let mut in_a_row = *info;
-    in_a_row.metadata.file_info_offset = HEADER_SIZE;
-    let files = match in_a_row.read_all_file_info_sections(alloc, &mut source) {
+    let files = match MDBShardInfo::read_file_info_ranges(alloc, &mut source) {
         Ok(files) => files,
         Err(error) => return unreadable(alloc, Section::Files, error),
     };
-    in_a_row.metadata.xorb_info_offset = source.position()?;
-    let xorbs = match in_a_row.read_all_xorb_blocks_full(alloc, &mut source) {
+    // The xorb section comes next, whatever the footer says.
+    let xorbs_start = source.position()?;
+    let mut after_files = *info;
+    after_files.metadata.xorb_info_offset = xorbs_start;
+    let xorbs = match after_files.read_all_xorb_blocks(alloc, &mut source) {
         Ok(xorbs) => xorbs,
         Err(error) => return unreadable(alloc, Section::Xorbs, error),
     };
-    let stored = slice(bytes, HEADER_SIZE, bytes.len() as u64);
     let mut findings = Vec::new(alloc);
     push_disorder(&mut findings, Section::Files, files.as_slice())?;
     push_disorder(&mut findings, Section::Xorbs, xorbs.as_slice())?;
-    push_malformed_files(alloc, &mut findings, files.as_slice(), stored)?;
-    push_malformed_xorbs(&mut findings, xorbs.as_slice())?;
+    let end = bytes.len() as u64;
+    let from_files = slice(bytes, HEADER_SIZE, end);
+    push_malformed::<MDBFileInfo>(
+        &mut findings,
+        Section::Files,
+        files.as_slice().len(),
+        from_files,
+    )?;
+    let from_xorbs = slice(bytes, xorbs_start, end);
+    push_malformed::<MDBXorbInfo>(
+        &mut findings,
+        Section::Xorbs,
+        xorbs.as_slice().len(),
+        from_xorbs,
+    )?;
     push_differences(alloc, &mut findings, bytes, info)?;
     Ok(findings)
 }
@@ -181,7 +193,7 @@ fn only(alloc: Global, finding: Finding) -> Result<Vec<Finding>>
     Ok(findings)
 }
 
-// A record with its hash.
+// What is read of a record, with its hash.
 trait Hashed {
     ghost hash_of: { Self → DataHash };
 
@@ -189,19 +201,27 @@ trait Hashed {
         ensures { result ≡ hash_of self.now };
 }
 
-impl Hashed for MDBFileInfo {
-    ghost hash_of = { λ file. file.metadata.file_hash };
+// A file's hash and its byte ranges.
+impl Hashed
+    for (
+        MerkleHash,
+        (u64, u64),
+        Option<(u64, u64)>,
+        Option<MerkleHash>,
+    ) {
+    ghost hash_of = { λ ranges. ranges.0 };
 
     fn record_hash(&self) -> MerkleHash {
-        self.metadata.file_hash
+        self.0
     }
 }
 
-impl Hashed for MDBXorbInfo {
-    ghost hash_of = { λ xorb. xorb.metadata.xorb_hash };
+// A xorb's header and its offset.
+impl Hashed for (XorbChunkSequenceHeader, u64) {
+    ghost hash_of = { λ located. located.0.xorb_hash };
 
     fn record_hash(&self) -> MerkleHash {
-        self.metadata.xorb_hash
+        self.0.xorb_hash
     }
 }
 

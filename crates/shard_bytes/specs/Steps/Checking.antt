@@ -1,5 +1,5 @@
 -- Steps towards what `Checking` defines, which only contracts inside the crate speak of.
-use Rattle.std.specs.Prelude.{◌≡◌, ◌≢◌, ◌⊎◌, ℕ, ◌<◌, ◌≤◌, List, [], ◌∷◌, ◌++◌, length, map, flat_map, All, Contains, Option, MatchOption}
+use Rattle.std.specs.Prelude.{◌≡◌, ◌≢◌, ◌⊎◌, ℕ, ◌<◌, ◌≤◌, List, [], ◌∷◌, ◌++◌, length, flat_map, All, Contains, Option, MatchOption}
 use Rattle.std.specs.List.Sorted.{IsPermutation, IsSortedBy, IsStrictlySortedBy}
 use Rattle.std.specs.Ordering.{is_lt}
 use Rattle.xet_core_structures.specs.declared.error.CoreError.{CoreError}
@@ -13,12 +13,11 @@ use Rattle.xet_core_structures.specs.Ends.{IsTooShort}
 use Rattle.xet_core_structures.specs.Errors.{IsInvalidShard}
 use Rattle.xet_core_structures.specs.Hash.{hash_cmp}
 use Rattle.xet_core_structures.specs.Layout.{footer_value, layout_of}
-use Rattle.xet_core_structures.specs.FileRecord.{IsStored, as_read, file_record_bytes, file_records, row_count}
 use Rattle.xet_core_structures.specs.SectionReading.{HoldsRecords}
 use Rattle.xet_core_structures.specs.WithOptions.{FitsSection}
-use Rattle.xet_core_structures.specs.XorbRecord.{IsStoredXorb, xorb_records}
+use Rattle.xet_core_structures.specs.XorbRecord.{xorb_records}
 use Rattle.xet_records.specs.Limits.{MAX_ROWS}
-use Rattle.xet_shards.specs.Write.Section.{total_rows}
+use Rattle.xet_records.specs.RecordKind.{RecordKind}
 use Rattle.xet_shards.specs.declared.shard_writer.LayoutOptions.{LayoutOptions}
 use Rattle.xet_shards.specs.Export.Rewriting.{HasSections, options_of}
 use Rattle.xet_shards.specs.Read.TableReading.{FitsTriple, triple_of}
@@ -73,23 +72,20 @@ AddsDisorder section hashes =
     AddsFaults (IsStrictlySortedBy hash_cmp hashes)
     (λ f. (n : ℕ) × (f ≡ OutOfOrder section n) × IsOutOfOrder n hashes)
 
--- these records are stored at the front of bytes, and others are what reading them returns
-pub record AreRead (bytes : List ℕ) (stored found : List MDBFileInfo) : Type 0 where
+-- bytes begin with those of these records of a section, of which there are so many
+pub record BeginsWith {H R : Type 0} (K : RecordKind H R) (bytes : List ℕ) (rs : List R) (count : ℕ)
+    : Type 0 where
   pub rest : List ℕ
-  pub held : HoldsRecords file_records bytes stored rest
-  pub returned : map as_read stored ≡ found
+  pub held : HoldsRecords K bytes rs rest
+  pub count_is : length rs ≡ count
 
--- one record is stored as these bytes, and this is what reading it returns
-pub record IsOneRead (bytes : List ℕ) (stored found : MDBFileInfo) : Type 0 where
-  pub is_stored : IsStored stored
-  pub rows : row_count stored ≤ MAX_ROWS
-  pub bytes_are : bytes ≡ file_record_bytes stored
-  pub returned : as_read stored ≡ found
-
--- these xorbs are stored in a section
-pub record AreXorbs (xorbs : List MDBXorbInfo) : Type 0 where
-  pub stored : All IsStoredXorb xorbs
-  pub rows : total_rows xorb_records xorbs ≤ MAX_ROWS
+-- a record of a section has this header, and these are the bytes of the rows after it
+pub record HasRows {H R : Type 0} (K : RecordKind H R) (header : H) (rows : List ℕ) (r : R)
+    : Type 0 where
+  pub is_stored : K.IsStored r
+  pub few : K.row_count r ≤ MAX_ROWS
+  pub header_is : header ≡ K.header_of r
+  pub rows_are : rows ≡ K.bytes_after r
 
 -- each record that no shard may have was added
 abbrev pub AddsMalformed : {R : Type 0} → Section → (R → Type 0) → List R → List Finding

@@ -1,61 +1,78 @@
 //! Records that no shard may have, though they can be read: a file with flags beside those of its
 //! optional parts, or with a reserved word that is not zero, in its header or in a row of such a
-//! part; and a xorb whose chunks have more than 4294967295 bytes together.
+//! part; and a xorb whose chunks have more than 4294967295 bytes together. They are judged where
+//! they lie: a list of records would need memory for the rows of each.
 
-ghost use Rattle.std.specs.Prelude.{◌≡◌, ◌↔◌, ◌≤◌, List, IsTrue, OnOk, IfErr, MatchResult};
+ghost use Rattle.std.specs.Prelude.{◌≡◌, ◌+◌, ◌↔◌, ◌≤◌, [], ◌∷◌, ◌++◌, List, length, flat_map, All, IsTrue, OnOk, IfErr};
 ghost use Rattle.xet_core_structures.specs.declared.error.CoreError.{CoreError};
-ghost use Rattle.xet_core_structures.specs.declared.file_structs.MDBFileInfo.{MDBFileInfo};
 ghost use Rattle.xet_core_structures.specs.FileRecord.{IsWellFormed};
 ghost use Rattle.xet_core_structures.specs.Steps.Agreement.{IsPlainHeader};
-ghost use Rattle.xet_core_structures.specs.XorbRecord.{HasItsChunks, IsXorb, size_of_chunks};
-ghost use Rattle.shard_bytes.specs.declared.check.Section.TheVariants.{Files, Xorbs};
-ghost use Rattle.shard_bytes.specs.Steps.Checking.{AddsMalformed, AreRead, AreXorbs, IsOneRead};
+ghost use Rattle.xet_core_structures.specs.XorbRecord.{IsXorb};
+ghost use Rattle.xet_records.specs.declared.file_structs.rows.HashRow.{HashRow};
+ghost use Rattle.xet_records.specs.declared.xorb_structs.XorbChunkSequenceEntry.{XorbChunkSequenceEntry};
+ghost use Rattle.xet_records.specs.FileRow.{FitsHashRow, hash_row};
+ghost use Rattle.xet_records.specs.XorbRecord.{total_bytes};
+ghost use Rattle.xet_records.specs.XorbRow.{FitsChunk, chunk_row};
+ghost use Rattle.xet_shards.specs.Steps.FileStore.{AreClear};
+ghost use Rattle.shard_bytes.specs.Steps.Checking.{AddsMalformed, BeginsWith, HasRows};
 
 use super::{Finding, Section, push_unless};
-use std::alloc::Global;
-use xet_core_structures::error::{CoreError, Result};
+use xet_base::fields::{split_hash, split_u64};
+use xet_core_structures::error::Result;
 use xet_core_structures::file_structs::{FileDataSequenceHeader, MDBFileInfo};
-use xet_core_structures::xorb_structs::MDBXorbInfo;
+use xet_core_structures::xorb_structs::{
+    MDBXorbInfo, XorbChunkSequenceEntry, XorbChunkSequenceHeader,
+};
+use xet_records::record_bytes::row;
+use xet_records::record_reader::SectionRecord;
+use xet_records::rows::ROW_SIZE;
 
-/// Adds each of these files that no shard may have. `stored` begins with the rows of all files.
-pub(super) fn push_malformed_files(
-    alloc: Global,
+/// A record that is judged by its header and the bytes of the rows after it.
+pub(super) trait Judged: SectionRecord {
+    ghost formed: { Self → Type 0 };
+
+    /// Whether a shard may have the record.
+    fn is_formed(header: &Self::Header, rows: &[u8]) -> bool
+        requires { (r : Self) × HasRows Self.kind header.now rows.now r }
+        ensures { (r : Self) → HasRows Self.kind header.now rows.now r
+            → IsTrue result ↔ formed r };
+}
+
+/// Adds each record of a section that no shard may have. `stored` begins with the rows of its
+/// records, of which there are `count`.
+pub(super) fn push_malformed<R: Judged>(
     findings: &mut Vec<Finding>,
-    files: &[MDBFileInfo],
+    section: Section,
+    count: usize,
     stored: &[u8],
 ) -> Result<()>
-    requires { (rs : List MDBFileInfo) × AreRead stored.now rs files.now }
-    ensures added { OnOk result ((rs : List MDBFileInfo) → AreRead stored.now rs files.now
-        → AddsMalformed Files IsWellFormed rs findings.old.items findings.new.items) }
+    requires { (rs : List R) × BeginsWith R.kind stored.now rs count }
+    ensures added { OnOk result ((rs : List R) → BeginsWith R.kind stored.now rs count
+        → AddsMalformed section R.formed rs findings.old.items findings.new.items) }
     ensures causes { IfErr result (λ e. e ≡ CoreError.OutOfMemory) }
 {
+    R::laws();
     let mut rest = stored;
-    for index in 0..files.len() {
-        let file = &files[index];
-        let (rows, after) = rest.split_at(file.num_bytes() as usize);
-        let formed = is_well_formed(alloc, file, rows)?;
-        push_unless(findings, formed, Finding::Malformed(Section::Files, index))?;
+    for index in 0..count {
+        let header: R::Header = row(rest, 0);
+        let (_header, rows) = rest.split_at(ROW_SIZE);
+        let (rows, after) = rows.split_at(ROW_SIZE * R::rows_after(&header) as usize);
+        let formed = R::is_formed(&header, rows);
+        push_unless(findings, formed, Finding::Malformed(section, index))?;
         rest = after;
     }
     Ok(())
 }
 
-// Whether a shard may have the file that was read from these rows. Reading returns the reserved
-// words of the rows of optional parts as zero: so if these words are zero as stored, and only then,
-// the file is written as the rows that it was read from.
-fn is_well_formed(alloc: Global, file: &MDBFileInfo, rows: &[u8]) -> Result<bool>
-    requires { (r : MDBFileInfo) × IsOneRead rows.now r file.now }
-    ensures { MatchResult result (λ yes. (r : MDBFileInfo) → IsOneRead rows.now r file.now
-        → IsTrue yes ↔ IsWellFormed r) (λ e. e ≡ CoreError.OutOfMemory) }
-{
-    if !is_plain(&file.metadata) {
-        return Ok(false);
-    }
-    let mut written = Vec::new(alloc);
-    match file.serialize(&mut written) {
-        Ok(_) => Ok(written.as_slice() == rows),
-        // Writing to a vector fails only if it is out of memory.
-        Err(_) => Err(CoreError::OutOfMemory),
+impl Judged for MDBFileInfo {
+    ghost formed = { IsWellFormed };
+
+    fn is_formed(header: &FileDataSequenceHeader, rows: &[u8]) -> bool {
+        if !is_plain(header) {
+            return false;
+        }
+        let (_segments, optional) = rows.split_at(ROW_SIZE * header.num_entries as usize);
+        are_clear(optional)
     }
 }
 
@@ -66,37 +83,65 @@ fn is_plain(header: &FileDataSequenceHeader) -> bool
     header.file_flags == header.known_flags() && header._unused == 0
 }
 
-/// Adds each of these xorbs that no shard may have.
-pub(super) fn push_malformed_xorbs(findings: &mut Vec<Finding>, xorbs: &[MDBXorbInfo]) -> Result<()>
-    requires { AreXorbs xorbs.now }
-    ensures added { OnOk result
-        (AddsMalformed Xorbs IsXorb xorbs.now findings.old.items findings.new.items) }
-    ensures causes { IfErr result (λ e. e ≡ CoreError.OutOfMemory) }
+// Whether the reserved words of these rows of optional parts are zero.
+fn are_clear(rows: &[u8]) -> bool
+    ensures { (stored : List HashRow) → All FitsHashRow stored
+        → rows.now ≡ flat_map hash_row stored → IsTrue result ↔ AreClear stored }
 {
-    for index in 0..xorbs.len() {
-        let few = has_few_bytes(&xorbs[index]);
-        push_unless(findings, few, Finding::Malformed(Section::Xorbs, index))?;
+    let mut rest = rows;
+    while rest.len() >= ROW_SIZE {
+        let (first, second, after) = split_reserved(rest);
+        if !are_zero(first, second) {
+            return false;
+        }
+        rest = after;
     }
-    Ok(())
+    true
 }
 
-// Whether the sizes of a xorb's chunks add up to a number that fits `u32`.
-fn has_few_bytes(xorb: &MDBXorbInfo) -> bool
-    requires { HasItsChunks xorb.now }
-    ensures { IsTrue result ↔ (size_of_chunks xorb.now ≤ 4294967295) }
+// The reserved words of the row of an optional part at the front of bytes, and what follows it.
+fn split_reserved(bytes: &[u8]) -> (u64, u64, &[u8])
+    requires { 48 ≤ length bytes.now }
+    ensures row { (row : HashRow) × FitsHashRow row × (row._unused ≡ result.0 ∷ result.1 ∷ [])
+        × (bytes.now ≡ hash_row row ++ result.2.now) }
+    ensures len { length result.2.now + 48 ≡ length bytes.now }
 {
-    size_of_chunks(xorb) <= u64::from(u32::MAX)
+    let (_hash, rest) = split_hash(bytes);
+    let (first, rest) = split_u64(rest);
+    let (second, rest) = split_u64(rest);
+    (first, second, rest)
 }
 
-// The sizes of a xorb's chunks, added up, in bytes.
-fn size_of_chunks(xorb: &MDBXorbInfo) -> u64
-    requires { HasItsChunks xorb.now }
-    ensures { result ≡ size_of_chunks xorb.now }
+fn are_zero(first: u64, second: u64) -> bool
+    ensures { IsTrue result ↔ ((first ≡ 0) × (second ≡ 0)) }
 {
-    prove!(xorb.chunks.len() as u64 == u64::from(xorb.metadata.num_entries));
-    let mut bytes = 0;
-    for chunk in xorb.chunks.as_slice() {
+    first == 0 && second == 0
+}
+
+impl Judged for MDBXorbInfo {
+    ghost formed = { IsXorb };
+
+    fn is_formed(_header: &XorbChunkSequenceHeader, rows: &[u8]) -> bool {
+        have_few_bytes(rows)
+    }
+}
+
+// Whether the sizes of the chunks in these rows add up to a number that fits `u32`.
+fn have_few_bytes(rows: &[u8]) -> bool
+    ensures { (chunks : List XorbChunkSequenceEntry) → All FitsChunk chunks
+        → rows.now ≡ flat_map chunk_row chunks
+        → IsTrue result ↔ (total_bytes chunks ≤ 4294967295) }
+{
+    let mut bytes = 0u64;
+    let mut rest = rows;
+    while rest.len() >= ROW_SIZE {
+        let chunk: XorbChunkSequenceEntry = row(rest, 0);
         bytes += u64::from(chunk.unpacked_segment_bytes);
+        if bytes > u64::from(u32::MAX) {
+            return false;
+        }
+        let (_chunk, after) = rest.split_at(ROW_SIZE);
+        rest = after;
     }
-    bytes
+    true
 }
