@@ -1,8 +1,9 @@
 -- The bytes of a page, as they stand among those of all.
 use Rattle.std.proofs.Common.{◌≡◌, ℕ, ◌+◌, ◌-◌, ◌*◌, ◌<◌, ◌≤◌, List, [], ◌∷◌, ◌++◌, map, length, take, drop, get_or, zero, suc, sym, ap, ◌∙◌, arith}
-use Rattle.std.specs.List.{concat}
+use Rattle.std.specs.List.{concat, enumerate_from, range_with_len}
 use Rattle.std.specs.Prelude.{Option, None, Some}
-use Rattle.std.proofs.lemmas.List.{drop-append-le, take-append-le, length-drop, length-append, length-replicate, length-take-le, drop-take, take-take}
+use Rattle.std.proofs.lemmas.List.{drop-append-le, take-append-le, length-drop, length-append, length-take-le, drop-take, take-take}
+use Rattle.std.proofs.lemmas.List.FromFn.{length-map-range_with_len, length-enumerate_from, get_or-enumerate_from}
 use Rattle.std.proofs.Math.Seq.{drop-append-add}
 use Rattle.mdb_report.specs.declared.pages.Page.{Page}
 use Rattle.mdb_report.specs.declared.pages.Pages.{Pages}
@@ -37,15 +38,20 @@ in_page P f len d (x ∷ xs) (suc k) r n below fits =
     ∙ in_page P f len d xs k r n (omega (arith, below)) fits
 
 -- a page has its length, whether it is in memory or not
-page_length : (p : Option Page) → length (page_bytes p) ≡ 16384
-page_length None = length-replicate {A = ℕ} 16384 0
-page_length (Some page) = page.whole
+length_at : (unread : ℕ → ℕ) (number : ℕ) (p : Option Page) → length (page_bytes unread number p) ≡ 16384
+length_at unread number None = length-map-range_with_len unread (number * 16384) 16384
+length_at unread number (Some page) = page.whole
+
+page_length : (unread : ℕ → ℕ) (p : ℕ × Option Page) → length (page_bytes unread p.0 p.1) ≡ 16384
+page_length unread p = length_at unread p.0 p.1
 
 -- all bytes are as many as there are
-pub size_of : (ps : Pages) → length (bytes_in ps) ≡ ps.size
-size_of ps =
-    length-take-le ps.size (concat (map page_bytes ps.pages.items))
-    (omega (arith, ps.covers, length_of_all 16384 page_bytes page_length ps.pages.items))
+pub size_of : (unread : ℕ → ℕ) (ps : Pages) → length (bytes_in unread ps) ≡ ps.size
+size_of unread ps =
+    let numbered = enumerate_from 0 ps.pages.items in
+    let f : ℕ × Option Page → List ℕ = λ p. page_bytes unread p.0 p.1 in
+    length-take-le ps.size (concat (map f numbered))
+    (omega (arith, ps.covers, length-enumerate_from 0 ps.pages.items, length_of_all 16384 f (page_length unread) numbered))
 
 before_end : (size at n : ℕ) (xs : List ℕ) → at + n ≤ size → take n (drop at (take size xs)) ≡ take n (drop at xs)
 before_end size at n xs fits =
@@ -55,11 +61,17 @@ before_end size at n xs fits =
     ∙ take-take n (size - at) (drop at xs) (omega (arith, fits))
 
 -- bytes of a page that is in memory are those of the whole
-pub bytes_of_page : (ps : Pages) (page d : Option Page) (at number from n : ℕ) → number < length ps.pages.items → page ≡ get_or ps.pages.items number d
+pub bytes_of_page : (unread : ℕ → ℕ) (ps : Pages) (page : Page) (at number from n : ℕ) → number < length ps.pages.items
+    → Some page ≡ get_or ps.pages.items number (Some page)
     → at ≡ number * 16384 + from → from + n ≤ 16384 → at + n ≤ ps.size
-    → take n (drop at (bytes_in ps)) ≡ take n (drop from (page_bytes page))
-bytes_of_page ps page d at number from n below is at_is fits within =
-    before_end ps.size at n (concat (map page_bytes ps.pages.items)) within
-    ∙ ap (λ m. take n (drop m (concat (map page_bytes ps.pages.items)))) at_is
-    ∙ in_page 16384 page_bytes page_length d ps.pages.items number from n below fits
-    ∙ ap (λ p. take n (drop from (page_bytes p))) (sym is)
+    → take n (drop at (bytes_in unread ps)) ≡ take n (drop from page.bytes.items)
+bytes_of_page unread ps page at number from n below is at_is fits within =
+    let numbered = enumerate_from 0 ps.pages.items in
+    let f : ℕ × Option Page → List ℕ = λ p. page_bytes unread p.0 p.1 in
+    let here : ℕ × Option Page = (number, Some page) in
+    let counted : number < length numbered = omega (arith, below, length-enumerate_from 0 ps.pages.items) in
+    before_end ps.size at n (concat (map f numbered)) within
+    ∙ ap (λ m. take n (drop m (concat (map f numbered)))) at_is
+    ∙ in_page 16384 f (page_length unread) here numbered number from n counted fits
+    ∙ ap (λ p. take n (drop from (f p))) (get_or-enumerate_from 0 ps.pages.items number here below)
+    ∙ ap (λ p. take n (drop from (page_bytes unread (0 + number) p))) (sym is)

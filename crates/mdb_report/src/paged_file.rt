@@ -6,17 +6,20 @@ ghost use Rattle.std.specs.declared.io.Error.{Error as DeviceError};
 ghost use Rattle.xet_core_structures.specs.Ends.{HasHeaderAndFooter};
 ghost use Rattle.xet_core_structures.specs.RunReading.{QueryRefused};
 ghost use Rattle.mdb_report.specs.Lookups.{FindingFails};
-ghost use Rattle.mdb_report.specs.Pages.{bytes_in, has_page, FindsInPages, QueriesPages, IsEndsTrouble, IsTroubleWith, FailsInPages};
+ghost use Rattle.xet_core_structures.specs.TwoShards.ByteResults.{LoadRefusal};
+ghost use Rattle.mdb_report.specs.Pages.{bytes_in, has_page, FindsInPages, QueriesPages, IsEndsTrouble, IsStop, IsTroubleWith, FailsInPages};
 
 use crate::counting::CountingSource;
 use crate::inquiry::Trouble;
 use crate::lookup::{FoundReport, RunReport};
-use crate::paged_source::PagedSource;
+use crate::paged_source::{PagedSource, Unread};
 use crate::pages::{PAGE_SIZE, Page, Pages};
 use crate::xorb_lookup::FoundXorb;
 use std::alloc::{AllocError, Global};
 use std::io;
 use std::io::{Read, Seek, SeekFrom};
+use std::marker::Brand;
+use xet_core_structures::error::CoreError;
 use xet_core_structures::merklehash::MerkleHash;
 use xet_core_structures::shard_format::MDBShardInfo;
 
@@ -30,8 +33,18 @@ const SINGLE_ROUNDS: u32 = 16;
 /// The most pages that are read in a round, as a power of two.
 const MOST_PAGES_LOG: u32 = 16;
 
+/// Why a call on the pages in memory has no answer.
+#[derive(Drop)]
+enum Stop {
+    /// It lacks the page with this number.
+    Lacks(usize),
+    /// It failed on the bytes that are there.
+    Failed(CoreError),
+}
+
 /// A file, and the pages of it that are in memory. Each call goes to them; where it lacks a page,
-/// the page is read and the call made again.
+/// the page is read and the call made again. So an answer is the same whatever bytes are in the
+/// rest of the file, which contracts call `unread`.
 #[derive(Drop)]
 pub struct PagedFile<F: Read + Seek + Drop> {
     file: F,
@@ -55,18 +68,15 @@ impl<F: Read + Seek + Drop> PagedFile<F> {
     /// `Trouble::Input` if the file is not read, `Trouble::TooManyRounds` if a page is still
     /// lacking after all the rounds.
     pub fn load(&mut self, alloc: Global) -> Result<MDBShardInfo, Trouble>
-        ensures { MatchResult result (HasHeaderAndFooter (bytes_in self.new.pages))
-            (IsEndsTrouble (bytes_in self.new.pages)) }
+        ghost unread: { ℕ → ℕ }
+        ensures { MatchResult result (HasHeaderAndFooter (bytes_in unread self.new.pages))
+            (IsEndsTrouble (bytes_in unread self.new.pages)) }
     {
         for round in 0..ROUNDS {
-            let mut source = PagedSource::new(&self.pages);
-            let error = match MDBShardInfo::load_from_reader(alloc, &mut source) {
+            match load_in_pages::<Brand>(alloc, &self.pages) {
                 Ok(info) => return Ok(info),
-                Err(error) => error,
-            };
-            match source.missing() {
-                Some(number) => self.read_from(alloc, number, round)?,
-                None => return Err(Trouble::Ends(error)),
+                Err(Stop::Failed(error)) => return Err(Trouble::Ends(error)),
+                Err(Stop::Lacks(number)) => self.read_from(alloc, number, round)?,
             }
         }
         Err(Trouble::TooManyRounds)
@@ -82,18 +92,15 @@ impl<F: Read + Seek + Drop> PagedFile<F> {
         hash: MerkleHash,
         costs: bool,
     ) -> Result<FoundReport, Trouble>
-        ensures { MatchResult result (FindsInPages info.now hash costs self.new.pages)
-            (IsTroubleWith (FailsInPages (FindingFails info.now hash) self.new.pages)) }
+        ghost unread: { ℕ → ℕ }
+        ensures { MatchResult result (FindsInPages info.now hash costs unread self.new.pages)
+            (IsTroubleWith (FailsInPages (FindingFails info.now hash) unread self.new.pages)) }
     {
         for round in 0..ROUNDS {
-            let mut source = CountingSource::new(PagedSource::new(&self.pages));
-            let error = match FoundReport::in_source(alloc, info, &mut source, hash, costs) {
+            match find_in_pages::<Brand>(alloc, &self.pages, info, hash, costs) {
                 Ok(report) => return Ok(report),
-                Err(error) => error,
-            };
-            match source.inner().missing() {
-                Some(number) => self.read_from(alloc, number, round)?,
-                None => return Err(Trouble::Shard(error)),
+                Err(Stop::Failed(error)) => return Err(Trouble::Shard(error)),
+                Err(Stop::Lacks(number)) => self.read_from(alloc, number, round)?,
             }
         }
         Err(Trouble::TooManyRounds)
@@ -110,7 +117,7 @@ impl<F: Read + Seek + Drop> PagedFile<F> {
         ensures { IfOk result (λ report. report.hash.0 ≡ hash) }
     {
         for round in 0..ROUNDS {
-            let mut source = PagedSource::new(&self.pages);
+            let mut source = PagedSource::<Brand>::new(&self.pages);
             let error = match FoundXorb::in_source(alloc, info, &mut source, hash) {
                 Ok(report) => return Ok(report),
                 Err(error) => error,
@@ -131,19 +138,16 @@ impl<F: Read + Seek + Drop> PagedFile<F> {
         info: &MDBShardInfo,
         hashes: &[MerkleHash],
     ) -> Result<RunReport, Trouble>
-        ensures { MatchResult result (QueriesPages info.now hashes.now self.new.pages)
+        ghost unread: { ℕ → ℕ }
+        ensures { MatchResult result (QueriesPages info.now hashes.now unread self.new.pages)
             (IsTroubleWith
-            (FailsInPages (QueryRefused info.now.metadata hashes.now) self.new.pages)) }
+            (FailsInPages (QueryRefused info.now.metadata hashes.now) unread self.new.pages)) }
     {
         for round in 0..ROUNDS {
-            let mut source = PagedSource::new(&self.pages);
-            let error = match RunReport::in_source(alloc, info, &mut source, hashes) {
+            match query_in_pages::<Brand>(alloc, &self.pages, info, hashes) {
                 Ok(report) => return Ok(report),
-                Err(error) => error,
-            };
-            match source.missing() {
-                Some(number) => self.read_from(alloc, number, round)?,
-                None => return Err(Trouble::Shard(error)),
+                Err(Stop::Failed(error)) => return Err(Trouble::Shard(error)),
+                Err(Stop::Lacks(number)) => self.read_from(alloc, number, round)?,
             }
         }
         Err(Trouble::TooManyRounds)
@@ -196,5 +200,64 @@ impl<F: Read + Seek + Drop> PagedFile<F> {
             self.pages.put(number, page);
         }
         Ok(())
+    }
+}
+
+// Header and footer, from the pages in memory.
+fn load_in_pages<U: Unread>(alloc: Global, pages: &Pages) -> Result<MDBShardInfo, Stop>
+    ensures { MatchResult result (HasHeaderAndFooter (bytes_in U.bytes pages.now))
+        (IsStop (LoadRefusal (bytes_in U.bytes pages.now))) }
+{
+    let mut source = PagedSource::<U>::new(pages);
+    let error = match MDBShardInfo::load_from_reader(alloc, &mut source) {
+        Ok(info) => return Ok(info),
+        Err(error) => error,
+    };
+    match source.missing() {
+        Some(number) => Err(Stop::Lacks(number)),
+        None => Err(Stop::Failed(error)),
+    }
+}
+
+// Looks up a file in the pages in memory.
+fn find_in_pages<U: Unread>(
+    alloc: Global,
+    pages: &Pages,
+    info: &MDBShardInfo,
+    hash: MerkleHash,
+    costs: bool,
+) -> Result<FoundReport, Stop>
+    ensures { MatchResult result (FindsInPages info.now hash costs U.bytes pages.now)
+        (IsStop (FailsInPages (FindingFails info.now hash) U.bytes pages.now)) }
+{
+    let mut source = CountingSource::new(PagedSource::<U>::new(pages));
+    let error = match FoundReport::in_source(alloc, info, &mut source, hash, costs) {
+        Ok(report) => return Ok(report),
+        Err(error) => error,
+    };
+    match source.inner().missing() {
+        Some(number) => Err(Stop::Lacks(number)),
+        None => Err(Stop::Failed(error)),
+    }
+}
+
+// Looks for a run of chunks in the pages in memory.
+fn query_in_pages<U: Unread>(
+    alloc: Global,
+    pages: &Pages,
+    info: &MDBShardInfo,
+    hashes: &[MerkleHash],
+) -> Result<RunReport, Stop>
+    ensures { MatchResult result (QueriesPages info.now hashes.now U.bytes pages.now)
+        (IsStop (FailsInPages (QueryRefused info.now.metadata hashes.now) U.bytes pages.now)) }
+{
+    let mut source = PagedSource::<U>::new(pages);
+    let error = match RunReport::in_source(alloc, info, &mut source, hashes) {
+        Ok(report) => return Ok(report),
+        Err(error) => error,
+    };
+    match source.missing() {
+        Some(number) => Err(Stop::Lacks(number)),
+        None => Err(Stop::Failed(error)),
     }
 }

@@ -1,18 +1,31 @@
 //! A source of which only some pages are in memory.
 
-ghost use Rattle.std.specs.Prelude.{◌≡◌, None};
-ghost use Rattle.mdb_report.specs.Pages.{bytes_in, source_of};
+ghost use Rattle.std.specs.Prelude.{◌≡◌, ℕ, ◌<◌, ◌/◌, None, Some, true, false, length, IfOk, IfErr, MatchResult};
+ghost use Rattle.xet_core_structures.specs.Source.{Fails, ReadsSome};
+ghost use Rattle.mdb_report.specs.Pages.{bytes_in, has_page, source_of};
 
 use crate::pages::{PAGE_SIZE, Pages};
 use std::io;
 use std::io::ErrorKind;
+use std::marker::{Brand, PhantomData};
 use xet_core_structures::count::Count;
 use xet_core_structures::source::ShardSource;
 
+/// The bytes of a file that are not in memory, for contracts alone. They may be any, so what is
+/// proved of an answer does not rest on them.
+pub trait Unread {
+    /// The byte at each place.
+    ghost bytes: { ℕ → ℕ };
+}
+
+impl Unread for Brand {
+    ghost bytes = { λ _. 0 };
+}
+
 /// A source of bytes of which some pages are in memory. A read elsewhere fails, and `missing` is
-/// then the number of the page that has to be read first. Contracts see zeros elsewhere.
+/// then the number of the page that has to be read first.
 #[derive(Drop)]
-pub struct PagedSource<'a> {
+pub struct PagedSource<'a, U: Unread> {
     pages: &'a Pages,
     at: u64,
     missing: Option<usize>,
@@ -20,13 +33,14 @@ pub struct PagedSource<'a> {
     read: Count,
     failures: Count,
     last_failure: Option<io::Error>,
+    unread: PhantomData<U>,
     ghost works: { missing ≡ None → failures.value ≡ 0 },
 }
 
-impl<'a> PagedSource<'a> {
+impl<'a, U: Unread> PagedSource<'a, U> {
     /// A source over pages, at position 0.
-    pub fn new(pages: &'a Pages) -> PagedSource<'a>
-        ensures { ⟦<PagedSource<'a> as ShardSource>⟧.meaning result ≡ source_of pages.now }
+    pub fn new(pages: &'a Pages) -> PagedSource<'a, U>
+        ensures { ⟦<PagedSource<'a, U> as ShardSource>⟧.meaning result ≡ source_of U.bytes pages.now }
     {
         PagedSource {
             pages,
@@ -36,6 +50,7 @@ impl<'a> PagedSource<'a> {
             read: Count::new(),
             failures: Count::new(),
             last_failure: None,
+            unread: PhantomData,
         }
     }
 
@@ -47,9 +62,9 @@ impl<'a> PagedSource<'a> {
     }
 }
 
-impl<'a> ShardSource for PagedSource<'a> {
+impl<'a, U: Unread> ShardSource for PagedSource<'a, U> {
     ghost meaning = { λ s. record {
-      bytes = bytes_in s.pages.now;
+      bytes = bytes_in U.bytes s.pages.now;
       at = s.at;
       seeks = s.seeks.value;
       read = s.read.value;
@@ -57,7 +72,21 @@ impl<'a> ShardSource for PagedSource<'a> {
       last_failure = s.last_failure;
     } };
 
-    fn read_some(&mut self, slice: &mut [u8]) -> io::Result<usize> {
+    /// Reads no further than to the end of a page.
+    fn read_some(&mut self, slice: &mut [u8]) -> io::Result<usize>
+        ensures reads { MatchResult result
+            (ReadsSome (⟦<PagedSource<'a, U> as ShardSource>⟧.meaning self.old)
+            (⟦<PagedSource<'a, U> as ShardSource>⟧.meaning self.new) slice.new)
+            (Fails (⟦<PagedSource<'a, U> as ShardSource>⟧.meaning self.old)
+            (⟦<PagedSource<'a, U> as ShardSource>⟧.meaning self.new) 0) }
+        // bytes are given only from a page that is in memory
+        ensures there { IfOk result
+            (λ n. 0 < n → has_page self.old.pages.now (self.old.at / 16384) ≡ true) }
+        // a read fails only for a page that is not, which is then the missing one
+        ensures lacks { IfErr result
+            (λ _. has_page self.old.pages.now (self.old.at / 16384) ≡ false) }
+        ensures missing { IfErr result (λ _. self.new.missing ≡ Some (self.old.at / 16384)) }
+    {
         if slice.is_empty() || self.at >= self.pages.size {
             return Ok(0);
         }

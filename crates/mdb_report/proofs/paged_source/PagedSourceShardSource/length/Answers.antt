@@ -3,4 +3,4 @@ use Rattle.mdb_report.proofs.PageBytes.{size_of}
 use Rattle.mdb_report.proofs.paged_source.PagedSourceShardSource.length.Goals as goal
 
 pub returns : goal.returns
-returns c = (sym (size_of c.args.self.now.pages.now), refl)
+returns g c = (sym (size_of g.U.Unread.bytes c.args.self.now.pages.now), refl)
