@@ -1,6 +1,6 @@
 -- The bytes of a page, as they stand among those of all.
 use Rattle.std.proofs.Common.{◌≡◌, ℕ, ◌+◌, ◌-◌, ◌*◌, ◌<◌, ◌≤◌, List, [], ◌∷◌, ◌++◌, map, length, take, drop, get_or, zero, suc, sym, ap, ◌∙◌, arith}
-use Rattle.std.specs.List.{concat, enumerate_from, range_with_len}
+use Rattle.std.specs.List.{concat, enumerate_from}
 use Rattle.std.specs.Prelude.{Option, None, Some}
 use Rattle.std.proofs.lemmas.List.{drop-append-le, take-append-le, length-drop, length-append, length-take-le, drop-take, take-take}
 use Rattle.std.proofs.lemmas.List.FromFn.{length-map-range_with_len, length-enumerate_from, get_or-enumerate_from}
@@ -51,7 +51,12 @@ size_of unread ps =
     let numbered = enumerate_from 0 ps.pages.items in
     let f : ℕ × Option Page → List ℕ = λ p. page_bytes unread p.0 p.1 in
     length-take-le ps.size (concat (map f numbered))
-    (omega (arith, ps.covers, length-enumerate_from 0 ps.pages.items, length_of_all 16384 f (page_length unread) numbered))
+    (omega (
+      arith,
+      ps.covers,
+      length-enumerate_from 0 ps.pages.items,
+      length_of_all 16384 f (page_length unread) numbered,
+    ))
 
 before_end : (size at n : ℕ) (xs : List ℕ) → at + n ≤ size → take n (drop at (take size xs)) ≡ take n (drop at xs)
 before_end size at n xs fits =

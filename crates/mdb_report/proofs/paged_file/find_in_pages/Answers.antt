@@ -7,6 +7,17 @@ use Rattle.mdb_report.proofs.paged_file.find_in_pages.Goals as goal
 pub returns-in-None : goal.returns-in-None
 returns-in-None g c =
     let s = c.in_source.new.source.source in
-    let paged : Source = record { bytes = bytes_in g.U.Unread.bytes s.pages.now; at = s.at; seeks = s.seeks.value; read = s.read.value; failures = s.failures.value; last_failure = s.last_failure } in
-    let none : s.missing ≡ None = sym (ap (λ b. b.missing) c.inner.ensures) ∙ sym c.missing.ensures ∙ c.in-None.is in
-    (paged, s.works none, subst (λ before. FindingFails c.args.info.now c.args.hash before paged c.in-Err.error) (c.new-source.ensures ∙ c.new.ensures) c.in-Err.ensures)
+    let paged : Source = record {
+      bytes = bytes_in g.U.Unread.bytes s.pages.now;
+      at = s.at;
+      seeks = s.seeks.value;
+      read = s.read.value;
+      failures = s.failures.value;
+      last_failure = s.last_failure;
+    } in
+    let none : s.missing ≡ None =
+    sym (ap (λ b. b.missing) c.inner.ensures) ∙ sym c.missing.ensures ∙ c.in-None.is in
+    let fails =
+    subst (λ before. FindingFails c.args.info.now c.args.hash before paged c.in-Err.error)
+    (c.new-source.ensures ∙ c.new.ensures) c.in-Err.ensures in
+    (paged, s.works none, fails)

@@ -1,6 +1,5 @@
 use Rattle.std.proofs.Common.{rules, ◌≡◌, ◌+◌, ◌*◌, ◌/◌, ◌%◌, ◌<◌, ◌≤◌, sym, ◌∙◌, arith}
 use Rattle.std.proofs.lemmas.Nat.{div-add-mod'}
-use Rattle.std.specs.Prelude.{Some}
 use Rattle.mdb_report.proofs.PageBytes.{size_of, bytes_of_page}
 use Rattle.mdb_report.proofs.paged_source.PagedSourceShardSource.read_some.Goals as goal
 
