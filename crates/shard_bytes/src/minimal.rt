@@ -90,7 +90,7 @@ pub fn minimal_bytes(alloc: Global, bytes: &[u8], now: u64, kept: KeptParts) -> 
 
 // Whether a file has no verification rows.
 fn lacks_verification(shard: &MDBMinimalShard) -> bool
-    ensures { IsTrue result → Any (LacksVerification true) shard.now.files }
+    ensures { IsTrue result ↔ Any (LacksVerification true) shard.now.files }
 {
     for index in 0..shard.num_files() {
         if let Some(file) = shard.file(index) {
