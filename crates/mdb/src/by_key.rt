@@ -1,10 +1,15 @@
 //! Shards that are merged by their keys.
 
+ghost use Rattle.std.specs.Prelude.{◌≡◌, IfOk};
+ghost use Rattle.mdb.specs.Keys.{distinct, under};
+
 use std::alloc::{AllocError, Global};
 use xet_core_structures::merklehash::HMACKey;
 
 /// The keys without repetitions, in the order in which they first occur.
-pub fn distinct_keys(alloc: Global, keys: &[HMACKey]) -> Result<Vec<HMACKey>, AllocError> {
+pub fn distinct_keys(alloc: Global, keys: &[HMACKey]) -> Result<Vec<HMACKey>, AllocError>
+    ensures { IfOk result (λ found. found.items ≡ distinct keys.now) }
+{
     let mut found: Vec<HMACKey> = Vec::new(alloc);
     for key in keys {
         if !found.as_slice().contains(key) {
@@ -20,7 +25,9 @@ pub fn values_under<T: Copy>(
     values: &[T],
     keys: &[HMACKey],
     key: &HMACKey,
-) -> Result<Vec<T>, AllocError> {
+) -> Result<Vec<T>, AllocError>
+    ensures { IfOk result (λ found. found.items ≡ under key.now values.now keys.now) }
+{
     let mut found = Vec::new(alloc);
     for (value, its) in values.iter().zip(keys) {
         if its == key {
