@@ -1,5 +1,7 @@
 //! Why a command ends without what was asked for.
 
+ghost use Rattle.std.specs.Prelude.{◌≡◌};
+
 use crate::files::STANDARD_STREAM;
 use mdb_report::fault::Fault;
 use mdb_report::shown::Shown;
@@ -26,7 +28,10 @@ pub struct Failure<'a> {
 
 impl<'a> Failure<'a> {
     /// A failure on a file.
-    pub fn on_file(file: &'a str, fault: Fault) -> Failure<'a> {
+    pub fn on_file(file: &'a str, fault: Fault) -> Failure<'a>
+        ensures subject { result.subject ≡ Subject.File file.entry }
+        ensures fault { result.fault ≡ fault }
+    {
         Failure {
             subject: Subject::File(file),
             fault,
@@ -57,7 +62,9 @@ impl<'a> Failure<'a> {
     }
 
     /// A failure on a path to which is written, or on standard output if it is `-`.
-    pub fn on_target(path: &'a str, fault: Fault) -> Failure<'a> {
+    pub fn on_target(path: &'a str, fault: Fault) -> Failure<'a>
+        ensures { result.fault ≡ fault }
+    {
         if path == STANDARD_STREAM {
             Failure::on_output(fault)
         } else {
@@ -66,7 +73,10 @@ impl<'a> Failure<'a> {
     }
 
     /// A failure on standard output.
-    pub fn on_output(fault: Fault) -> Failure<'a> {
+    pub fn on_output(fault: Fault) -> Failure<'a>
+        ensures subject { result.subject ≡ Subject.StandardOutput }
+        ensures fault { result.fault ≡ fault }
+    {
         Failure {
             subject: Subject::StandardOutput,
             fault,

@@ -1,5 +1,9 @@
 //! The command that merges shards.
 
+ghost use Rattle.std.specs.Prelude.{zip, MatchResult};
+ghost use Rattle.std.specs.List.{AllZip};
+ghost use Rattle.mdb.specs.Keys.{IsKeyOf, NoKeys};
+
 use crate::blame::{blamed, disagreement, malformed, on_all};
 use crate::by_key::{distinct_keys, path_under, values_under};
 use crate::compaction::merge_groups;
@@ -214,7 +218,11 @@ fn keys_of<'a>(
     alloc: Global,
     files: &[&'a str],
     inputs: &[&[u8]],
-) -> Result<Vec<HMACKey>, Failure<'a>> {
+) -> Result<Vec<HMACKey>, Failure<'a>>
+    ensures { MatchResult result
+        (λ keys. AllZip (λ p key. IsKeyOf p.1.now key) (zip files.now inputs.now) keys.items)
+        (NoKeys (zip files.now inputs.now)) }
+{
     let mut keys = Vec::new(alloc);
     for (file, bytes) in files.iter().zip(inputs) {
         let key = match load_bytes(alloc, bytes) {

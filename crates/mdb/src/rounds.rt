@@ -6,6 +6,8 @@
 //! rows are written at once. The rows of the tables wait in a second file, which is removed from its
 //! folder as soon as it is made.
 
+ghost use Rattle.std.specs.Prelude.{◌≡◌, map, IfOk};
+
 mod assembly;
 pub mod block;
 mod findings;
@@ -108,7 +110,11 @@ pub fn merge_in_rounds<
     Ok(())
 }
 
-fn keys_of(alloc: Global, shards: &[ShardFile<'_>]) -> Result<Vec<HMACKey>, AllocError> {
+// The key of each shard.
+fn keys_of(alloc: Global, shards: &[ShardFile<'_>]) -> Result<Vec<HMACKey>, AllocError>
+    ensures { IfOk result
+        (λ keys. keys.items ≡ map (λ s. s.info.metadata.chunk_hash_hmac_key) shards.now) }
+{
     let mut keys = Vec::new(alloc);
     for shard in shards {
         keys.push(shard.key())?;

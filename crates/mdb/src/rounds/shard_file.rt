@@ -1,5 +1,7 @@
 //! Shards in regular files, of which parts are read.
 
+ghost use Rattle.std.specs.Prelude.{◌≡◌};
+
 use super::Stop;
 use super::block::{Block, Mark};
 use crate::failure::Failure;
@@ -82,7 +84,9 @@ impl<'a> ShardFile<'a> {
     }
 
     /// The key of its chunk hashes.
-    pub fn key(&self) -> HMACKey {
+    pub fn key(&self) -> HMACKey
+        ensures { result ≡ self.now.info.metadata.chunk_hash_hmac_key }
+    {
         self.info.metadata.chunk_hash_hmac_key
     }
 
