@@ -1,5 +1,8 @@
 //! The commands that write a shard.
 
+ghost use Rattle.std.specs.Prelude.{MatchResult};
+ghost use Rattle.mdb.specs.Writing.{IsInVersion, RefusesVersion};
+
 use crate::beside::leftovers;
 use crate::blame::blamed;
 use crate::failure::Failure;
@@ -39,7 +42,11 @@ pub fn in_version<'a>(
     alloc: Global,
     bytes: Vec<u8>,
     target: Target<'a>,
-) -> Result<Vec<u8>, Failure<'a>> {
+) -> Result<Vec<u8>, Failure<'a>>
+    ensures { MatchResult result
+        (λ out. IsInVersion target.entry.version bytes.items out.items)
+        (λ failure. RefusesVersion target.entry.version bytes.items failure.fault) }
+{
     match target.version {
         FormatVersion::V3 => Ok(bytes),
         FormatVersion::V2 => match version_2_bytes(alloc, bytes.as_slice()) {

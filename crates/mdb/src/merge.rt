@@ -1,8 +1,12 @@
 //! The command that merges shards.
 
-ghost use Rattle.std.specs.Prelude.{zip, MatchResult};
+ghost use Rattle.std.specs.Prelude.{◌≡◌, zip, MatchResult};
 ghost use Rattle.std.specs.List.{AllZip};
+ghost use Rattle.xet_core_structures.specs.Layout.{layout};
+ghost use Rattle.xet_core_structures.specs.Shard.{Shard};
+ghost use Rattle.xet_core_structures.specs.WrittenShard.{IsBytesWithoutExpiry};
 ghost use Rattle.mdb.specs.Keys.{IsKeyOf, NoKeys};
+ghost use Rattle.mdb.specs.Writing.{HasExpiry, RefusesExpiry};
 
 use crate::blame::{blamed, disagreement, malformed, on_all};
 use crate::by_key::{distinct_keys, path_under, values_under};
@@ -288,7 +292,13 @@ fn united<'a, R: Eprint + AllocGlobal>(
 
 // The bytes that a merge wrote, with an expiry if one is wanted. It fails only if it is out of
 // memory.
-fn expiring(alloc: Global, bytes: Vec<u8>, expiry: Option<u64>) -> Result<Vec<u8>, CoreError> {
+fn expiring(alloc: Global, bytes: Vec<u8>, expiry: Option<u64>) -> Result<Vec<u8>, CoreError>
+    ensures any_bytes { MatchResult result (λ out. HasExpiry expiry bytes.items out.items)
+        (RefusesExpiry expiry bytes.items) }
+    ensures of_shard { (s : Shard) → IsBytesWithoutExpiry s bytes.items
+        → MatchResult result (λ out. out.items ≡ layout s expiry)
+        (λ e. e ≡ CoreError.OutOfMemory) }
+{
     match expiry {
         Some(expiry) => with_expiry(alloc, bytes, expiry),
         None => Ok(bytes),
