@@ -1,5 +1,9 @@
 //! Which file is why shards cannot be combined.
 
+ghost use Rattle.std.specs.Prelude.{◌≡◌, [], map, slice_get, MatchOption, MatchResult};
+ghost use Rattle.xet_core_structures.specs.Agreement.Agreement.{HoldShards, HasAllDisagreements};
+ghost use Rattle.mdb.specs.Merging.{SaysMalformed, SaysDisagree, SaysNotMerged};
+
 use crate::failure::{Failure, Subject};
 use crate::files::read_shard;
 use mdb_report::fault::{Fault, first_obstacle, has_wrong_footer};
@@ -21,7 +25,9 @@ pub fn blamed<'a>(
     files: &[&'a str],
     inputs: &[&[u8]],
     error: CoreError,
-) -> Failure<'a> {
+) -> Failure<'a>
+    ensures { error ≡ CoreError.OutOfMemory → result.fault ≡ Fault.OutOfMemory }
+{
     if error == CoreError::OutOfMemory {
         return on_all(files, Fault::OutOfMemory);
     }
@@ -106,7 +112,9 @@ pub fn without_union<'a>(alloc: Global, files: &[&'a str], inputs: &[&[u8]]) -> 
 }
 
 /// A failure on all inputs together.
-pub fn on_all<'a>(files: &[&'a str], fault: Fault) -> Failure<'a> {
+pub fn on_all<'a>(files: &[&'a str], fault: Fault) -> Failure<'a>
+    ensures { result.fault ≡ fault }
+{
     let subject = match files {
         [first, second] => Subject::Pair(first, second),
         [first, ..] => Subject::Files(first, files.len()),
@@ -120,7 +128,12 @@ pub fn disagreement<'a>(
     alloc: Global,
     files: &[&'a str],
     inputs: &[&[u8]],
-) -> Result<Option<Failure<'a>>, Failure<'a>> {
+) -> Result<Option<Failure<'a>>, Failure<'a>>
+    ensures { MatchResult result
+        (λ found. MatchOption found (HasAllDisagreements (map (λ x. x.now) inputs.now) [])
+        (SaysDisagree (map (λ x. x.now) inputs.now)))
+        (SaysNotMerged (map (λ x. x.now) inputs.now)) }
+{
     let found = match find_disagreements(alloc, inputs) {
         Ok(found) => found,
         Err(error) => return Err(blamed(alloc, files, inputs, error)),
@@ -132,11 +145,9 @@ pub fn disagreement<'a>(
 }
 
 /// What differs in the records of files: that under the first of so many hashes.
-pub fn disagreement_under<'a>(
-    files: &[&'a str],
-    first: &Disagreement,
-    count: usize,
-) -> Failure<'a> {
+pub fn disagreement_under<'a>(files: &[&'a str], first: &Disagreement, count: usize) -> Failure<'a>
+    ensures { result.fault ≡ Fault.Disagree count first.now.record_hash }
+{
     Failure {
         subject: subject_of(files, first),
         fault: Fault::Disagree(count, first.record_hash),
@@ -148,26 +159,35 @@ pub fn malformed<'a>(
     alloc: Global,
     files: &[&'a str],
     inputs: &[&[u8]],
-) -> Result<Option<Failure<'a>>, Failure<'a>> {
+) -> Result<Option<Failure<'a>>, Failure<'a>>
+    ensures { MatchResult result
+        (λ found. MatchOption found (HoldShards (map (λ x. x.now) inputs.now))
+        (SaysMalformed files.now (map (λ x. x.now) inputs.now)))
+        (SaysNotMerged (map (λ x. x.now) inputs.now)) }
+{
     let found = match find_malformed(alloc, inputs) {
         Ok(found) => found,
         Err(error) => return Err(blamed(alloc, files, inputs, error)),
     };
     match &found {
-        Some(record) => Ok(Some(malformed_in(files, record))),
+        Some(malformed) => Ok(Some(malformed_in(files, malformed))),
         None => Ok(None),
     }
 }
 
 /// The file that has a record which no shard may have, and the record.
-pub fn malformed_in<'a>(files: &[&'a str], record: &MalformedRecord) -> Failure<'a> {
-    let subject = match files.get(record.input) {
+pub fn malformed_in<'a>(files: &[&'a str], malformed: &MalformedRecord) -> Failure<'a>
+    ensures fault { result.fault ≡ Fault.Malformed malformed.now.record_hash }
+    ensures subject { MatchOption (slice_get files.now malformed.now.input)
+        (result.subject ≡ Subject.StandardOutput) (λ file. result.subject ≡ Subject.File file) }
+{
+    let subject = match files.get(malformed.input) {
         Some(file) => Subject::File(file),
         None => Subject::StandardOutput,
     };
     Failure {
         subject,
-        fault: Fault::Malformed(record.record_hash),
+        fault: Fault::Malformed(malformed.record_hash),
     }
 }
 

@@ -1,14 +1,16 @@
 //! The command that merges shards.
 
-ghost use Rattle.std.specs.Prelude.{◌≡◌, zip, MatchResult};
+ghost use Rattle.std.specs.Prelude.{◌≡◌, List, ℕ, zip, map, IfOk, MatchResult};
 ghost use Rattle.std.specs.List.{AllZip};
 ghost use Rattle.xet_core_structures.specs.Layout.{layout};
 ghost use Rattle.xet_core_structures.specs.Shard.{Shard};
 ghost use Rattle.xet_core_structures.specs.WrittenShard.{IsBytesWithoutExpiry};
+ghost use Rattle.shard_bytes.specs.Merging.{MergesBytes};
 ghost use Rattle.mdb.specs.Keys.{IsKeyOf, NoKeys};
-ghost use Rattle.mdb.specs.Writing.{HasExpiry, RefusesExpiry};
+ghost use Rattle.mdb.specs.Merging.{UnitesTo, RefusesUnion, SaysNotMerged};
+ghost use Rattle.mdb.specs.Writing.{HasExpiry, RefusesExpiry, IsInVersion};
 
-use crate::blame::{blamed, disagreement, malformed, on_all};
+use crate::blame::{blamed, disagreement, disagreement_under, malformed, malformed_in, on_all};
 use crate::by_key::{distinct_keys, path_under, values_under};
 use crate::compaction::merge_groups;
 use crate::expiry::without_expired;
@@ -22,6 +24,7 @@ use crate::rounds::merge_in_rounds;
 use crate::terminals::Terminals;
 use mdb_report::fault::{Fault, fault_of};
 use mdb_report::shown::Shown;
+use shard_bytes::agree::{AgreeingMerge, merge_agreeing_bytes};
 use shard_bytes::expiry::with_expiry;
 use shard_bytes::load::load_bytes;
 use shard_bytes::merge::merge_bytes;
@@ -247,7 +250,12 @@ pub fn merged<'a, R: Eprint + AllocGlobal>(
     inputs: &[&[u8]],
     merge: Merge<'a>,
     progress: &mut Progress,
-) -> Result<Vec<u8>, Failure<'a>> {
+) -> Result<Vec<u8>, Failure<'a>>
+    ensures { IfOk result (λ written. (union expiring : List ℕ)
+        × UnitesTo merge.entry.strictness (map (λ x. x.now) inputs.now) union
+        × HasExpiry merge.entry.expiry union expiring
+        × IsInVersion merge.entry.target.version expiring written.items) }
+{
     let bytes = united(rt, files, inputs, merge.strictness, progress)?;
     progress.clear(rt);
     match expiring(rt.alloc(), bytes, merge.expiry) {
@@ -264,16 +272,51 @@ fn united<'a, R: Eprint + AllocGlobal>(
     inputs: &[&[u8]],
     strictness: Strictness,
     progress: &mut Progress,
-) -> Result<Vec<u8>, Failure<'a>> {
+) -> Result<Vec<u8>, Failure<'a>>
+    ensures { MatchResult result
+        (λ bytes. UnitesTo strictness (map (λ x. x.now) inputs.now) bytes.items)
+        (RefusesUnion strictness files.now (map (λ x. x.now) inputs.now)) }
+{
+    match strictness {
+        Strictness::Strict => united_agreeing(rt.alloc(), files, inputs),
+        Strictness::Lenient => united_leniently(rt, files, inputs, progress),
+    }
+}
+
+// The union of inputs that hold well-formed shards and agree.
+fn united_agreeing<'a>(
+    alloc: Global,
+    files: &[&'a str],
+    inputs: &[&[u8]],
+) -> Result<Vec<u8>, Failure<'a>>
+    ensures { MatchResult result
+        (λ bytes. UnitesTo Strictness.Strict (map (λ x. x.now) inputs.now) bytes.items)
+        (RefusesUnion Strictness.Strict files.now (map (λ x. x.now) inputs.now)) }
+{
+    match merge_agreeing_bytes(alloc, inputs) {
+        Ok(AgreeingMerge::Bytes(bytes)) => Ok(bytes),
+        Ok(AgreeingMerge::Disagreements(found)) => {
+            Err(disagreement_under(files, &found[0], found.len()))
+        }
+        Ok(AgreeingMerge::Malformed(malformed)) => Err(malformed_in(files, &malformed)),
+        Err(error) => Err(blamed(alloc, files, inputs, error)),
+    }
+}
+
+// The union of inputs, with a report of a record that no shard may have and of records that differ.
+fn united_leniently<'a, R: Eprint + AllocGlobal>(
+    rt: &R,
+    files: &[&'a str],
+    inputs: &[&[u8]],
+    progress: &mut Progress,
+) -> Result<Vec<u8>, Failure<'a>>
+    ensures { MatchResult result
+        (λ bytes. MergesBytes (map (λ x. x.now) inputs.now) bytes.items)
+        (SaysNotMerged (map (λ x. x.now) inputs.now)) }
+{
     let alloc = rt.alloc();
-    let oddity = match (malformed(alloc, files, inputs)?, strictness) {
-        (Some(malformed), Strictness::Strict) => return Err(malformed),
-        (found, _) => found,
-    };
-    let choice = match (disagreement(alloc, files, inputs)?, strictness) {
-        (Some(disagreement), Strictness::Strict) => return Err(disagreement),
-        (found, _) => found,
-    };
+    let oddity = malformed(alloc, files, inputs)?;
+    let choice = disagreement(alloc, files, inputs)?;
     match merge_bytes(alloc, inputs) {
         Ok(bytes) => {
             if let Some(malformed) = &oddity {
