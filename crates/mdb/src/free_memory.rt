@@ -3,14 +3,17 @@
 use std::fs;
 use std::rt::Files;
 
-/// Where the system says what memory is free or can be freed, and what room there is on disks.
+/// Where the system says what memory is free or can be freed, and how much swap is free.
 const SYSTEM: &str = "/proc/meminfo";
 
 /// Where it says what limits this program has.
 const PROGRAM: &str = "/proc/self/limits";
 
-/// Where it says what limit the container has in which the program runs.
+/// Where it says what memory the container may have in which the program runs.
 const CONTAINER: &str = "/sys/fs/cgroup/memory.max";
+
+/// Where it says what swap the container may have beside its memory.
+const CONTAINER_SWAP: &str = "/sys/fs/cgroup/memory.swap.max";
 
 /// The memory that this program can get, in bytes, as far as the system says: at most so much.
 pub fn free_memory<R: Files + AllocGlobal>(rt: &R) -> u64 {
@@ -22,8 +25,9 @@ pub fn free_memory<R: Files + AllocGlobal>(rt: &R) -> u64 {
         _ => u64::MAX,
     };
     let limit = number_in(rt, PROGRAM, "Max address space").unwrap_or(u64::MAX);
-    let container = number_in(rt, CONTAINER, "").unwrap_or(u64::MAX);
-    free.min(limit).min(container)
+    let memory = number_in(rt, CONTAINER, "").unwrap_or(u64::MAX);
+    let swap = number_in(rt, CONTAINER_SWAP, "").unwrap_or(u64::MAX);
+    free.min(limit).min(memory.saturating_add(swap))
 }
 
 // The number that a file of the system has after a name, at the start of a line. `None` also if

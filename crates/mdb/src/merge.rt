@@ -29,6 +29,7 @@ use shard_bytes::expiry::with_expiry;
 use shard_bytes::load::load_bytes;
 use shard_bytes::merge::merge_bytes;
 use std::alloc::{AllocError, Global};
+use std::fs;
 use std::random::RandomSource;
 use std::rt::{Clock, Files};
 use xet_core_structures::error::CoreError;
@@ -94,11 +95,31 @@ fn merge_in_memory<
 
 // Whether the shards in some regular files have more bytes together than there is memory for.
 fn exceed_memory<R: Files + AllocGlobal>(rt: &R, files: &[&str]) -> bool {
+    let room = free_memory(rt);
+    // Ends of files say which are read whole. They are read only where the sizes are too large.
+    size_of_files(rt, files) > room && size_of_shards(rt, files) > room
+}
+
+// The number of bytes that some regular files have together.
+fn size_of_files<R: Files>(rt: &R, files: &[&str]) -> u64 {
+    let mut size = 0u64;
+    for file in files {
+        let more = match fs::metadata(rt, file) {
+            Ok(there) if there.is_file() => there.len(),
+            _ => 0,
+        };
+        size = size.saturating_add(more);
+    }
+    size
+}
+
+// The number of bytes that are read of some regular files together.
+fn size_of_shards<R: Files + AllocGlobal>(rt: &R, files: &[&str]) -> u64 {
     let mut size = 0u64;
     for file in files {
         size = size.saturating_add(size_at(rt, file));
     }
-    size > free_memory(rt)
+    size
 }
 
 // The number of bytes that are read of a regular file; 0 of anything else.
