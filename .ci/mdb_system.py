@@ -390,7 +390,7 @@ def merge_in_parts_takes_little_memory(place):
     wants("in parts", (run.returncode, run.stderr) == (0, b""))
 
 
-def merge_of_more_than_memory_reads_nothing(place):
+def merge_of_more_than_memory_reads_ends_alone(place):
     # Shards of 1 TB together, of which only the ends are on the disk.
     for name in ("one.mdb", "two.mdb"):
         place.write(name, place.made["one_file.mdb"])
@@ -510,7 +510,7 @@ ROWS = (
     lists_name_shards, names_in_folders_are_reported, what_is_no_shard_is_not_read_whole,
     large_file_is_not_read_whole, controls_are_not_printed, closed_pipe_ends_quietly, terminal_gets_no_shard,
     terminal_shows_progress, now_is_the_clock, merge_in_parts_is_the_merge, merge_in_parts_takes_little_memory,
-    merge_of_more_than_memory_reads_nothing, failed_merge_in_parts_leaves_the_target,
+    merge_of_more_than_memory_reads_ends_alone, failed_merge_in_parts_leaves_the_target,
     killed_merge_in_parts_leaves_one_file, merge_in_parts_wants_regular_files, groups_are_named_by_their_bytes,
     lists_may_end_with_zero_bytes, pages_have_all_commands,
 )
