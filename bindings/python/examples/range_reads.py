@@ -2,8 +2,8 @@
 """Looks files and runs of chunks up in shards on a web server, of which it reads parts.
 
 A lookup takes three requests at most: for both ends of the shard, which say where the tables are, for a table, and for
-the records to which its rows lead. Ends and tables are kept, so one more lookup takes one request. The server has to
-know ranges, and several in one request, as nginx does; one that does not sends the whole shard, once.
+the records to which its rows lead. Ends and tables are kept, so one more lookup in a table takes one request. The
+server has to know ranges, and several in one request, as nginx does; one that does not sends the whole shard, once.
 """
 from __future__ import annotations
 
@@ -205,8 +205,8 @@ def main() -> None:
     parser.add_argument("--chunks", nargs="+", metavar="HASH", help="the chunks of which a run is looked for")
     given = parser.parse_args()
     for url in given.urls:
-        shard = RemoteShard(url)
         try:
+            shard = RemoteShard(url)
             print(f"{url}: {shard.info.files} files, {shard.info.xorbs} xorbs, {shard.info.chunks} chunks")
             if given.file:
                 file = shard.find_file(given.file)

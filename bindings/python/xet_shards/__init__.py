@@ -63,6 +63,8 @@ _KINDS = (
 ).split()
 _PARTS = "header file_section xorb_section file_table xorb_table chunk_table footer".split()
 _NUMBERED = (2, 7, 9, 10)
+_IO = 1
+_INTERNAL_ERROR = 2
 _INVALID_SHARD = 11
 _INVALID_ARGUMENTS = 13
 _SHORT = 19

@@ -7,18 +7,15 @@ import os
 from typing import Iterator, List, Optional, Sequence, Tuple, TypeVar, Union
 
 from . import (
-    File, Finding, Info, ListedFile, Run, Table, XetError, Xorb, check, chunk_rows, eligible, export, file_at, files,
-    find_file, find_rows, load, minimal, query_at, query_chunks, subset, table, write_v2, xorb_at, xorbs,
+    _INTERNAL_ERROR, _IO, File, Finding, Info, ListedFile, Run, Table, XetError, Xorb, check, chunk_rows, eligible,
+    export, file_at, files, find_file, find_rows, load, minimal, query_at, query_chunks, subset, table, write_v2, xorb_at,
+    xorbs,
 )
+from .ranges import _TABLE_ROW
 
 Path = Union[str, bytes, "os.PathLike[str]", "os.PathLike[bytes]"]
 
 _Record = TypeVar("_Record")
-
-# The bytes of a row of the table of xorbs.
-_TABLE_ROW = 12
-# The numbers of errors.
-_IO, _INTERNAL_ERROR = 1, 2
 
 
 def open(path: Path) -> Shard:
@@ -34,7 +31,8 @@ class Shard:
     """A shard in a file, which `open` maps to memory. It is a context manager, which closes it at its end.
 
     A method does what the function of its name does with the bytes. A shard can also be given to any function that
-    takes the bytes of one, as to `merge`, and be added to an `Index`.
+    takes the bytes of one, as to `merge`, and be added to an `Index`. `find_xorb` has no such function: it is made of
+    `find_rows` and `xorb_at`, and no part of the library that is proved.
 
     When it is closed, all but `close`, `closed` and `path` is a `ValueError`, and so is going on with `files` and
     `xorbs`. If a call in another thread, such a walk, or a `memoryview` of `buffer` still has the bytes, they stay

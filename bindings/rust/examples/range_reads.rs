@@ -2,8 +2,9 @@
 //! range_reads URL file HASH, or range_reads URL chunks HASH..
 //!
 //! A lookup takes three requests at most: for both ends of the shard, which say where the tables are, for a table, and
-//! for the records to which its rows lead. Ends and tables are kept, so one more lookup takes one request. The server
-//! has to know ranges, and several in one request, as nginx does; one that does not sends the whole shard, once.
+//! for the records to which its rows lead. Ends and tables are kept, so one more lookup in a table takes one request.
+//! The server has to know ranges, and several in one request, as nginx does; one that does not sends the whole shard,
+//! once.
 
 use std::collections::{BTreeMap, BTreeSet};
 use std::env;
