@@ -169,8 +169,9 @@ def run_tests(file, named, python=sys.executable):
     """Returns how many Python tests of a file passed, and what is wrong with those that failed."""
     printed, why = ran(python, f"{MODULE}/tests/{file}", env=named)
     lines = printed.splitlines()
-    counts = re.fullmatch(r"(\d+) passed, (\d+) failed", lines[-1] if lines else "")
-    # Workers of a cluster print as well.
+    # Workers of a cluster print as well, and some after the tests have ended.
+    found = [it for it in (re.fullmatch(r"(\d+) passed, (\d+) failed", line) for line in lines) if it]
+    counts = found[-1] if found else None
     failed = [it for it in lines if it.startswith("test_")] if counts and counts[2] != "0" else []
     if not counts or (why and not failed) or counts[1] == "0":
         return 0, [why or "the Python tests end without their counts"]
