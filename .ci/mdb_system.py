@@ -384,8 +384,8 @@ def merge_in_parts_takes_little_memory(place):
         resource.setrlimit(resource.RLIMIT_AS, (room, room))
 
     run = place.run("merge", "many", "-o", "out.mdb", preexec_fn=little_room)
-    said = b"120 files, many/0.mdb the first: out of memory: with --memory SIZE a merge takes about that much\n"
-    wants("in one", (run.returncode, run.stderr) == (1, said))
+    said = b": out of memory: with --memory SIZE a merge takes about that much\n"
+    wants("in one", run.returncode == 1 and run.stderr.endswith(said))
     run = place.run("merge", "many", "--memory", "1M", "-o", "out.mdb", preexec_fn=little_room)
     wants("in parts", (run.returncode, run.stderr) == (0, b""))
 
