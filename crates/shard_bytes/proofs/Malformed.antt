@@ -1,27 +1,23 @@
 -- Each record in bytes that no shard may have is found.
 use Rattle.std.proofs.Common.{◌≡◌, ◌⊎◌, ◌↔◌, inl, inr, Bool, ℕ, ◌+◌, ◌*◌, ◌<◌, ◌≤◌, List, [], ◌∷◌, ◌++◌, length, flat_map, take, drop, get_or, Some, refl, sym, ap, ◌∙◌, subst, append_assoc, append-nil, add-one, drop-cons, arith}
 use Rattle.std.specs.Prelude.{All, IsTrue, slice_get, if◌then◌else◌}
-use Rattle.std.proofs.lemmas.List.{length-append, take-append-drop}
+use Rattle.std.proofs.lemmas.List.{length-append}
 use Rattle.std.proofs.lemmas.List.Concat.{flat_map-cons}
 use Rattle.std.proofs.lemmas.List.Elements.{All-nil, All-cons, All-drop}
-use Rattle.std.proofs.lemmas.List.Sums.{get_or-le-sum_by, sum_by-cons}
+use Rattle.std.proofs.lemmas.List.Sums.{get_or-le-sum_by}
 use Rattle.std.proofs.lemmas.Option.{same_Some, slice_get_within, slice_get-get_or}
 use Rattle.xet_base.specs.declared.merklehash.DataHash.{DataHash}
 use Rattle.xet_base.specs.Bytes.{u64_bytes}
 use Rattle.xet_base.specs.Hash.{hash_bytes}
-use Rattle.xet_base.proofs.Lists.{front_is, rest_is, same_parts}
+use Rattle.xet_base.proofs.Lists.{front_is, rest_is}
 use Rattle.xet_records.specs.declared.file_structs.rows.HashRow.{HashRow}
-use Rattle.xet_records.specs.declared.xorb_structs.XorbChunkSequenceEntry.{XorbChunkSequenceEntry}
 use Rattle.xet_records.specs.FileRow.{FitsHashRow, hash_row, segment_row}
 use Rattle.xet_records.specs.Limits.{MAX_ROWS}
 use Rattle.xet_records.specs.Part.{optional_rows}
 use Rattle.xet_records.specs.RecordKind.{RecordKind, KindLaws, IsHeaderRow}
 use Rattle.xet_records.specs.Rows.{ReadsRow}
-use Rattle.xet_records.specs.XorbRecord.{total_bytes}
-use Rattle.xet_records.specs.XorbRow.{FitsChunk, chunk_row}
-use Rattle.xet_records.proofs.Lengths.{length-chunk_row, length-hash_row, length-segment_rows}
+use Rattle.xet_records.proofs.Lengths.{length-hash_row, length-segment_rows}
 use Rattle.xet_records.proofs.Unique.{hash_row-injective}
-use Rattle.xet_records.proofs.XorbUnique.{chunk_row-injective}
 use Rattle.xet_core_structures.specs.declared.file_structs.FileDataSequenceHeader.{FileDataSequenceHeader}
 use Rattle.xet_core_structures.specs.declared.file_structs.MDBFileInfo.{MDBFileInfo}
 use Rattle.xet_core_structures.specs.declared.xorb_structs.MDBXorbInfo.{MDBXorbInfo}
@@ -29,6 +25,7 @@ use Rattle.xet_core_structures.specs.declared.xorb_structs.XorbChunkSequenceHead
 use Rattle.xet_core_structures.specs.FileRecord.{IsWellFormed, file_records, file_rows_bytes}
 use Rattle.xet_core_structures.specs.XorbRecord.{IsXorb, size_of_chunks, xorb_records}
 use Rattle.xet_core_structures.specs.Steps.Agreement.{IsPlainHeader}
+use Rattle.xet_core_structures.proofs.Records.FrontRows.{FirstOf, first_of, none_left}
 use Rattle.xet_core_structures.proofs.Records.Items.{below_or_at}
 use Rattle.xet_shards.specs.Steps.FileStore.{AreClear}
 use Rattle.shard_bytes.specs.declared.check.Section.{Section}
@@ -220,35 +217,6 @@ module _ (header : XorbChunkSequenceHeader) (rows : List ℕ) (r : MDBXorbInfo) 
   pub xorb_formed_if : size_of_chunks r ≤ 4294967295 → IsXorb r
   xorb_formed_if few_bytes = record { is_xorb = has.is_stored.is_xorb; count = has.is_stored.count; rows = has.few; bytes = few_bytes; widths = has.is_stored.widths }
 
--- a row at the front of the bytes of rows is the first of them
-pub record FirstOf {T : Type 0} (row_bytes : T → List ℕ) (Fits : T → Type 0) (rows : List T) (row : T) (after : List ℕ) : Type 0 where
-  pub others : List T
-  pub rows_are : rows ≡ row ∷ others
-  pub fit : All Fits others
-  pub after_are : after ≡ flat_map row_bytes others
-
-pub first_of : {T : Type 0} (row_bytes : T → List ℕ) (Fits : T → Type 0) → ((t : T) → Fits t → length (row_bytes t) ≡ 48) → ((s t : T) → Fits s → Fits t → row_bytes s ≡ row_bytes t → s ≡ t)
-    → (rows : List T) → All Fits rows → (row : T) → Fits row → (bytes after : List ℕ) → bytes ≡ flat_map row_bytes rows → bytes ≡ row_bytes row ++ after → FirstOf row_bytes Fits rows row after
-first_of row_bytes Fits size only [] fit row fits bytes after are split =
-    let none : 0 ≡ length (row_bytes row ++ after) = ap length (sym are ∙ split) in
-    absurd (omega (arith, none, size row fits, length-append (row_bytes row) after))
-first_of row_bytes Fits size only (first ∷ others) fit row fits bytes after are split =
-    let first_fits : Fits first = fit 0 first (omega arith) in
-    let parts = same_parts (row_bytes row) (row_bytes first) after (flat_map row_bytes others) (size row fits ∙ sym (size first first_fits)) (sym split ∙ are) in
-    let same : row ≡ first = only row first fits first_fits parts.0 in
-    record {
-      others = others;
-      rows_are = ap (λ t. t ∷ others) (sym same);
-      fit = All-drop Fits 1 (first ∷ others) fit;
-      after_are = parts.1;
-    }
-
-none_left : {T : Type 0} (row_bytes : T → List ℕ) (Fits : T → Type 0) → ((t : T) → Fits t → length (row_bytes t) ≡ 48) → (rows : List T) → All Fits rows → length (flat_map row_bytes rows) < 48 → rows ≡ []
-none_left row_bytes Fits size [] fit short = refl
-none_left row_bytes Fits size (first ∷ others) fit short =
-    let both : length (row_bytes first) + length (flat_map row_bytes others) < 48 = subst (λ n. n < 48) (length-append (row_bytes first) (flat_map row_bytes others)) short in
-    absurd (omega (arith, both, size first (fit 0 first (omega arith))))
-
 -- the row of an optional part, from its hash and its reserved words
 pub joined_row : (hash : DataHash) (first second : ℕ) (bytes after_hash after_first after : List ℕ) → bytes ≡ hash_bytes hash ++ after_hash → after_hash ≡ u64_bytes first ++ after_first
     → after_first ≡ u64_bytes second ++ after → bytes ≡ hash_row (record { hash = hash; _unused = first ∷ second ∷ [] }) ++ after
@@ -298,32 +266,3 @@ module _ (stored : List HashRow) (rest : List ℕ) (so_far : ClearSoFar stored r
         λ clear. All-drop IsZero 1 (row ∷ next_row.others) (subst AreClear next_row.rows_are (so_far.decides.1 clear)),
       );
     }
-
--- chunks, of which the last are left, and the bytes of the ones before
-pub record SumSoFar (chunks : List XorbChunkSequenceEntry) (bytes : ℕ) (rest : List ℕ) : Type 0 where
-  pub others : List XorbChunkSequenceEntry
-  pub fit : All FitsChunk others
-  pub rest_are : rest ≡ flat_map chunk_row others
-  pub sum : total_bytes chunks ≡ bytes + total_bytes others
-
-pub sum_at_first : (chunks : List XorbChunkSequenceEntry) (rows : List ℕ) → All FitsChunk chunks → rows ≡ flat_map chunk_row chunks → SumSoFar chunks 0 rows
-sum_at_first chunks rows fit are = record { others = chunks; fit = fit; rest_are = are; sum = omega arith }
-
-module _ (chunks : List XorbChunkSequenceEntry) (bytes : ℕ) (rest : List ℕ) (so_far : SumSoFar chunks bytes rest) where
-  pub sum_at_last : length rest < 48 → total_bytes chunks ≡ bytes
-  sum_at_last short =
-      let none = none_left chunk_row FitsChunk (λ c fits. length-chunk_row c) so_far.others so_far.fit (omega (arith, short, ap length so_far.rest_are)) in
-      let nothing : total_bytes so_far.others ≡ 0 = ap total_bytes none in
-      omega (arith, so_far.sum, nothing)
-
-  module _ (chunk : XorbChunkSequenceEntry) (read : ReadsRow chunk_row FitsChunk (λ c. c) (λ row. row ≡ take 48 (drop (48 * 0) rest)) chunk) where
-    next_chunk : FirstOf chunk_row FitsChunk so_far.others chunk (drop 48 rest)
-    next_chunk =
-        first_of chunk_row FitsChunk (λ c fits. length-chunk_row c) chunk_row-injective so_far.others so_far.fit chunk (subst FitsChunk read.returned read.widths) rest (drop 48 rest) so_far.rest_are
-        (sym (take-append-drop 48 rest) ∙ ap (λ bs. bs ++ drop 48 rest) (sym read.taken ∙ ap chunk_row read.returned))
-
-    pub more_bytes : SumSoFar chunks (bytes + chunk.unpacked_segment_bytes) (drop 48 rest)
-    more_bytes =
-        let more : total_bytes so_far.others ≡ chunk.unpacked_segment_bytes + total_bytes next_chunk.others =
-        ap total_bytes next_chunk.rows_are ∙ sum_by-cons (λ (c : XorbChunkSequenceEntry). c.unpacked_segment_bytes) chunk next_chunk.others in
-        record { others = next_chunk.others; fit = next_chunk.fit; rest_are = next_chunk.after_are; sum = omega (arith, so_far.sum, more) }

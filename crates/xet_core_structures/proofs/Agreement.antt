@@ -2,6 +2,7 @@
 
 pub mod AgreeingInputs
 pub mod AgreeingTrees
+pub mod ChunkSums
 pub mod Differing
 pub mod DifferingFound
 pub mod HashRuns

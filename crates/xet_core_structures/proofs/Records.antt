@@ -12,6 +12,7 @@ pub mod RecordsAsRead
 pub mod SmallerShards
 pub mod ByteUnions
 pub mod Equalities
+pub mod FrontRows
 pub mod Items
 pub mod Turns
 pub mod Zipped

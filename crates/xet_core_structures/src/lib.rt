@@ -4,6 +4,7 @@
 
 pub mod laws;
 pub mod set_operations;
+pub mod well_formed;
 
 pub use xet_base::{count, error, interpolation_search, merklehash, serialization_utils, source};
 pub use xet_records::{file_structs, rows, xorb_structs};

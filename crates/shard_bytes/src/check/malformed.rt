@@ -6,13 +6,9 @@
 ghost use Rattle.std.specs.Prelude.{◌≡◌, ◌+◌, ◌↔◌, ◌≤◌, [], ◌∷◌, ◌++◌, List, length, flat_map, All, IsTrue, OnOk, IfErr};
 ghost use Rattle.xet_core_structures.specs.declared.error.CoreError.{CoreError};
 ghost use Rattle.xet_core_structures.specs.FileRecord.{IsWellFormed};
-ghost use Rattle.xet_core_structures.specs.Steps.Agreement.{IsPlainHeader};
 ghost use Rattle.xet_core_structures.specs.XorbRecord.{IsXorb};
 ghost use Rattle.xet_records.specs.declared.file_structs.rows.HashRow.{HashRow};
-ghost use Rattle.xet_records.specs.declared.xorb_structs.XorbChunkSequenceEntry.{XorbChunkSequenceEntry};
 ghost use Rattle.xet_records.specs.FileRow.{FitsHashRow, hash_row};
-ghost use Rattle.xet_records.specs.XorbRecord.{total_bytes};
-ghost use Rattle.xet_records.specs.XorbRow.{FitsChunk, chunk_row};
 ghost use Rattle.xet_shards.specs.Steps.FileStore.{AreClear};
 ghost use Rattle.shard_bytes.specs.Steps.Checking.{AddsMalformed, BeginsWith, HasRows};
 
@@ -20,9 +16,8 @@ use super::{Finding, Section, push_unless};
 use xet_base::fields::{split_hash, split_u64};
 use xet_core_structures::error::Result;
 use xet_core_structures::file_structs::{FileDataSequenceHeader, MDBFileInfo};
-use xet_core_structures::xorb_structs::{
-    MDBXorbInfo, XorbChunkSequenceEntry, XorbChunkSequenceHeader,
-};
+use xet_core_structures::well_formed::{have_few_bytes, is_plain};
+use xet_core_structures::xorb_structs::{MDBXorbInfo, XorbChunkSequenceHeader};
 use xet_records::record_bytes::row;
 use xet_records::record_reader::SectionRecord;
 use xet_records::rows::ROW_SIZE;
@@ -76,13 +71,6 @@ impl Judged for MDBFileInfo {
     }
 }
 
-// Whether the flags announce optional parts and nothing else, and the reserved word is zero.
-fn is_plain(header: &FileDataSequenceHeader) -> bool
-    ensures { IsTrue result ↔ IsPlainHeader header.now }
-{
-    header.file_flags == header.known_flags() && header._unused == 0
-}
-
 // Whether the reserved words of these rows of optional parts are zero.
 fn are_clear(rows: &[u8]) -> bool
     ensures { (stored : List HashRow) → All FitsHashRow stored
@@ -124,24 +112,4 @@ impl Judged for MDBXorbInfo {
     fn is_formed(_header: &XorbChunkSequenceHeader, rows: &[u8]) -> bool {
         have_few_bytes(rows)
     }
-}
-
-// Whether the sizes of the chunks in these rows add up to a number that fits `u32`.
-fn have_few_bytes(rows: &[u8]) -> bool
-    ensures { (chunks : List XorbChunkSequenceEntry) → All FitsChunk chunks
-        → rows.now ≡ flat_map chunk_row chunks
-        → IsTrue result ↔ (total_bytes chunks ≤ 4294967295) }
-{
-    let mut bytes = 0u64;
-    let mut rest = rows;
-    while rest.len() >= ROW_SIZE {
-        let chunk: XorbChunkSequenceEntry = row(rest, 0);
-        bytes += u64::from(chunk.unpacked_segment_bytes);
-        if bytes > u64::from(u32::MAX) {
-            return false;
-        }
-        let (_chunk, after) = rest.split_at(ROW_SIZE);
-        rest = after;
-    }
-    true
 }

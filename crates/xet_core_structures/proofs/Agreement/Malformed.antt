@@ -1,11 +1,13 @@
 -- Records in bytes that no shard may have. Bytes without such records hold a well-formed shard.
-use Rattle.std.proofs.Common.{◌≡◌, inl, inr, ℕ, ◌+◌, ◌<◌, ◌≤◌, List, [], ◌∷◌, length, get_or, true, Some, None, refl, sym, ap, ◌∙◌, subst, arith}
+use Rattle.std.proofs.Common.{◌≡◌, inl, inr, ℕ, ◌+◌, ◌*◌, ◌<◌, ◌≤◌, List, [], ◌∷◌, length, flat_map, take, get_or, true, Some, None, refl, sym, ap, ◌∙◌, subst, arith}
 use Rattle.std.specs.Prelude.{All, Contains, slice_get, sum_by}
 use Rattle.std.specs.FinMap.{get, entries}
+use Rattle.std.proofs.lemmas.List.{length-append}
 use Rattle.std.proofs.lemmas.List.Elements.{All-contains, All-map, Contains-get_or}
 use Rattle.std.proofs.lemmas.List.Sums.{get_or-le-sum_by}
 use Rattle.std.proofs.lemmas.Option.{same_Some, slice_get_within, slice_get-get_or}
 use Rattle.xet_base.specs.declared.merklehash.DataHash.{DataHash}
+use Rattle.xet_base.proofs.Lists.{front_is}
 use Rattle.xet_records.specs.declared.file_structs.MDBFileInfo.{MDBFileInfo}
 use Rattle.xet_records.specs.declared.file_structs.part.OptionalPart.{OptionalPart}
 use Rattle.xet_records.specs.declared.file_structs.rows.HashRow.{HashRow}
@@ -15,11 +17,10 @@ use Rattle.xet_records.specs.FileRecord.{file_records, IsStored, IsWellFormed, a
 use Rattle.xet_records.specs.FileRow.{clear}
 use Rattle.xet_records.specs.Limits.{MAX_ROWS}
 use Rattle.xet_records.specs.Part.{rows_of, optional_rows}
-use Rattle.xet_records.specs.Reading.{ReadsRowsAfter}
 use Rattle.xet_records.specs.RecordKind.{RecordKind, KindLaws}
 use Rattle.xet_records.specs.Version.{version_of}
-use Rattle.xet_records.specs.XorbRecord.{xorb_records, IsStoredXorb, IsXorb, HasItsChunks}
-use Rattle.xet_records.proofs.Lengths.{length-chunk_rows}
+use Rattle.xet_records.specs.XorbRecord.{xorb_records, IsStoredXorb, IsXorb}
+use Rattle.xet_records.specs.XorbRow.{FitsChunk, chunk_row}
 use Rattle.xet_records.proofs.Parts.{rows_of-returned}
 use Rattle.xet_records.proofs.RecordKinds.{stored_ever}
 use Rattle.xet_shards.specs.Content.Shard.{Shard, IsShard}
@@ -45,11 +46,21 @@ use Rattle.xet_core_structures.proofs.Records.Zipped.{zip_at, zip_back}
 use Rattle.xet_core_structures.proofs.Trees.Parts.{may_be_united}
 use Rattle.xet_core_structures.proofs.Trees.PlacedUnions.{key_placed}
 
--- a xorb that is read has the chunks that its header announces
-pub chunks_read : (h : XorbChunkSequenceHeader) (Took : List ℕ → Type 0) (found : MDBXorbInfo) → ReadsRowsAfter xorb_records h Took found → HasItsChunks found
-chunks_read h Took found read =
-    let same : length read.stored.chunks ≡ h.num_entries = omega (arith, length-chunk_rows read.stored.chunks, read.size) in
-    subst HasItsChunks read.returned (same ∙ ap (λ (k : XorbChunkSequenceHeader). k.num_entries) (sym read.same_header))
+-- the rows of a xorb in place are those of its chunks
+module _ (p : PlacedRecord XorbChunkSequenceHeader) (r : MDBXorbInfo) (here : Places xorb_records p r) where
+  abbrev chunk_rows_size : ℕ
+  chunk_rows_size = 48 * p.header.num_entries
+
+  pub enough_rows : chunk_rows_size ≤ length p.rows.now
+  enough_rows = omega (arith, here.rows.size, ap length here.rows.taken.1, length-append (flat_map chunk_row here.rows.stored.chunks) here.rows.taken.0)
+
+  pub rows_of_chunks : take chunk_rows_size p.rows.now ≡ flat_map chunk_row r.chunks
+  rows_of_chunks =
+      front_is chunk_rows_size p.rows.now (flat_map chunk_row here.rows.stored.chunks) here.rows.taken.0 here.rows.size here.rows.taken.1
+      ∙ ap (λ (x : MDBXorbInfo). flat_map chunk_row x.chunks) here.rows.returned
+
+  pub chunks_fit : All FitsChunk r.chunks
+  chunks_fit = subst (λ (x : MDBXorbInfo). All FitsChunk x.chunks) here.rows.returned (here.rows.is_stored here.header.is_record here.header.fits).widths.chunks
 
 module _ {H R : Type 0} (K : RecordKind H R) (allowed : R → Type 0) (placed : List (PlacedRecord H)) where
   -- the first of these records are allowed

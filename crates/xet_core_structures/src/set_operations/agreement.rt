@@ -141,7 +141,7 @@ pub fn find_malformed(alloc: Global, inputs: &[&[u8]]) -> Result<Option<Malforme
 {
     for at in 0..inputs.len() {
         let shard = place_input(alloc, input_at(inputs, at))?;
-        if let Some(record_hash) = malformed_in(alloc, &shard)? {
+        if let Some(record_hash) = malformed_in(&shard) {
             return Ok(Some(MalformedRecord {
                 record_hash,
                 input: at,
@@ -152,19 +152,17 @@ pub fn find_malformed(alloc: Global, inputs: &[&[u8]]) -> Result<Option<Malforme
 }
 
 // The hash of a record of this shard that no shard may have, of a file rather than of a xorb.
-fn malformed_in(alloc: Global, shard: &PlacedShard<'_>) -> Result<Option<RecordHash>>
-    ensures { MatchResult result
-        (λ found. (bytes : List ℕ) → IsPlacedOf shard.now bytes → FindsMalformedIn bytes found)
-        (λ e. e ≡ OutOfMemory) }
+fn malformed_in(shard: &PlacedShard<'_>) -> Option<RecordHash>
+    ensures { (bytes : List ℕ) → IsPlacedOf shard.now bytes → FindsMalformedIn bytes result }
 {
-    let file = find_malformed_record::<MDBFileInfo, OfUnion>(alloc, shard.files.as_slice())?;
+    let file = find_malformed_record::<MDBFileInfo, OfUnion>(shard.files.as_slice());
     if let Some(hash) = file {
-        return Ok(Some(RecordHash::File(hash)));
+        return Some(RecordHash::File(hash));
     }
-    let xorb = find_malformed_record::<MDBXorbInfo, OfUnion>(alloc, shard.xorbs.as_slice())?;
+    let xorb = find_malformed_record::<MDBXorbInfo, OfUnion>(shard.xorbs.as_slice());
     match xorb {
-        Some(hash) => Ok(Some(RecordHash::Xorb(hash))),
-        None => Ok(None),
+        Some(hash) => Some(RecordHash::Xorb(hash)),
+        None => None,
     }
 }
 
@@ -249,7 +247,7 @@ fn place_well_formed<'a>(alloc: Global, inputs: &[&'a [u8]]) -> Result<WellForme
     while at < inputs.len() {
         let bytes = input_at(inputs, at);
         let shard = place_input(alloc, bytes)?;
-        if let Some(hash) = malformed_in(alloc, &shard)? {
+        if let Some(hash) = malformed_in(&shard) {
             return Ok(WellFormed::Malformed(MalformedRecord {
                 record_hash: hash,
                 input: at,

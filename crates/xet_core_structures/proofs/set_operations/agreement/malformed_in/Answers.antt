@@ -14,13 +14,13 @@ same_found K allowed ps qs o p lists answers found = subst (λ l. FindsMalformed
 
 pub returns-in-Some : goal.returns-in-Some
 returns-in-Some c = λ bytes is.
-    malformed_file c.args.shard.now bytes is c.in-Some.hash (same_found file_records IsPlainFile _ _ _ _ c.as_slice.ensures.value c.in-Some.is c.in_ok-file.ensures)
+    malformed_file c.args.shard.now bytes is c.in-Some.hash (same_found file_records IsPlainFile _ _ _ _ c.as_slice.ensures.value c.in-Some.is c.find_malformed_record-file.ensures)
 
 pub returns-in-Some-xorb : goal.returns-in-Some-xorb
 returns-in-Some-xorb c = λ bytes is.
-    malformed_xorb c.args.shard.now bytes is c.in-Some-xorb.hash (same_found xorb_records HasFewBytes _ _ _ _ c.as_slice-2.ensures.value c.in-Some-xorb.is c.in_ok-xorb.ensures)
+    malformed_xorb c.args.shard.now bytes is c.in-Some-xorb.hash (same_found xorb_records HasFewBytes _ _ _ _ c.as_slice-2.ensures.value c.in-Some-xorb.is c.find_malformed_record-xorb.ensures)
 
 pub returns-in-None : goal.returns-in-None
 returns-in-None c = λ bytes is.
-    all_well_formed c.args.shard.now bytes is (same_found file_records IsPlainFile _ _ _ _ c.as_slice.ensures.value c.in_default.is c.in_ok-file.ensures)
-    (same_found xorb_records HasFewBytes _ _ _ _ c.as_slice-2.ensures.value c.in-None.is c.in_ok-xorb.ensures)
+    all_well_formed c.args.shard.now bytes is (same_found file_records IsPlainFile _ _ _ _ c.as_slice.ensures.value c.in_default.is c.find_malformed_record-file.ensures)
+    (same_found xorb_records HasFewBytes _ _ _ _ c.as_slice-2.ensures.value c.in-None.is c.find_malformed_record-xorb.ensures)

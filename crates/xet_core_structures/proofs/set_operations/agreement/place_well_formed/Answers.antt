@@ -19,7 +19,7 @@ pub returns-in-Some : goal.returns-in-Some
 returns-in-Some c =
     let bytes = c.input_at-bytes.result.now in
     let found : (s : Shard) × HasShard s bytes × HasMalformed s c.in-Some.hash =
-    subst (FindsMalformedIn bytes) c.in-Some.is (c.in_ok-hash.ensures bytes c.in_ok-shard.ensures) in
+    subst (FindsMalformedIn bytes) c.in-Some.is (c.malformed_in.ensures bytes c.in_ok-shard.ensures) in
     (found.0, (bytes, c.input_at-bytes.ensures, found.1), found.2)
 
 pub loop-at-preserved : goal.loop-at-preserved
@@ -27,7 +27,7 @@ loop-at-preserved c =
     let inputs : List (List ℕ) = map (λ (x : Bor (List ℕ)). x.now) c.args.inputs.now in
     let bytes = c.input_at-bytes.result.now in
     let found : (s : Shard) × HasShard s bytes × IsShard s =
-    subst (FindsMalformedIn bytes) c.in_default.is (c.in_ok-hash.ensures bytes c.in_ok-shard.ensures) in (
+    subst (FindsMalformedIn bytes) c.in_default.is (c.malformed_in.ensures bytes c.in_ok-shard.ensures) in (
       λ i low. elim (below_or_at i c.loop-at.at low) [
         | inl less ↦ c.loop-at.invariant.0 i less
         | inr same ↦ subst (λ j. (s : Shard) × HoldsAt inputs j s × IsShard s) (sym same) (found.0, (bytes, c.input_at-bytes.ensures, found.1), found.2)

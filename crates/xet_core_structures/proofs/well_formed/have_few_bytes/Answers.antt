@@ -1,7 +1,7 @@
 use Rattle.std.proofs.Common.{◌≡◌, ◌+◌, IsTrue, false, rules, arith, sym, subst}
 use Rattle.xet_records.specs.XorbRecord.{total_bytes}
-use Rattle.shard_bytes.proofs.Malformed.{SumSoFar, sum_at_first, sum_at_last, more_bytes}
-use Rattle.shard_bytes.proofs.check.malformed.have_few_bytes.Goals as goal
+use Rattle.xet_core_structures.proofs.Agreement.ChunkSums.{SumSoFar, sum_at_first, sum_at_last, more_bytes}
+use Rattle.xet_core_structures.proofs.well_formed.have_few_bytes.Goals as goal
 
 pub loop-rest-init : goal.loop-rest-init
 loop-rest-init c = record { few = omega arith; sum = λ chunks fit are. sum_at_first chunks c.args.rows.now fit are }

@@ -1,8 +1,8 @@
 use Rattle.std.proofs.Common.{◌≡◌, ◌≤◌, All, List, flat_map, length}
 use Rattle.xet_records.specs.declared.xorb_structs.XorbChunkSequenceEntry.{XorbChunkSequenceEntry}
 use Rattle.xet_records.specs.XorbRow.{FitsChunk, chunk_row}
-use Rattle.shard_bytes.proofs.Malformed.{SumSoFar}
-use Rattle.shard_bytes.proofs.check.malformed.have_few_bytes.Given as goal
+use Rattle.xet_core_structures.proofs.Agreement.ChunkSums.{SumSoFar}
+use Rattle.xet_core_structures.proofs.well_formed.have_few_bytes.Given as goal
 
 abbrev pub invariant-loop-rest : goal.invariant-loop-rest
 invariant-loop-rest l = record {

@@ -1,0 +1,41 @@
+//! What a shard asks of a record beside what reading it ensures, judged where the record lies: a
+//! list of its rows would need memory.
+
+ghost use Rattle.std.specs.Prelude.{◌≡◌, ◌↔◌, ◌≤◌, List, flat_map, length, All, IsTrue};
+ghost use Rattle.xet_records.specs.declared.xorb_structs.XorbChunkSequenceEntry.{XorbChunkSequenceEntry};
+ghost use Rattle.xet_records.specs.XorbRecord.{total_bytes};
+ghost use Rattle.xet_records.specs.XorbRow.{FitsChunk, chunk_row};
+ghost use Rattle.xet_core_structures.specs.Steps.Agreement.{IsPlainHeader};
+
+use xet_records::file_structs::FileDataSequenceHeader;
+use xet_records::record_bytes::row;
+use xet_records::rows::ROW_SIZE;
+use xet_records::xorb_structs::XorbChunkSequenceEntry;
+
+/// Whether the flags of a file's header announce optional parts and nothing else, and its reserved
+/// word is zero.
+pub fn is_plain(header: &FileDataSequenceHeader) -> bool
+    ensures { IsTrue result ↔ IsPlainHeader header.now }
+{
+    header.file_flags == header.known_flags() && header._unused == 0
+}
+
+/// Whether the sizes of the chunks in these rows add up to a number of bytes that fits `u32`.
+pub fn have_few_bytes(rows: &[u8]) -> bool
+    ensures { (chunks : List XorbChunkSequenceEntry) → All FitsChunk chunks
+        → rows.now ≡ flat_map chunk_row chunks
+        → IsTrue result ↔ (total_bytes chunks ≤ 4294967295) }
+{
+    let mut bytes = 0u64;
+    let mut rest = rows;
+    while rest.len() >= ROW_SIZE {
+        let chunk: XorbChunkSequenceEntry = row(rest, 0);
+        bytes += u64::from(chunk.unpacked_segment_bytes);
+        if bytes > u64::from(u32::MAX) {
+            return false;
+        }
+        let (_chunk, after) = rest.split_at(ROW_SIZE);
+        rest = after;
+    }
+    true
+}
