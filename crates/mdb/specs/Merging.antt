@@ -6,7 +6,7 @@ use Rattle.xet_core_structures.specs.declared.error.CoreError.{CoreError}
 use Rattle.xet_core_structures.specs.declared.error.CoreError.TheVariants.{OutOfMemory as no_memory}
 use Rattle.xet_core_structures.specs.declared.set_operations.agreement.Disagreement.{Disagreement}
 use Rattle.xet_core_structures.specs.declared.set_operations.agreement.MalformedRecord.{MalformedRecord}
-use Rattle.xet_core_structures.specs.Agreement.Agreement.{HoldShards, HoldMalformed, InputsAgree, InputsRefusal}
+use Rattle.xet_core_structures.specs.Agreement.Agreement.{HoldShards, IsFirstMalformed, InputsAgree, InputsRefusal}
 use Rattle.xet_core_structures.specs.Agreement.Agreement.{HasAllDisagreements}
 use Rattle.shard_bytes.specs.Agreeing.{IsMergeOfAgreeing}
 use Rattle.shard_bytes.specs.Merging.{MergesBytes, RefusesMerge}
@@ -26,7 +26,7 @@ UnitesTo Strict inputs out =
 -- the failure names a record that no shard may have, and the file that has it
 abbrev pub SaysMalformed : List (Bor (List ℕ)) → List (List ℕ) → Failure → Type 0
 SaysMalformed files inputs failure =
-    (m : MalformedRecord) × HoldMalformed inputs m × (failure.fault ≡ Malformed m.record_hash)
+    (m : MalformedRecord) × IsFirstMalformed inputs m × (failure.fault ≡ Malformed m.record_hash)
     × MatchOption (slice_get files m.input) (failure.subject ≡ StandardOutput)
     (λ file. failure.subject ≡ File file)
 

@@ -13,7 +13,7 @@ use Rattle.xet_core_structures.specs.declared.set_operations.agreement.Disagreem
 use Rattle.xet_core_structures.specs.declared.set_operations.agreement.MalformedRecord.{MalformedRecord}
 use Rattle.xet_core_structures.specs.declared.set_operations.agreement.RecordHash.{RecordHash}
 use Rattle.xet_core_structures.specs.declared.set_operations.agreement.RecordHash.TheVariants.{File, Xorb}
-use Rattle.xet_core_structures.specs.Agreement.Agreement.{HoldsAt, IsHeld, HasKey, HasMalformed, HoldShards, HoldMalformed, InputsAgree, InputsDisagree, HasAllDisagreements, InputsRefusal, MergesOrFinds}
+use Rattle.xet_core_structures.specs.Agreement.Agreement.{HoldsAt, IsHeld, HasKey, HasMalformed, HoldShards, IsFirstMalformed, InputsAgree, InputsDisagree, HasAllDisagreements, InputsRefusal, MergesOrFinds}
 use Rattle.xet_core_structures.specs.FileRecord.{IsWellFormed}
 use Rattle.xet_core_structures.specs.XorbRecord.{IsXorb}
 use Rattle.xet_core_structures.specs.Records.ShardContents.{HasShard, HoldsShard}
@@ -63,8 +63,8 @@ none_malformed : (s : Shard) (h : RecordHash) → HasMalformed s h → ¬ IsShar
 none_malformed s (File q) (r, at, bad) is = bad (holds_in_map (λ (e : DataHash × MDBFileInfo). IsWellFormed e.1) s.files q r is.files.well_formed at)
 none_malformed s (Xorb q) (r, at, bad) is = bad (holds_in_map (λ (e : DataHash × MDBXorbInfo). IsXorb e.1) s.xorbs q r is.xorbs.well_formed at)
 
-pub one_malformed : (inputs : List (List ℕ)) (m : MalformedRecord) → HoldMalformed inputs m → HoldNoneAgreeing inputs
-one_malformed inputs m (s, at, bad) = λ shards hold agree.
+pub one_malformed : (inputs : List (List ℕ)) (m : MalformedRecord) → IsFirstMalformed inputs m → HoldNoneAgreeing inputs
+one_malformed inputs m (s, at, bad, before) = λ shards hold agree.
     none_malformed s m.record_hash bad (agree.shards s (held_in shards inputs hold s (m.input, at)))
 
 pub some_disagree : (inputs : List (List ℕ)) (found : List Disagreement) → 0 < length found → HasAllDisagreements inputs found → HoldNoneAgreeing inputs
@@ -123,7 +123,7 @@ module _ (inputs : List (List ℕ)) (out : List ℕ) (hold : HoldShards inputs) 
 pub merges_agreeing : (inputs : List (List ℕ)) (plan : MergePlan) → IsMergePlan (length inputs) plan → (r : CoreResult AgreeingMerge) → MatchResult r (MergesOrFinds inputs plan) (λ e. InputsRefusal inputs e ⊎ TreeRefusal inputs plan e)
     → MatchResult r (MergesAgreeing inputs) (λ e. InputsRefusal inputs e ⊎ RefusesMerge inputs e)
 merges_agreeing inputs plan is (Ok (Bytes bytes)) (hold, agree, writes) = (hold, agree, (plan, is, writes))
-merges_agreeing inputs plan is (Ok (Disagreements found)) (hold, some, all) = (some, all)
+merges_agreeing inputs plan is (Ok (Disagreements found)) holds = holds
 merges_agreeing inputs plan is (Ok (Malformed m)) holds = holds
 merges_agreeing inputs plan is (Err e) (inl refused) = inl refused
 merges_agreeing inputs plan is (Err e) (inr refused) = inr (inr (inr (plan, is, refused)))
@@ -131,7 +131,7 @@ merges_agreeing inputs plan is (Err e) (inr refused) = inr (inr (inr (plan, is, 
 -- what is made is the join, or there is none
 pub gives_join : (inputs : List (List ℕ)) (r : CoreResult AgreeingMerge) → MatchResult r (MergesAgreeing inputs) (λ e. InputsRefusal inputs e ⊎ RefusesMerge inputs e) → IfOk r (GivesJoin inputs)
 gives_join inputs (Ok (Bytes bytes)) (hold, agree, merges) = merge_of_agreeing inputs bytes.items hold agree merges
-gives_join inputs (Ok (Disagreements found)) (some, all) = some_disagree inputs found.items some all
+gives_join inputs (Ok (Disagreements found)) (hold, some, all) = some_disagree inputs found.items some all
 gives_join inputs (Ok (Malformed m)) holds = one_malformed inputs m holds
 gives_join inputs (Err e) refused = tt
 

@@ -2,7 +2,7 @@
 use Rattle.std.specs.Prelude.{◌≡◌, ℕ, ◌<◌, List, length, Contains}
 use Rattle.std.specs.List.{AllZip}
 use Rattle.xet_core_structures.specs.declared.merklehash.DataHash.{DataHash}
-use Rattle.xet_core_structures.specs.Agreement.Agreement.{HoldShards, HoldMalformed, InputsAgree, HasAllDisagreements}
+use Rattle.xet_core_structures.specs.Agreement.Agreement.{HoldShards, IsFirstMalformed, InputsAgree, HasAllDisagreements}
 use Rattle.xet_core_structures.specs.Joins.{IsJoinOf, AgreePairwise}
 use Rattle.xet_core_structures.specs.Records.ShardContents.{HasShard, HoldsShard}
 use Rattle.xet_core_structures.specs.Shard.{Shard}
@@ -12,13 +12,13 @@ use Rattle.xet_core_structures.specs.declared.set_operations.agreement.AgreeingM
 use Rattle.shard_bytes.specs.Merging.{MergesBytes}
 
 -- what the merge gives: its bytes, if each input holds a well-formed shard and these agree
--- pairwise; else all records that disagree, or one that no shard may have
+-- pairwise; else all records of such shards that disagree, or a record that no shard may have
 abbrev pub MergesAgreeing : List (List ℕ) → AgreeingMerge → Type 0
 MergesAgreeing inputs (Bytes bytes) =
     HoldShards inputs × InputsAgree inputs × MergesBytes inputs bytes.items
 MergesAgreeing inputs (Disagreements found) =
-    (0 < length found.items) × HasAllDisagreements inputs found.items
-MergesAgreeing inputs (Malformed m) = HoldMalformed inputs m
+    HoldShards inputs × (0 < length found.items) × HasAllDisagreements inputs found.items
+MergesAgreeing inputs (Malformed m) = IsFirstMalformed inputs m
 
 -- the byte strings hold well-formed shards under one key that agree pairwise, and `out` are the
 -- bytes of their join under the key, with all tables, creation 0 and no expiry

@@ -4,7 +4,7 @@ ghost use Rattle.std.specs.Prelude.{◌≡◌, ◌⊎◌, false, List, Option, m
 ghost use Rattle.xet_core_structures.specs.declared.error.CoreError.{CoreError};
 ghost use Rattle.xet_core_structures.specs.declared.set_operations.agreement.Disagreement.{Disagreement};
 ghost use Rattle.xet_core_structures.specs.declared.set_operations.agreement.MalformedRecord.{MalformedRecord};
-ghost use Rattle.xet_core_structures.specs.Agreement.Agreement.{HasAllDisagreements, HoldShards, HoldMalformed, InputsRefusal};
+ghost use Rattle.xet_core_structures.specs.Agreement.Agreement.{HasAllDisagreements, HoldShards, IsFirstMalformed, InputsRefusal};
 ghost use Rattle.xet_core_structures.specs.Errors.{CoreResult, variant_number};
 ghost use Rattle.xet_core_structures.specs.declared.set_operations.agreement.AgreeingMerge.{AgreeingMerge};
 ghost use Rattle.shard_bytes.specs.Sizes.{IsResultSize};
@@ -103,7 +103,7 @@ pub extern "C" fn xet_find_malformed(
 ) -> u32
     ensures { ((one : Option MalformedRecord)
         × MatchOption one (HoldShards (map (λ x. x.now) shards.now))
-        (HoldMalformed (map (λ x. x.now) shards.now))
+        (IsFirstMalformed (map (λ x. x.now) shards.now))
         × ShowsMalformed one found.old found.new malformed.new × (result ≡ 0))
         ⊎ ((e : CoreError) × InputsRefusal (map (λ x. x.now) shards.now) e
         × (found.new ≡ found.old) × (malformed.new ≡ false) × (result ≡ variant_number e)) }

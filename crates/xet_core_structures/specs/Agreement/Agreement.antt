@@ -1,5 +1,5 @@
 -- Whether shards in memory agree, and where they do not.
-use Rattle.std.specs.Prelude.{◌≡◌, ◌⊎◌, ℕ, ◌<◌, List, ◌++◌, length, map, Contains, Some, slice_get}
+use Rattle.std.specs.Prelude.{◌≡◌, ◌⊎◌, ℕ, ◌<◌, List, ◌∷◌, ◌++◌, length, map, Contains, Some, slice_get}
 use Rattle.std.specs.FinMap.{get}
 use Rattle.std.specs.List.Sorted.{IsStrictlySortedBy}
 use Rattle.xet_base.specs.declared.error.CoreError.{CoreError}
@@ -50,14 +50,20 @@ abbrev pub HasMalformed : Shard → RecordHash → Type 0
 HasMalformed s (File q) = (r : MDBFileInfo) × (get s.files q ≡ Some r) × (¬ IsWellFormed r)
 HasMalformed s (Xorb q) = (r : MDBXorbInfo) × (get s.xorbs q ≡ Some r) × (¬ IsXorb r)
 
+-- the input with this number holds a well-formed shard
+abbrev pub IsWellFormedAt : List (List ℕ) → ℕ → Type 0
+IsWellFormedAt inputs i = (s : Shard) × HoldsAt inputs i s × IsShard s
+
 -- each input holds a well-formed shard
 abbrev pub HoldShards : List (List ℕ) → Type 0
-HoldShards inputs = (i : ℕ) → i < length inputs → (s : Shard) × HoldsAt inputs i s × IsShard s
+HoldShards inputs = (i : ℕ) → i < length inputs → IsWellFormedAt inputs i
 
 -- the shard that the input with this number holds has, under this hash, a record that no shard may
--- have
-abbrev pub HoldMalformed : List (List ℕ) → MalformedRecord → Type 0
-HoldMalformed inputs m = (s : Shard) × HoldsAt inputs m.input s × HasMalformed s m.record_hash
+-- have, and each input before it holds a well-formed shard
+abbrev pub IsFirstMalformed : List (List ℕ) → MalformedRecord → Type 0
+IsFirstMalformed inputs m =
+    (s : Shard) × HoldsAt inputs m.input s × HasMalformed s m.record_hash
+    × ((i : ℕ) → i < m.input → IsWellFormedAt inputs i)
 
 -- why no shard is read from bytes: header and footer are not read; or they are, and then a section
 -- is not read
@@ -129,13 +135,15 @@ HaveKey inputs plan key =
     → HasKey bytes key
 
 -- what a merge of inputs that have to agree gives: the bytes that the tree writes, if the inputs
--- hold well-formed shards and these agree; else two that do not agree, or a record that no shard
--- may have
+-- hold well-formed shards and these agree; else the first of all that do not agree, or a record
+-- that no shard may have
 abbrev pub IsMerged : List (List ℕ) → MergePlan → Merged → Type 0
 IsMerged inputs plan (Bytes bytes) =
     HoldShards inputs × InputsAgree inputs × TreeWrites inputs plan bytes.items
-IsMerged inputs plan (Disagreed d) = InputsDisagree inputs d
-IsMerged inputs plan (Malformed m) = HoldMalformed inputs m
+IsMerged inputs plan (Disagreed d) =
+    HoldShards inputs
+    × ((others : List Disagreement) × HasAllDisagreements inputs (d ∷ others))
+IsMerged inputs plan (Malformed m) = IsFirstMalformed inputs m
 
 -- the same, with all that do not agree, of which there is one at least
 abbrev pub MergesOrFinds : List (List ℕ) → MergePlan → AgreeingMerge → Type 0
@@ -143,4 +151,4 @@ MergesOrFinds inputs plan (MergedBytes bytes) =
     HoldShards inputs × InputsAgree inputs × TreeWrites inputs plan bytes.items
 MergesOrFinds inputs plan (Disagreements found) =
     HoldShards inputs × (0 < length found.items) × HasAllDisagreements inputs found.items
-MergesOrFinds inputs plan (FoundMalformed m) = HoldMalformed inputs m
+MergesOrFinds inputs plan (FoundMalformed m) = IsFirstMalformed inputs m

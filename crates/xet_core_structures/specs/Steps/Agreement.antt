@@ -15,7 +15,7 @@ use Rattle.xet_core_structures.specs.declared.set_operations.agreement.CheckedIn
 use Rattle.xet_core_structures.specs.declared.set_operations.agreement.CheckedInputs.TheVariants.{Agreeing, Disagreements, Malformed}
 use Rattle.xet_core_structures.specs.declared.set_operations.agreement.WellFormed.{WellFormed}
 use Rattle.xet_core_structures.specs.declared.set_operations.agreement.WellFormed.TheVariants.{Placed, Malformed as FormedMalformed}
-use Rattle.xet_core_structures.specs.Agreement.Agreement.{HasMalformed, HoldShards, HoldMalformed, InputsAgree, HasAllDisagreements}
+use Rattle.xet_core_structures.specs.Agreement.Agreement.{HasMalformed, HoldShards, IsFirstMalformed, InputsAgree, HasAllDisagreements}
 use Rattle.xet_core_structures.specs.Records.ShardContents.{HasShard}
 use Rattle.xet_core_structures.specs.Steps.Parts.{ArePlaced}
 use Rattle.xet_core_structures.specs.Steps.Placed.{PlacesAll}
@@ -55,7 +55,7 @@ FindsMalformedIn bytes found =
 -- inputs that hold well-formed shards were placed, or one holds a record that no shard may have
 abbrev pub IsWellFormedOr : List (List ℕ) → WellFormed → Type 0
 IsWellFormedOr inputs (Placed placed) = HoldShards inputs × ArePlaced inputs placed
-IsWellFormedOr inputs (FormedMalformed m) = HoldMalformed inputs m
+IsWellFormedOr inputs (FormedMalformed m) = IsFirstMalformed inputs m
 
 -- inputs that hold well-formed shards which agree were placed, or this is why they do not
 abbrev pub IsChecked : List (List ℕ) → CheckedInputs → Type 0
@@ -63,4 +63,4 @@ IsChecked inputs (Agreeing placed) =
     HoldShards inputs × InputsAgree inputs × ArePlaced inputs placed
 IsChecked inputs (Disagreements found) =
     HoldShards inputs × (0 < length found.items) × HasAllDisagreements inputs found.items
-IsChecked inputs (Malformed m) = HoldMalformed inputs m
+IsChecked inputs (Malformed m) = IsFirstMalformed inputs m

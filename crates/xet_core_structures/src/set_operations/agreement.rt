@@ -14,7 +14,7 @@
 ghost use Rattle.std.specs.Prelude.{◌≡◌, ◌⊎◌, ◌++◌, ℕ, List, map, MatchOption, MatchResult, OnOk, IfOk, IfErr};
 ghost use Rattle.xet_base.specs.declared.error.CoreError.TheVariants.{OutOfMemory};
 ghost use Rattle.xet_core_structures.specs.Trees.MergeTrees.{TreeWrites, TreeRefusal};
-ghost use Rattle.xet_core_structures.specs.Agreement.Agreement.{InputsAgree, InputsDisagree, HasAllDisagreements, InputsRefusal, HoldShards, HoldMalformed, IsMerged, MergesOrFinds, disagreement_of};
+ghost use Rattle.xet_core_structures.specs.Agreement.Agreement.{InputsAgree, InputsDisagree, HasAllDisagreements, InputsRefusal, HoldShards, IsFirstMalformed, IsMerged, MergesOrFinds, disagreement_of};
 ghost use Rattle.xet_core_structures.specs.Steps.Agreement.{FindsMalformedIn, IsChecked, IsWellFormedOr};
 ghost use Rattle.xet_core_structures.specs.Steps.Parts.{ArePlaced, IsPlacedOf};
 
@@ -136,7 +136,7 @@ pub fn find_disagreement(alloc: Global, inputs: &[&[u8]]) -> Result<Option<Disag
 pub fn find_malformed(alloc: Global, inputs: &[&[u8]]) -> Result<Option<MalformedRecord>>
     ensures { MatchResult result
         (λ found. MatchOption found (HoldShards (map (λ x. x.now) inputs.now))
-        (HoldMalformed (map (λ x. x.now) inputs.now)))
+        (IsFirstMalformed (map (λ x. x.now) inputs.now)))
         (InputsRefusal (map (λ x. x.now) inputs.now)) }
 {
     for at in 0..inputs.len() {

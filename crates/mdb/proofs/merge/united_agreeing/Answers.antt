@@ -1,7 +1,7 @@
 use Rattle.std.proofs.Common.{◌≡◌, map, inl, ap, subst, ◌∙◌}
 use Rattle.std.specs.List.{slice_get}
 use Rattle.std.specs.Option.{MatchOption}
-use Rattle.xet_core_structures.specs.Agreement.Agreement.{HoldMalformed}
+use Rattle.xet_core_structures.specs.Agreement.Agreement.{IsFirstMalformed}
 use Rattle.xet_core_structures.specs.declared.set_operations.agreement.MalformedRecord.{MalformedRecord}
 use Rattle.shard_bytes.specs.Agreeing.{MergesAgreeing}
 use Rattle.mdb_report.specs.declared.fault.Fault.TheVariants.{Malformed}
@@ -11,7 +11,7 @@ use Rattle.mdb.proofs.merge.united_agreeing.Goals as goal
 -- the record is the one that the merge names
 pub returns-in-Ok-Malformed : goal.returns-in-Ok-Malformed
 returns-in-Ok-Malformed c =
-    let held : HoldMalformed (map (λ x. x.now) c.args.inputs.now) c.in-Ok-Malformed.malformed =
+    let held : IsFirstMalformed (map (λ x. x.now) c.args.inputs.now) c.in-Ok-Malformed.malformed =
     subst (MergesAgreeing (map (λ x. x.now) c.args.inputs.now)) c.in-Ok-Malformed.field-0-is
     c.in-Ok-Malformed.ensures.any_bytes in
     let same = c.in-Ok-Malformed.malformed-is in

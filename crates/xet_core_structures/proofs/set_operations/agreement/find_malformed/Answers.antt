@@ -11,7 +11,7 @@ pub returns-in-Some : goal.returns-in-Some
 returns-in-Some c =
     let found : (s : Shard) × HasShard s c.input_at.result.now × HasMalformed s c.in-Some.record_hash =
     subst (FindsMalformedIn c.input_at.result.now) c.in-Some.is (c.malformed_in.ensures c.input_at.result.now c.in_ok-shard.ensures) in
-    (found.0, (c.input_at.result.now, c.input_at.ensures, found.1), found.2)
+    (found.0, (c.input_at.result.now, c.input_at.ensures, found.1), found.2, c.loop-at.invariant)
 
 pub loop-at-preserved : goal.loop-at-preserved
 loop-at-preserved c = λ i low.

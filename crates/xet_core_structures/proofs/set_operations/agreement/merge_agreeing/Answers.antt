@@ -1,7 +1,5 @@
-use Rattle.std.proofs.Common.{◌<◌, ℕ, List, length, map, Bor, rules, sym, subst}
-use Rattle.std.specs.Prelude.{Contains}
-use Rattle.std.proofs.lemmas.List.Elements.{Contains-get_or}
-use Rattle.xet_core_structures.specs.Agreement.Agreement.{MergesOrFinds}
+use Rattle.std.proofs.Common.{◌≡◌, ◌<◌, ℕ, List, ◌∷◌, length, map, drop, get_or, Bor, rules, sym, ap, ◌∙◌, subst, drop-cons}
+use Rattle.xet_core_structures.specs.Agreement.Agreement.{HasAllDisagreements, MergesOrFinds}
 use Rattle.xet_core_structures.proofs.set_operations.agreement.merge_agreeing.Goals as goal
 
 pub returns-in-Bytes : goal.returns-in-Bytes
@@ -19,8 +17,9 @@ pub returns-in-Disagreements : goal.returns-in-Disagreements
 returns-in-Disagreements c =
     let inputs : List (List ℕ) = map (λ (x : Bor (List ℕ)). x.now) c.args.inputs.now in
     let found = subst (MergesOrFinds inputs c.args.plan.now) c.in-Disagreements.is c.in_ok-merged.ensures in
-    let first = c.index.result.now in
-    found.2.each first (subst (Contains c.in-Disagreements.found.items) (sym c.index.ensures) (Contains-get_or c.in-Disagreements.found.items 0 first found.1))
+    let all = c.in-Disagreements.found.items in
+    let parts : all ≡ get_or all 0 c.index.result.now ∷ drop 1 all = drop-cons all 0 c.index.result.now found.1 in
+    (found.0, (drop 1 all, subst (HasAllDisagreements inputs) (parts ∙ ap (λ d. d ∷ drop 1 all) (sym c.index.ensures)) found.2))
 
 pub returns-in-Malformed : goal.returns-in-Malformed
 returns-in-Malformed c =

@@ -20,7 +20,7 @@ returns-in-Some c =
     let bytes = c.input_at-bytes.result.now in
     let found : (s : Shard) × HasShard s bytes × HasMalformed s c.in-Some.hash =
     subst (FindsMalformedIn bytes) c.in-Some.is (c.malformed_in.ensures bytes c.in_ok-shard.ensures) in
-    (found.0, (bytes, c.input_at-bytes.ensures, found.1), found.2)
+    (found.0, (bytes, c.input_at-bytes.ensures, found.1), found.2, c.loop-at.invariant.0)
 
 pub loop-at-preserved : goal.loop-at-preserved
 loop-at-preserved c =
