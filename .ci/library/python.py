@@ -13,7 +13,9 @@ MODULE = f"{BINDINGS}/python"
 # The library beside the module.
 SONAME = f"libxet.so.{read(f'{TOP}/VERSION').split('.')[0]}"
 # Programs in the folder of the module's tests.
-TESTS = ("test_vectors.py", "test_index.py", "test_ranges.py", "test_shard.py", "test_range_reads.py")
+TESTS = (
+    "test_vectors.py", "test_tables.py", "test_index.py", "test_ranges.py", "test_shard.py", "test_range_reads.py",
+)
 
 # The types of fields, in Rattle and in the Python module.
 TYPES = {

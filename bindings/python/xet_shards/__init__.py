@@ -19,7 +19,7 @@ import ctypes
 import importlib
 import mmap
 import os
-import re
+import struct
 from array import array
 from contextlib import contextmanager
 from ctypes import POINTER, byref, c_bool, c_char, c_char_p, c_int, c_size_t, c_ssize_t, c_uint32, c_uint64, c_void_p
@@ -70,6 +70,8 @@ _INVALID_ARGUMENTS = 13
 _SHORT = 19
 _DISAGREE = 20
 _MALFORMED = 21
+# The bytes of a row of a section.
+_ROW = 48
 # Why calls do not admit their arguments.
 _OTHER_KEYS = "the keys of the shards differ"
 _NO_WHOLE_ROWS = "the bytes are no whole rows of a table"
@@ -294,6 +296,8 @@ class Run:
 
 
 _Words = c_uint64 * 4
+# The text of a hash, taken as bytes.
+_WORDS = struct.Struct(">4Q")
 
 
 class _Hash(ctypes.Structure):
@@ -543,13 +547,23 @@ def _seconds(number: int) -> int:
 
 
 def _words(text: str) -> ctypes.Array[c_uint64]:
-    if not re.fullmatch("[0-9a-fA-F]{64}", text):
+    return _Words(*_WORDS.unpack(_digits(text)))
+
+
+def _digits(text: str) -> bytes:
+    """Returns the bytes that the text of a hash stands for, the highest of each word first."""
+    try:
+        # Spaces between digits are passed over.
+        digits = bytes.fromhex(text)
+    except ValueError:
+        digits = b""
+    if len(digits) != 32 or len(text) != 64:
         raise ValueError("a hash has 64 hexadecimal digits")
-    return _Words(*(int(text[at : at + 16], 16) for at in range(0, 64, 16)))
+    return digits
 
 
 def _text(words: Sequence[int]) -> str:
-    return "".join(f"{word:016x}" for word in words)
+    return _WORDS.pack(*words).hex()
 
 
 def _segment(it: _Segment, verification: Optional[str] = None) -> Segment:
@@ -557,10 +571,9 @@ def _segment(it: _Segment, verification: Optional[str] = None) -> Segment:
 
 
 def _hashes(texts: Sequence[str]) -> ctypes.Array[Any]:
-    hashes = _array(_Hash, len(texts))
-    for at, text in enumerate(texts):
-        hashes[at].words = _words(text)
-    return hashes
+    words = array("Q", b"".join(map(_digits, texts)))
+    words.byteswap()
+    return (_Hash * len(texts)).from_buffer_copy(words) if texts else _array(_Hash, 0)
 
 
 def _array(item: Any, count: int) -> ctypes.Array[Any]:
@@ -572,15 +585,7 @@ def _array(item: Any, count: int) -> ctypes.Array[Any]:
 def _filled(
     item: Any, room: int, call: Callable[[ctypes.Array[Any], int, c_size_t], Any], reason: Optional[str] = None
 ) -> Any:
-    """Returns the items that a call writes into an array."""
-    out, count = _array_filled(item, room, call, reason)
-    return out[:count]
-
-
-def _array_filled(
-    item: Any, room: int, call: Callable[[ctypes.Array[Any], int, c_size_t], Any], reason: Optional[str] = None
-) -> Tuple[ctypes.Array[Any], int]:
-    """Returns an array into which a call writes items, and their number. It is made anew once if they don't fit."""
+    """Returns the items that a call writes into an array. It is made anew once if they don't fit."""
     written = c_size_t()
     out = _array(item, room)
     number = call(out, room, written)
@@ -588,15 +593,7 @@ def _array_filled(
         out = _array(item, written.value)
         number = call(out, written.value, written)
     _check(number, reason)
-    return out, written.value
-
-
-def _made(
-    room: int, call: Callable[[ctypes.Array[Any], int, c_size_t], Any], reason: Optional[str] = None
-) -> bytes:
-    """Returns the bytes that a call makes of inputs of so many bytes."""
-    made: bytes = _filled(c_char, room + 400, call, reason)
-    return made
+    return out[: written.value]
 
 
 # The kernel clears a large page at once. The C library gives memory of this size back when it is freed, so that no
@@ -614,7 +611,25 @@ def _advise_large_pages(address: int, length: int) -> None:
         _madvise(c_void_p(start), c_size_t((address + length - start) // mmap.PAGESIZE * mmap.PAGESIZE), advice)
 
 
-def _written_bytes(room: int, write: Callable[[memoryview], int]) -> bytes:
+def _made(
+    room: int, call: Callable[[ctypes.Array[Any], int, c_size_t], Any], reason: Optional[str] = None
+) -> bytes:
+    """Returns the bytes that a call makes of inputs of so many bytes. It is made anew once if they don't fit."""
+    written, number = c_size_t(), 0
+
+    def write(out: ctypes.Array[Any]) -> int:
+        nonlocal number
+        number = call(out, len(out), written)
+        return 0 if number else written.value
+
+    made = _written_bytes(room + 400, write)
+    if number == _SHORT:
+        made = _written_bytes(written.value, write)
+    _check(number, reason)
+    return made
+
+
+def _written_bytes(room: int, write: Callable[[ctypes.Array[c_char]], int]) -> bytes:
     """Returns what is written to the front of memory of so many bytes, and does not copy it.
 
     Pages that no one writes to cost nothing, and no one else has the bytes before they are returned.
@@ -623,7 +638,7 @@ def _written_bytes(room: int, write: Callable[[memoryview], int]) -> bytes:
     try:
         address = _address_of_bytes(made)
         _advise_large_pages(address, room)
-        _resize_bytes(byref(made), write(memoryview((c_char * room).from_address(address))))
+        _resize_bytes(byref(made), write((c_char * room).from_address(address)))
         whole: bytes = ctypes.cast(made, ctypes.py_object).value
         return whole
     finally:
@@ -972,16 +987,35 @@ def table(shard: Buffer) -> Table:
     """Returns all records of a shard, read in one call. It needs numpy."""
     numpy = _numpy()
     types, counts = _types(), _Counts()
-    # The first call asks how many there are.
+
+    def read(sizes: Sequence[int]) -> Tuple[int, List[Any]]:
+        arrays = [numpy.empty(size, it) for size, it in zip(sizes, types)]
+        return _library.xet_records(*data, *_addresses(arrays), byref(counts)), arrays
+
     with _Addresses(shard) as [data]:
-        arrays = [numpy.empty(0, it) for it in types]
-        number = _library.xet_records(*data, *_addresses(arrays), byref(counts))
+        number, arrays = read(_most_records(*data))
+        sizes = (counts.files, counts.segments, counts.xorbs, counts.chunks)
         if number == _SHORT:
-            sizes = (counts.files, counts.segments, counts.xorbs, counts.chunks)
-            arrays = [numpy.zeros(size, it) for size, it in zip(sizes, types)]
-            number = _library.xet_records(*data, *_addresses(arrays), byref(counts))
+            number, arrays = read(sizes)
     _check(number)
+    for array, size in zip(arrays, sizes):
+        # The room behind the records, which nothing was written to, is given back.
+        array.resize(size, refcheck=False)
     return Table(*arrays)
+
+
+def _most_records(address: int, length: int) -> Tuple[int, int, int, int]:
+    """Returns how many files, segments, xorbs and chunks the sections have at most, if the footer is right."""
+    info = _Info()
+    # Where it can't be read, the call that reads the records says so.
+    _library.xet_load(address, length, byref(info))
+    rows = [
+        min(max(stop - start, 0), length) // _ROW
+        for start, stop in ((info.file_section, info.xorb_section), (info.xorb_section, info.file_table))
+    ]
+    # A shard may lack tables.
+    files, xorbs = (min(count or most, most) for count, most in zip((info.files, info.xorbs), rows))
+    return files, rows[0], xorbs, rows[1]
 
 
 def _addresses(arrays: Sequence[Any]) -> List[int]:
@@ -1113,14 +1147,17 @@ def chunk_rows(shard: Buffer) -> bytes:
     index in the xorb. So `struct.iter_unpack("<QII", rows)` gives them one by one, and
     `numpy.frombuffer(rows, [("word", "<u8"), ("row", "<u4"), ("index", "<u4")])` as an array.
     """
+    size = ctypes.sizeof(_ChunkRow)
     with _Addresses(shard) as [data]:
-        # A chunk has a row of 48 bytes in the section, and one of 16 in the table.
-        rows, count = _array_filled(
-            _ChunkRow,
-            data[1] // 64,
-            lambda out, room, written: _library.xet_chunk_rows(*data, out, room, byref(written)),
-        )
-    return ctypes.string_at(rows, count * ctypes.sizeof(_ChunkRow))
+
+        def write(out: ctypes.Array[Any], room: int, written: c_size_t) -> Any:
+            rows = ctypes.cast(out, POINTER(_ChunkRow))
+            number = _library.xet_chunk_rows(*data, rows, room // size, byref(written))
+            written.value *= size
+            return number
+
+        # A chunk has a row of 48 bytes in the section.
+        return _made(data[1] // _ROW * size, write)
 
 
 def union(first: Buffer, second: Buffer) -> bytes:
@@ -1167,7 +1204,9 @@ def merge(
     """
     shards = list(shards)
     # With this room no merge is made twice.
-    return _written_bytes(merge_room(shards), lambda out: merge_into(shards, out, strict, start, stop, threads))
+    return _written_bytes(
+        merge_room(shards), lambda out: merge_into(shards, memoryview(out), strict, start, stop, threads)
+    )
 
 
 def merge_room(shards: Iterable[Buffer]) -> int:

@@ -1,0 +1,113 @@
+"""Tests of tables of all records, as arrays of numpy.
+
+Runs with pytest, or as a program, which ends with the line 'N passed, M failed'.
+"""
+import dataclasses
+import os
+import struct
+import sys
+
+sys.dont_write_bytecode = True
+sys.path.insert(0, os.path.dirname(os.path.realpath(__file__)))
+
+import scripts  # noqa: E402
+import xet_shards  # noqa: E402
+from scripts import Shard  # noqa: E402
+from test_vectors import main, numpy, raises, records_shard, refused, shard_of  # noqa: E402
+
+
+def test_tables():
+    if numpy is None:
+        return print("numpy is not there, so tables were not tested")
+    for shard in (Shard(), records_shard()):
+        written = shard.written()
+        table = xet_shards.table(written)
+        assert xet_shards.from_table(table) == written
+        assert xet_shards.from_table(table, 7) == shard.written(7)
+        reversed_xorbs = dataclasses.replace(table, files=table.files[:0], segments=table.segments[:0])
+        assert xet_shards.from_table(reversed_xorbs) == xet_shards.write([], xet_shards.xorbs(written))
+        # By columns, of any integers.
+        columns = [{name: it[name].astype(object).astype(numpy.uint64) for name in it.dtype.names}
+                   for it in (table.files, table.segments, table.xorbs, table.chunks)]
+        assert xet_shards.from_table(xet_shards.Table(*columns)) == written
+        listed = list(xet_shards.files(written))
+        assert xet_shards.hash_texts(table.files) == [it.hash for it in listed]
+        segments = [part for it in listed for part in it.file.segments]
+        assert xet_shards.hash_texts(table.segments, "xorb") == [it.xorb for it in segments]
+        assert table.files["segments"].tolist() == [len(it.file.segments) for it in listed]
+        chunks = [chunk for it in xet_shards.xorbs(written) for chunk in it.chunks]
+        assert list(zip(table.chunks["start"], table.chunks["bytes"])) == [(it.start, it.bytes) for it in chunks]
+    refused("InvalidArguments", xet_shards.from_table, dataclasses.replace(table, segments=table.segments[1:]))
+    refused("InvalidArguments", xet_shards.from_table, dataclasses.replace(table, chunks=table.chunks[:0]))
+    names = table.xorbs.dtype.names
+    for wrong in (-1, 2**32, 0.5):
+        xorbs = {name: numpy.array([wrong, 0] if name == "bytes" else table.xorbs[name]) for name in names}
+        raises(ValueError, xet_shards.from_table, dataclasses.replace(table, xorbs=xorbs))
+    # Neither reads a table, and a section that is cut short gives nothing.
+    assert (xet_shards.table(xet_shards.minimal(written, 9)).xorbs == table.xorbs).all()
+    refused("Io", xet_shards.table, written[: 48 + 48 * 7] + written[-200:])
+
+
+def test_columns():
+    if numpy is None:
+        return print("numpy is not there, so columns were not tested")
+    shard = shard_of("xorb 10", "xorb 11", "file 100")
+    table = xet_shards.table(shard)
+    columns = {name: table.xorbs[name].tolist() for name in table.xorbs.dtype.names}
+
+    def written(xorbs):
+        return xet_shards.from_table(dataclasses.replace(table, xorbs=xorbs))
+
+    assert written(columns) == shard
+    # Numbers of 64 bits: of a list with some below 2^63 and some not, numpy makes another type.
+    for words in ([1, 2**63], [2**63 - 1, 2**64 - 1], [numpy.uint64(1), 2**63], [2**63, 2**64 - 1]):
+        for column in (words, numpy.array(words, object), numpy.array(words, "u8")):
+            made = written({**columns, "hash3": column})
+            assert [it.hash[48:] for it in xet_shards.xorbs(made)] == [f"{int(word):016x}" for word in words]
+    for words in ([-1, 2**63], [0, 2**64], [0.0, 2**63], ["1", "2"], [None, 1], [True, False], [[1], [2, 3]]):
+        raises(ValueError, written, {**columns, "hash3": words})
+    # Columns of other shapes, which numpy would spread over all rows, or take for one of them.
+    for shape in (0, [], [0], [0, 0, 0], [[0, 0]], [[0], [0]], [[0, 0], [0, 0]]):
+        for name in ("hash0", "flags"):
+            raises(ValueError, written, {**columns, name: shape})
+        of_chunks = {name: [] for name in table.chunks.dtype.names}
+        if shape != []:
+            raises(ValueError, xet_shards.from_table,
+                   dataclasses.replace(table, chunks={**of_chunks, "reserved": shape}))
+    for array in (table.xorbs.reshape(1, 2), table.xorbs.reshape(2, 1), table.xorbs[0]):
+        raises(ValueError, written, array)
+    raises(KeyError, written, {"hash0": []})
+
+
+def test_table_reads_once():
+    if numpy is None:
+        return print("numpy is not there, so tables were not tested")
+    library, calls = xet_shards._library, []
+    call = library.xet_records
+    library.xet_records = lambda *arguments: calls.append(arguments) or call(*arguments)
+    try:
+        shard = records_shard().written()
+        whole, minimal = xet_shards.table(shard), xet_shards.table(xet_shards.minimal(shard, 9))
+        assert len(calls) == 2 and (whole.xorbs == minimal.xorbs).all()
+        # The footer counts other rows of the tables, or says that the xorb section ends at its start, or before it.
+        start = xet_shards.load(shard).xorb_section
+        for at, number, count in (
+            (32, 0, 1), (32, 2**63, 1), (32, 1, 2), (48, 2**63, 1), (48, 1, 2), (24, start, 2), (24, 0, 2),
+            (24, 2**63, 1),
+        ):
+            wrong = bytearray(shard)
+            wrong[-200 + at : -192 + at] = struct.pack("<Q", number)
+            calls.clear()
+            again = xet_shards.table(wrong)
+            assert len(calls) == count, (at, number)
+            for name in ("files", "segments", "xorbs", "chunks"):
+                assert numpy.array_equal(getattr(again, name), getattr(whole, name))
+    finally:
+        library.xet_records = call
+    # What the room behind the records had is not kept.
+    assert [len(it) for it in (whole.files, whole.segments, whole.xorbs, whole.chunks)] == [3, 72, 2, 2]
+    assert all(it.base is None and it.flags.owndata for it in (whole.files, whole.segments, whole.xorbs, whole.chunks))
+
+
+if __name__ == "__main__":
+    sys.exit(main(dict(globals())))
