@@ -2,6 +2,7 @@
 
 Runs with pytest, or as a program, which ends with the line 'N passed, M failed'.
 """
+import ctypes
 import dataclasses
 import os
 import struct
@@ -77,6 +78,64 @@ def test_columns():
     for array in (table.xorbs.reshape(1, 2), table.xorbs.reshape(2, 1), table.xorbs[0]):
         raises(ValueError, written, array)
     raises(KeyError, written, {"hash0": []})
+
+
+def test_hash_columns():
+    if numpy is None:
+        return print("numpy is not there, so columns of hashes were not tested")
+    written = records_shard().written()
+    table = xet_shards.table(written)
+    for array, names in (
+        (table.files, ("hash", "sha256_", "aux_hash")), (table.segments, ("xorb", "verification")),
+        (table.xorbs, ("hash",)), (table.chunks[::-1], ("hash",)), (table.chunks[:0], ("hash",)),
+    ):
+        for name in names:
+            column = xet_shards.hash_column(array, name)
+            assert column.dtype == "V32" and len(column) == len(array)
+            assert not len(array) or numpy.shares_memory(column, array)
+            # The text shows the bytes of each word in reverse.
+            words = [struct.unpack("<4Q", it) for it in column.tolist()]
+            assert [f"{a:016x}{b:016x}{c:016x}{d:016x}" for a, b, c, d in words] == xet_shards.hash_texts(array, name)
+    # They are the bytes of the shard: of its first file, and of a chunk behind it.
+    assert xet_shards.hash_column(table.files)[0].tobytes() == written[48:80]
+    assert xet_shards.hash_column(table.chunks)[0].tobytes() in written
+    raises(KeyError, xet_shards.hash_column, table.chunks, "xorb")
+    # One column in place of four, of several types.
+    packed = numpy.ascontiguousarray(xet_shards.hash_column(table.chunks))
+    others = {name: table.chunks[name] for name in table.chunks.dtype.names if not name.startswith("hash")}
+    for column in (packed, packed.view("S32"), packed.astype(object), packed.tolist(), [bytes(it) for it in packed]):
+        assert xet_shards.from_table(dataclasses.replace(table, chunks={**others, "hash": column})) == written
+    files = {name: table.files[name] for name in ("flags", "segments")}
+    for name in ("hash", "sha256_", "aux_hash"):
+        files[name.rstrip("_")] = xet_shards.hash_column(table.files, name)
+    assert xet_shards.from_table(dataclasses.replace(table, files=files)) == written
+    lists = ["text"] * 2, [b"0" * 31, b"0" * 32], [b"0" * 32] * 3, [[b"0" * 32] * 2], [None, b"0" * 32]
+    for column in (packed[:1], packed.view("V16"), packed.view("u1"), packed[None], *lists):
+        raises(ValueError, xet_shards.from_table, dataclasses.replace(table, chunks={**others, "hash": column}))
+    raises(KeyError, xet_shards.from_table, dataclasses.replace(table, chunks=others))
+
+
+def test_hash_columns_in_arrow():
+    if numpy is None:
+        return print("numpy is not there, so columns of hashes were not tested")
+    table = xet_shards.table(records_shard().written())
+    packed = numpy.ascontiguousarray(xet_shards.hash_column(table.chunks))
+    # What pyarrow.py_buffer asks of it: PyBUF_ANY_CONTIGUOUS.
+    view = xet_shards._View()
+    xet_shards._get_buffer(packed, view, 0x98)
+    wanted = b"".join(struct.pack("<4Q", *scripts.words_of(it)) for it in xet_shards.hash_texts(table.chunks))
+    assert (view.len, ctypes.string_at(view.buf, view.len)) == (64, wanted)
+    xet_shards._release_buffer(view)
+    try:
+        import pyarrow
+    except ImportError:
+        return print("pyarrow is not there, so only the buffer of a column of hashes was tested")
+    hashes = pyarrow.FixedSizeBinaryArray.from_buffers(
+        pyarrow.binary(32), len(packed), [None, pyarrow.py_buffer(packed)])
+    assert b"".join(hashes.to_pylist()) == wanted
+    names = ("start", "bytes", "flags")
+    chunks = pyarrow.table({"hash": hashes, **{name: table.chunks[name] for name in names}})
+    assert (xet_shards.from_table(dataclasses.replace(table, chunks=chunks)) == records_shard().written())
 
 
 def test_table_reads_once():

@@ -17,6 +17,7 @@ from __future__ import annotations
 
 import ctypes
 import importlib
+import itertools
 import mmap
 import os
 import struct
@@ -32,9 +33,9 @@ __all__ = [
     "MalformedError", "MalformedRecord", "NO_EXPIRY", "NO_KEY", "Run", "Segment", "Shard", "Table", "WritableBuffer",
     "XetError", "Xorb", "check", "chunk_rows", "concatenate", "concatenate_into", "difference", "eligible", "export",
     "file_at", "file_in", "files", "find_disagreement", "find_disagreements", "find_file", "find_malformed",
-    "find_places", "find_rows", "from_table", "hash_bytes", "hash_of_name", "hash_texts", "hmac", "load", "merge",
-    "merge_into", "merge_room", "minimal", "query_at", "query_chunks", "shard_name", "subset", "table", "union",
-    "write", "write_v2", "xorb_at", "xorb_in", "xorbs",
+    "find_places", "find_rows", "from_table", "hash_bytes", "hash_column", "hash_of_name", "hash_texts", "hmac", "load",
+    "merge", "merge_into", "merge_room", "minimal", "query_at", "query_chunks", "shard_name", "subset", "table",
+    "union", "write", "write_v2", "xorb_at", "xorb_in", "xorbs",
 ]
 
 __version__ = "0.1.0"
@@ -931,7 +932,8 @@ class Table:
     """All records of a shard as four structured arrays of numpy, in the order of its sections.
 
     Each field is a column of numbers, so `pandas.DataFrame(table.chunks)` takes an array as it is, and
-    `pyarrow.table({name: it[name] for name in it.dtype.names})` its columns. A hash is four columns, its words.
+    `pyarrow.table({name: it[name] for name in it.dtype.names})` its columns. A hash is four columns, its words, and one
+    by `hash_column`.
 
     - `files`: `hash0` to `hash3`, `sha256_0` to `sha256_3` and `aux_hash0` to `aux_hash3`, which are zeros where the
       file has none, `flags`, whose bits 31, 30 and 29 say that it has verification hashes, a SHA-256 and an auxiliary
@@ -1045,7 +1047,7 @@ def _as_type(columns: Any, wanted: Any) -> Any:
         if columns.ndim != 1:
             raise ValueError(f"an array of records has one dimension, and not {columns.ndim}")
         return numpy.require(columns, requirements=["C", "A"])
-    found = {name: _column(columns, name, wanted[name]) for name in wanted.names}
+    found = dict(_columns(columns, wanted))
     made = numpy.zeros(len(found[wanted.names[0]]), wanted)
     for name, column in found.items():
         if column is None:
@@ -1056,16 +1058,41 @@ def _as_type(columns: Any, wanted: Any) -> Any:
     return made
 
 
-def _column(columns: Any, name: str, wanted: Any) -> Any:
-    """Returns a column, whose numbers are all of this type, or None if it may be left out and is."""
+def _columns(columns: Any, wanted: Any) -> Iterator[Tuple[str, Any]]:
+    """Gives the columns of a type by name, of a hash its words. None stands for one that may be left out, and is."""
+    names = iter(wanted.names)
+    for name in names:
+        try:
+            values = columns[name]
+        except (KeyError, ValueError):
+            # Of an array without this field the error is another than of a mapping.
+            if name == "reserved":
+                yield name, None
+                continue
+            if not name.endswith("0"):
+                raise
+            hashes = name[:-1].rstrip("_")
+            words = _words_of_column(hashes, columns[hashes])
+            yield from zip((name, *itertools.islice(names, 3)), words.T)
+            continue
+        yield name, _column(name, values, wanted[name])
+
+
+def _words_of_column(name: str, values: Any) -> Any:
+    """Returns the words of hashes of 32 bytes each, a row for each hash."""
     numpy = _numpy()
-    try:
-        values = columns[name]
-    except (KeyError, ValueError):
-        # Of an array without this field the error is another than of a mapping.
-        if name != "reserved":
-            raise
-        return None
+    # Of a list of bytes numpy would make items of the longest.
+    column = values if isinstance(values, numpy.ndarray) else numpy.asarray(values, object)
+    if column.dtype == object and all(isinstance(it, bytes) and len(it) == 32 for it in column.flat):
+        column = column.astype("V32")
+    if column.ndim != 1 or column.dtype.kind not in "SV" or column.dtype.itemsize != 32:
+        raise ValueError(f"the column {name} has other items than hashes of 32 bytes")
+    return numpy.ascontiguousarray(column).view("<u8").reshape(-1, 4)
+
+
+def _column(name: str, values: Any, wanted: Any) -> Any:
+    """Returns a column, whose numbers are all of this type."""
+    numpy = _numpy()
     column = numpy.asarray(values)
     if column.dtype.kind in "fO":
         # Of a list of whole numbers of which only some are below 2^63 numpy makes floating-point numbers.
@@ -1083,6 +1110,28 @@ def _are_whole(column: Any) -> bool:
     if column.dtype == object:
         return all(isinstance(it, (int, numpy.integer)) for it in column)
     return column.dtype.kind in "iu"
+
+
+def hash_column(array: Any, name: str = "hash") -> Any:
+    """Returns the hashes in the four columns of this name of an array that `table` returned, as one column.
+
+    An item has the 32 bytes of a hash as a shard has them, lowest byte of each word first. It is of numpy's type `V32`,
+    since `S32` drops zeros at the end. The column is a view, `hash_column(table.segments, "xorb")` say, and copies
+    nothing. Arrow has values one after another, so the hashes that go there, and to polars from there, are copied once,
+    without being taken apart into words:
+
+        packed = numpy.ascontiguousarray(hash_column(table.chunks))
+        hashes = pyarrow.FixedSizeBinaryArray.from_buffers(
+            pyarrow.binary(32), len(packed), [None, pyarrow.py_buffer(packed)])
+        chunks = pyarrow.table({"hash": hashes, "bytes": table.chunks["bytes"]})
+        frame = polars.from_arrow(chunks)
+
+    `from_table` takes such a column in place of the four, under their name without a number: `hash`, `sha256`.
+    """
+    numpy = _numpy()
+    place = array.dtype.fields[f"{name}0"][1]
+    one = numpy.dtype({"names": [name], "formats": ["V32"], "offsets": [place], "itemsize": array.dtype.itemsize})
+    return array.view(one)[name]
 
 
 def hash_texts(array: Any, name: str = "hash") -> List[str]:
