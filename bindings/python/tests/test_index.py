@@ -2,10 +2,15 @@
 
 Runs with pytest, or as a program, which ends with the line 'N passed, M failed'.
 """
+import contextlib
 import os
+import pathlib
 import random
 import struct
 import sys
+import tempfile
+import threading
+import tracemalloc
 
 sys.dont_write_bytecode = True
 sys.path.insert(0, os.path.dirname(os.path.realpath(__file__)))
@@ -174,6 +179,210 @@ def test_index():
     assert index.add(shard_of("xorb 13 21:5")) == 3 and ask("21") == (3, 1, f"{13:016x}", 0)
 
 
+def test_in_place():
+    shard = shard_of("xorb 10 21:5 22:6", "xorb 11 22:7")
+    for it in (shard, keyed(shard), bytearray(shard), memoryview(shard)):
+        index = xet_shards.Index()
+        number = index.add(it, in_place=True)
+        assert index.add(xet_shards.minimal(shard_of("xorb 12 23:7"), 9), in_place=True) == 1
+        found = {it: index.query([hash_text(it)]) for it in ("21", "22", "23", "24")}
+        assert {it: run and run[0] for it, run in found.items()} == {"21": 0, "22": 0, "23": 1, "24": None}
+        # Chunk 22 is in two xorbs, and the hash behind it tells which is meant.
+        assert index.query([hash_text("21"), hash_text("22")])[1].segment.xorb == hash_text("10")
+        assert index.query([f"{21:016x}" + "9" * 48]) is None
+        assert index.remove(number) is it and index.query([hash_text("21")]) is None
+        assert index.query([hash_text("23")]) == found["23"]
+    # The table is not all there.
+    refused("Io", xet_shards.Index().add, shard[:48] + shard[-200:], in_place=True)
+    empty = xet_shards.Index()
+    empty.add(ONE_FILE, in_place=True)
+    assert empty.query([hash_text("21")]) is None and empty.remove(0) == ONE_FILE
+
+
+@contextlib.contextmanager
+def saved(index, **named):
+    """Gives the path of a file that an index is saved to."""
+    with tempfile.TemporaryDirectory() as folder:
+        path = pathlib.Path(folder, "chunks")
+        index.save(path, **named)
+        assert os.listdir(folder) == ["chunks"]
+        yield path
+
+
+def index_of(*shards):
+    index = xet_shards.Index()
+    for it in shards:
+        index.add(it)
+    return index
+
+
+def expiring(shard, expiry):
+    return xet_shards.export(shard, xet_shards.NO_KEY, 0, expiry)
+
+
+def test_saved():
+    first = shard_of("file 100 s=365 200:0:5:5", "file 101 200:0:5:5 201:1:2:7", "xorb 10 21:5 22:6", "xorb 12 24:1")
+    # They share a xorb, and two words of chunks.
+    second = shard_of("xorb 10 21:5 22:6", f"xorb 11 22:6 {sharing(7, 21)}:1 23:7", "file 103")
+    plain, under_key = (xet_shards.merge(it) for it in ([first, second], [second, shard_of("xorb 13 29:1")]))
+    shards = first, keyed(second), xet_shards.minimal(second, 9), xet_shards.export(
+        shard_of("xorb 13 29:1"), KEY, 1000, 60)
+    index = index_of(*shards)
+    with saved(index) as path:
+        # It is what the library exports of the merges.
+        wanted = [
+            xet_shards.export(xet_shards.merge([shards[0], shards[2]]), xet_shards.NO_KEY, 0, 2**64 - 1, files=False),
+            xet_shards.export(under_key, KEY, 0, 1060, files=False),
+        ]
+        assert path.read_bytes() == b"".join(wanted) and [xet_shards.check(it) for it in wanted] == [[], []]
+        assert xet_shards.load(plain).chunks == xet_shards.load(wanted[0]).chunks
+        again = xet_shards.Index.open(path)
+        assert [bytes(again[it]) for it in again] == wanted
+        answers = {}
+        for text in [*map(hash_text, ("21", "22", "23", "24", "25", "29")), sharing(7, 21), sharing(8, 21)]:
+            answers[text] = [it and it[1].count for it in (index.query([text]), again.query([text]))]
+        assert list(answers.values()) == [[1, 1]] * 4 + [[None] * 2] + [[1, 1]] * 2 + [[None] * 2]
+        assert again.query([hash_text("22"), sharing(7, 21), hash_text("23")])[1].segment.xorb == hash_text("11")
+        # A shard can be added, and the index be saved to the file that it has mapped.
+        again.add(shard_of("xorb 14 30:1"))
+        assert again.query([hash_text("30")])[0] == 2
+        again.save(path)
+        assert again.query([hash_text("24")]) and len(xet_shards.Index.open(path)) == 2
+        assert xet_shards.Index.open(path).query([hash_text("30")])[0] == 0
+    with saved(xet_shards.Index()) as path:
+        assert path.read_bytes() == b"" and len(xet_shards.Index.open(path)) == 0
+
+
+def test_saved_with_errors():
+    index = index_of(XORB_AND_FILE, ONE_FILE)
+    descending = bytearray(shard_of("xorb 10 21:5", "xorb 11 22:6"))
+    descending[96] = 12
+    number = index.add(descending)
+    with tempfile.TemporaryDirectory() as folder:
+        path = pathlib.Path(folder, "chunks")
+        path.write_bytes(b"before")
+        assert refused("InvalidShard", index.save, path).index == number
+        raises(FileNotFoundError, index.save, pathlib.Path(folder, "none", "chunks"))
+        assert os.listdir(folder) == ["chunks"] and path.read_bytes() == b"before"
+        index.remove(number)
+        for save_to in (path, str(path), os.fsencode(path)):
+            index.save(save_to)
+            assert xet_shards.Index.open(save_to).query([hash_text("21")])[0] == 0
+        whole = path.read_bytes()
+        longer = bytearray(whole)
+        longer[-8:] = struct.pack("<Q", len(whole))
+        for content, name in (
+            (whole[1:], "ShardVersion"), (whole[:-1], "ShardVersion"), (b"text", "Io"), (longer, "InvalidShard"),
+            (whole[:-1] + whole, "ShardVersion"),
+        ):
+            path.write_bytes(content)
+            refused(name, xet_shards.Index.open, path)
+        raises(FileNotFoundError, xet_shards.Index.open, f"{folder}/none")
+
+
+def test_expiry():
+    shard = shard_of("xorb 10 21:5 22:6")
+    index = index_of(expiring(shard, 500), keyed(shard), xet_shards.minimal(shard_of("xorb 11 21:5"), 9))
+    wanted = [hash_text("21"), hash_text("22")]
+    # The one under the key expires at 1060, and the minimal one does not.
+    for now, number in ((None, 0), (0, 0), (499, 0), (500, 1), (1059, 1), (1060, 2), (2**64 - 1, 2)):
+        assert index.query(wanted, now)[0] == number
+        with saved(index, now=now) as path:
+            again = xet_shards.Index.open(path)
+            assert len(again) == 3 - number and again.query(wanted)[1].count == 2 - number // 2
+            assert again.query(wanted, now=1060)[1].count == 1
+    with saved(index) as path:
+        again = xet_shards.Index.open(path)
+        assert [xet_shards.load(again[it]).expiry for it in again] == [500, 1060, xet_shards.NO_EXPIRY]
+        assert again.remove_expired(1060) == [0, 1] and len(again) == 1
+    assert index.remove_expired(499) == [] and index.remove_expired(500) == [0] and list(index) == [1, 2]
+    assert index.remove_expired(2**64 - 1) == [1] and index.query(wanted)[0] == 2
+    raises(ValueError, index.remove_expired, -1)
+
+
+def test_resolution():
+    shards = [expiring(shard_of(f"xorb {10 + it} {21 + it}:5"), expiry)
+              for it, expiry in enumerate((3599, 3600, 7199, 7200, 2**64 - 1))]
+    for resolution, expiries in ((1, [3599, 3600, 7199, 7200]), (3600, [1, 3600, 7200]), (7200, [1, 7200])):
+        with saved(index_of(*shards), resolution=resolution) as path:
+            again = xet_shards.Index.open(path)
+            assert [xet_shards.load(again[it]).expiry for it in again] == [*expiries, 2**64 - 1]
+            assert all(again.query([hash_text(str(21 + it))]) for it in range(5))
+
+
+def spread_shard(number, chunks=20_000):
+    """Returns a shard whose chunks have first words all over the range."""
+    chance = random.Random(number)
+    words = [f"{chance.getrandbits(256):064x}" for _ in range(chunks)]
+    xorbs = [
+        xet_shards.Xorb(f"{chance.getrandbits(256):064x}", 0, 500, 0,
+                        tuple(xet_shards.Chunk(it, at, 1, 0) for at, it in enumerate(words[start : start + 500])))
+        for start in range(0, chunks, 500)
+    ]
+    return words, xet_shards.write([], xorbs)
+
+
+def memory_of(shards, **named):
+    """Returns an index of shards, and the bytes that it takes."""
+    tracemalloc.start()
+    index = xet_shards.Index()
+    for it in shards:
+        index.add(it, **named)
+    size = tracemalloc.get_traced_memory()[0]
+    tracemalloc.stop()
+    return index, size
+
+
+def test_memory():
+    words, shards = zip(*map(spread_shard, range(3)))
+    index, size = memory_of(shards)
+    assert size <= 30 * sum(map(len, words)), f"{size} bytes"
+    in_place, size = memory_of(shards, in_place=True)
+    assert size < 10_000, f"{size} bytes"
+    with saved(index) as path:
+        tracemalloc.start()
+        mapped = xet_shards.Index.open(path)
+        size = tracemalloc.get_traced_memory()[0]
+        tracemalloc.stop()
+        assert size < 10_000, f"{size} bytes"
+        for text in words[1][::7]:
+            assert index.query([text])[0] == in_place.query([text])[0] == 1 and mapped.query([text])[1].count == 1
+        missing = f"{1:064x}"
+        assert index.query([missing]) is in_place.query([missing]) is mapped.query([missing]) is None
+    # What is removed is given back.
+    index.add(ONE_FILE)
+    rows = index._keys[xet_shards.NO_KEY].rows
+    for number, count, blocks in ((0, 40_000, 240), (2, 20_000, 200), (1, 0, 1)):
+        index.remove(number)
+        assert rows.count == count and len(rows._blocks) <= blocks, f"{len(rows._blocks)} blocks of {rows.count} rows"
+
+
+def test_index_in_threads():
+    words, shard = spread_shard(0, 2000)
+    _, other = spread_shard(1, 2000)
+    index, wrong, ended = index_of(shard), [], threading.Event()
+
+    def ask(start):
+        try:
+            while not ended.is_set():
+                for text in words[start::50]:
+                    if index.query([text])[0] != 0:
+                        wrong.append(text)
+        except Exception as error:
+            wrong.append(error)
+
+    threads = [threading.Thread(target=ask, args=(it,)) for it in range(3)]
+    for it in threads:
+        it.start()
+    for _ in range(20):
+        index.remove(index.add(other))
+        index.remove(index.add(other, in_place=True))
+    ended.set()
+    for it in threads:
+        it.join()
+    assert not wrong and list(index) == [0]
+
+
 def longest(shards, wanted):
     """Returns the length of the longest run, and where runs of it are, by a walk through all records."""
     best, places = 0, []
@@ -208,7 +417,7 @@ def test_index_beside_a_search():
             kind = chance.randrange(4)
             if kind:
                 shard = xet_shards.minimal(shard, 9) if kind == 1 else keyed(shard, chunk_table=kind == 2)
-            shards[index.add(shard)] = xet_shards.load(shard).key, shard
+            shards[index.add(shard, in_place=chance.random() < 0.5)] = xet_shards.load(shard).key, shard
         elif shards and chance.random() < 0.3:
             number = chance.choice(list(shards))
             assert index.remove(number) == shards.pop(number)[1]
@@ -219,6 +428,11 @@ def test_index_beside_a_search():
         if found:
             hits += 1
             assert (found[0], found[1].segment.xorb, found[1].segment.start) in places, f"seed {seed}, turn {turn}"
+        if turn % 30 == 29:
+            # A merge has the runs that its inputs have, but a xorb once.
+            with saved(index) as path:
+                found = xet_shards.Index.open(path).query(wanted)
+                assert (found[1].count if found else 0) <= best, f"seed {seed}, turn {turn}"
     assert hits and len(index) == len(shards)
     for number in list(index):
         index.remove(number)

@@ -1179,11 +1179,13 @@ def query_at(shard: Buffer, hashes: Sequence[str], row: int, index: int) -> Opti
 
     The hashes are not keyed. It is None if the chunk has another hash than the first.
     """
-    wanted, count, run = _hashes(hashes), c_size_t(), _Segment()
+    return _run_at(shard, _hashes(hashes), len(hashes), _number(row), _number(index))
+
+
+def _run_at(shard: Buffer, wanted: ctypes.Array[Any], length: int, row: int, index: int) -> Optional[Run]:
+    count, run = c_size_t(), _Segment()
     with _Addresses(shard) as [data]:
-        number = _library.xet_query_at(
-            *data, wanted, len(hashes), _number(row), _number(index), byref(count), byref(run)
-        )
+        number = _library.xet_query_at(*data, wanted, length, row, index, byref(count), byref(run))
     _check(number, "there is no chunk at this row and index")
     return Run(count.value, _segment(run)) if count.value else None
 
