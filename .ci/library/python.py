@@ -37,7 +37,7 @@ STRUCTS = {
 
 def check_errors(module):
     """The names and the numbers of errors are those of `error_number`."""
-    same = dict(enumerate(module._NAMES, 1)) == error_numbers()
+    same = dict(enumerate(module._errors._NAMES, 1)) == error_numbers()
     return None if same else "the errors of the Python module are not those of crates/xet_c"
 
 
@@ -55,12 +55,12 @@ def places(there, struct):
 
 def check_structs(module):
     """The structs have the fields, types and places of those of crates/xet_c."""
-    found = structs()
+    found, there = structs(), module._structs
     if sorted(found) != sorted(STRUCTS):
         return f"crates/xet_c has the structs {', '.join(found)}"
-    types = {**TYPES, **{name: getattr(module, there[0]) for name, there in STRUCTS.items()}}
+    types = {**TYPES, **{name: getattr(there, it) for name, (it, _) in STRUCTS.items()}}
     # A slice in a list of slices, which is no struct of crates/xet_c.
-    lines = ['#include "xet.h"', *places("xet_bytes", module._ShardBytes)]
+    lines = ['#include "xet.h"', *places("xet_bytes", there._ShardBytes)]
     for name, fields in found.items():
         if [(field, types[kind]) for field, kind in fields] != types[name]._fields_:
             return f"{STRUCTS[name][0]} of the Python module is not {name}"
@@ -103,6 +103,11 @@ def check_types():
     return ran("mypy", "--strict", "--cache-dir", os.devnull, "xet_shards", "examples", cwd=MODULE)[1]
 
 
+def modules():
+    """Returns the names of the package's modules."""
+    return sorted(it.removesuffix(".py") for it in os.listdir(f"{MODULE}/xet_shards") if it.endswith(".py"))
+
+
 def copied(room, library):
     """Copies the Python package into a room, with the library if it is given, and returns its folder."""
     folder = f"{room}/package"
@@ -120,7 +125,7 @@ def check_package(room, library):
     program = f"import pkgutil, xet_shards as it; print({names}, it.__version__)"
     folder = copied(room, library)
     printed, why = ran(sys.executable, "-c", program, cwd=room, env={"PYTHONPATH": folder, "XET_LIBRARY": ""})
-    wanted = f"__main__ index ranges shard {read(f'{TOP}/VERSION')}"
+    wanted = " ".join([*modules()[1:], read(f"{TOP}/VERSION")])
     return why or (None if printed == wanted else f"the package shows {printed}")
 
 
@@ -156,8 +161,7 @@ def check_wheel(room, library):
         return f"no {os.path.basename(wheel)} is built, but {[it for it in os.listdir(room) if it.endswith('.whl')]}"
     with zipfile.ZipFile(wheel) as file:
         names = {os.path.basename(it) for it in file.namelist()}
-    modules = {f"{it}.py" for it in ("__init__", "__main__", "index", "ranges", "shard")}
-    missing = {*modules, "py.typed", SONAME, "LICENSE", "NOTICE"} - names
+    missing = {*(f"{it}.py" for it in modules()), "py.typed", SONAME, "LICENSE", "NOTICE"} - names
     return f"the wheel lacks {sorted(missing)}" if missing else None
 
 

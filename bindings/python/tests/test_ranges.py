@@ -262,7 +262,7 @@ def test_a_range_that_fails():
 def test_bytes_of_large_merges():
     """Bytes are made in memory that is longer, and for which large pages are asked."""
     shards = [shard_of("xorb 10" + " 21:1" * 1000, "xorb 11" + " 22:1" * 1000)] * 120
-    assert xet_shards.merge_room(shards) > xet_shards._LARGE_ROOM
+    assert xet_shards.merge_room(shards) > xet_shards._memory._LARGE_ROOM
     for threads in (None, 2):
         whole = xet_shards.merge(shards, threads=threads)
         assert whole == shards[0] and isinstance(whole, bytes) and sys.getrefcount(whole) == 2

@@ -224,7 +224,7 @@ def test_names():
 
 
 def test_versions():
-    library = os.environ.get("XET_LIBRARY") or f"{os.path.dirname(xet_shards.__file__)}/{xet_shards._LIBRARY}"
+    library = os.environ.get("XET_LIBRARY") or f"{os.path.dirname(xet_shards.__file__)}/{xet_shards._calls._LIBRARY}"
     library = os.path.abspath(library)
 
     def run(*words):

@@ -121,11 +121,11 @@ def test_hash_columns_in_arrow():
     table = xet_shards.table(records_shard().written())
     packed = numpy.ascontiguousarray(xet_shards.hash_column(table.chunks))
     # What pyarrow.py_buffer asks of it: PyBUF_ANY_CONTIGUOUS.
-    view = xet_shards._View()
-    xet_shards._get_buffer(packed, view, 0x98)
+    view = xet_shards._memory._View()
+    xet_shards._memory._get_buffer(packed, view, 0x98)
     wanted = b"".join(struct.pack("<4Q", *scripts.words_of(it)) for it in xet_shards.hash_texts(table.chunks))
     assert (view.len, ctypes.string_at(view.buf, view.len)) == (64, wanted)
-    xet_shards._release_buffer(view)
+    xet_shards._memory._release_buffer(view)
     try:
         import pyarrow
     except ImportError:
@@ -141,7 +141,7 @@ def test_hash_columns_in_arrow():
 def test_table_reads_once():
     if numpy is None:
         return print("numpy is not there, so tables were not tested")
-    library, calls = xet_shards._library, []
+    library, calls = xet_shards._calls._library, []
     call = library.xet_records
     library.xet_records = lambda *arguments: calls.append(arguments) or call(*arguments)
     try:

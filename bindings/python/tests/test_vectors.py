@@ -24,6 +24,8 @@ import scripts  # noqa: E402
 import xet_shards  # noqa: E402
 from scripts import Shard, hash_text  # noqa: E402
 
+LIBRARY, structs = xet_shards._calls._library, xet_shards._structs
+
 try:
     import numpy
 except ImportError:
@@ -276,9 +278,9 @@ def test_library_of_another_version():
     first, second, third = map(int, xet_shards.__version__.split("."))
     own, end = 10000 * first + 100 * second + third, 10000 * (first + 1)
     for number in (own, own + 1, end - 1):
-        xet_shards._compare_versions("libxet.so", number)
+        xet_shards._calls._compare_versions("libxet.so", number)
     for number in (own - 1, end):
-        raises(ImportError, xet_shards._compare_versions, "libxet.so", number)
+        raises(ImportError, xet_shards._calls._compare_versions, "libxet.so", number)
 
 
 def test_forms_without_a_file_table():
@@ -414,7 +416,7 @@ def test_names():
 
 def test_hashes():
     # b3sum --keyed, with the key of the bytes 0 to 31.
-    key = xet_shards._text([int.from_bytes(bytes(range(at, at + 8)), "little") for at in (0, 8, 16, 24)])
+    key = xet_shards._arguments._text([int.from_bytes(bytes(range(at, at + 8)), "little") for at in (0, 8, 16, 24)])
     for length, wanted in (
         (0, "cd715d99192b49730998c0ec4dd7e9b1c295bc001b2f73eb8f47d6d49d5fb17c"),
         (1025, "a004b8a947312282e2aed8b821a9f9c321e76bb71ba5d150b34973f2e8d5e652"),
@@ -425,7 +427,7 @@ def test_hashes():
     # The hash of a hash is that of its bytes.
     words = (21, 1, 2**63, 255)
     data = b"".join(word.to_bytes(8, "little") for word in words)
-    assert xet_shards.hmac(key, xet_shards._text(words)) == xet_shards.hash_bytes(key, data)
+    assert xet_shards.hmac(key, xet_shards._arguments._text(words)) == xet_shards.hash_bytes(key, data)
     raises(ValueError, xet_shards.hash_bytes, key[1:], b"")
     raises(ValueError, xet_shards.hmac, key, key[1:])
 
@@ -434,9 +436,9 @@ def test_reserved_words():
     # Those of the file's header and of the chunk.
     marked = bytearray(XORB_AND_FILE)
     marked[88:96], marked[284:288] = struct.pack("<Q", 7), struct.pack("<I", 8)
-    file, wanted = xet_shards._File(), xet_shards._Hash(scripts.words_of(hash_text("100")))
-    segments = (xet_shards._FileSegment * 1)()
-    call, shard = xet_shards._library.xet_find_file, bytes(marked)
+    file, wanted = structs._File(), structs._Hash(scripts.words_of(hash_text("100")))
+    segments = (structs._FileSegment * 1)()
+    call, shard = LIBRARY.xet_find_file, bytes(marked)
     assert call(shard, len(shard), ctypes.byref(wanted), ctypes.byref(file), segments, 1) == 0
     assert (file.flags, file.reserved) == (0, 7)
     (xorb,) = xet_shards.xorbs(marked)
@@ -448,15 +450,15 @@ def test_reserved_words():
 
 def test_digits():
     digits = b"000000000000000100000000000000020000000000000003000000000000000a"
-    words, written = xet_shards._Hash((1, 2, 3, 10)), ctypes.c_size_t()
+    words, written = structs._Hash((1, 2, 3, 10)), ctypes.c_size_t()
     text = ctypes.create_string_buffer(b"#" * 65, 65)
-    to_hex, from_hex = xet_shards._library.xet_hash_to_hex, xet_shards._library.xet_hash_from_hex
+    to_hex, from_hex = LIBRARY.xet_hash_to_hex, LIBRARY.xet_hash_from_hex
     assert (to_hex(ctypes.byref(words), text, 63, ctypes.byref(written)), written.value) == (19, 64)
     assert text.raw == b"#" * 65
     assert (to_hex(ctypes.byref(words), text, 65, ctypes.byref(written)), written.value) == (0, 64)
     assert text.raw == digits + b"#"
     for given in (digits, digits.upper()):
-        found = xet_shards._Hash((9, 9, 9, 9))
+        found = structs._Hash((9, 9, 9, 9))
         assert (from_hex(given, 64, ctypes.byref(found)), list(found.words)) == (0, [1, 2, 3, 10])
         assert (from_hex(given, 63, ctypes.byref(words)), list(words.words)) == (16, [1, 2, 3, 10])
     assert (from_hex(b"\xff" * 64, 64, ctypes.byref(words)), list(words.words)) == (16, [1, 2, 3, 10])
@@ -729,13 +731,13 @@ def test_records_that_no_shard_has():
 
 
 def test_outputs_of_records():
-    counts, shard = xet_shards._Counts(9, 9, 9, 9), shard_of("xorb 10 21:5 22:6", "file 100 200:0:5:5")
-    kinds = xet_shards._ListedFile, xet_shards._FileSegment, xet_shards._ListedXorb, xet_shards._Chunk
+    counts, shard = structs._Counts(9, 9, 9, 9), shard_of("xorb 10 21:5 22:6", "file 100 200:0:5:5")
+    kinds = structs._ListedFile, structs._FileSegment, structs._ListedXorb, structs._Chunk
 
     def records(shard, *rooms):
         out = [(kind * 3).from_buffer(bytearray(b"\xaa" * 3 * ctypes.sizeof(kind))) for kind in kinds]
         places = [it for place in zip(out, rooms) for it in place]
-        number = xet_shards._library.xet_records(shard, len(shard), *places, ctypes.byref(counts))
+        number = LIBRARY.xet_records(shard, len(shard), *places, ctypes.byref(counts))
         return number, (counts.files, counts.segments, counts.xorbs, counts.chunks), [bytes(it) for it in out]
 
     untouched = [b"\xaa" * 3 * ctypes.sizeof(kind) for kind in kinds]
@@ -925,13 +927,13 @@ def test_arguments():
 def test_sizes_of_structs():
     # Of a 64-bit target: each word at a multiple of eight.
     sizes = {"_Hash": 32, "_Segment": 48, "_Info": 216, "_Export": 56, "_File": 88, "_Chunk": 48}
-    assert {it: ctypes.sizeof(getattr(xet_shards, it)) for it in sizes} == sizes
+    assert {it: ctypes.sizeof(getattr(structs, it)) for it in sizes} == sizes
 
 
 def union_into(out, room, first, second):
     """Calls xet_union, and returns its result and the count that it writes."""
     written = ctypes.c_size_t(12345)
-    number = xet_shards._library.xet_union(
+    number = LIBRARY.xet_union(
         first, len(first), second, len(second), out, room, ctypes.byref(written)
     )
     return number, written.value
@@ -954,19 +956,19 @@ def test_outputs_of_errors():
     out = ctypes.create_string_buffer(b"\xaa" * 500, 500)
     assert union_into(out, 500, ONE_FILE[:100], ONE_FILE) == (1, 0)
     assert out.raw == b"\xaa" * 500
-    info = xet_shards._Info(*range(4), (4, 5, 6, 7), *range(8, 13))
+    info = structs._Info(*range(4), (4, 5, 6, 7), *range(8, 13))
     before = bytes(info)
-    assert xet_shards._library.xet_load(ONE_FILE, 100, ctypes.byref(info)) == 1
+    assert LIBRARY.xet_load(ONE_FILE, 100, ctypes.byref(info)) == 1
     assert bytes(info) == before
 
 
 def test_outputs_of_lookups():
-    file = xet_shards._File(True, True, True, True, 3, 4, (1, 2, 3, 4), (5, 6, 7, 8), 9)
-    segments = (xet_shards._FileSegment * 2)()
+    file = structs._File(True, True, True, True, 3, 4, (1, 2, 3, 4), (5, 6, 7, 8), 9)
+    segments = (structs._FileSegment * 2)()
     segments[0].segment.bytes, segments[1].segment.bytes = 123, 456
     before, rows = bytes(file), bytes(segments)
-    call = xet_shards._library.xet_find_file
-    wanted = xet_shards._Hash(scripts.words_of(hash_text("100")))
+    call = LIBRARY.xet_find_file
+    wanted = structs._Hash(scripts.words_of(hash_text("100")))
     # An error leaves both.
     assert call(ONE_FILE, 100, ctypes.byref(wanted), ctypes.byref(file), segments, 2) == 1
     assert (bytes(file), bytes(segments)) == (before, rows)
@@ -990,8 +992,8 @@ def test_outputs_of_lookups():
 def test_outputs_of_eligible():
     # Two hashes, with room for less and for more.
     shard, written = shard_of("xorb 10 22:1 21:1"), ctypes.c_size_t(12345)
-    out = (xet_shards._Hash * 3)(*[xet_shards._Hash((9, 9, 9, 9))] * 3)
-    call = xet_shards._library.xet_eligible
+    out = (structs._Hash * 3)(*[structs._Hash((9, 9, 9, 9))] * 3)
+    call = LIBRARY.xet_eligible
     assert (call(shard, len(shard), out, 1, ctypes.byref(written)), written.value) == (19, 2)
     assert [list(it.words) for it in out] == [[9] * 4] * 3
     assert (call(shard, 40, out, 3, ctypes.byref(written)), written.value) == (1, 0)
@@ -1003,14 +1005,14 @@ def test_outputs_of_eligible():
 def test_outputs_of_disagreements():
     # Three, with room for less and for more.
     shards, found = three_that_disagree()
-    out, written = (xet_shards._Disagreement * 4)(), ctypes.c_size_t(12345)
+    out, written = (structs._Disagreement * 4)(), ctypes.c_size_t(12345)
     ctypes.memset(out, 9, ctypes.sizeof(out))
-    before, size = bytes(out), ctypes.sizeof(xet_shards._Disagreement)
+    before, size = bytes(out), ctypes.sizeof(structs._Disagreement)
 
     def call(inputs, room):
-        with xet_shards._Addresses(*inputs) as data:
-            number = xet_shards._library.xet_find_disagreements(
-                xet_shards._list(data), len(data), out, room, ctypes.byref(written)
+        with xet_shards._memory._Addresses(*inputs) as data:
+            number = LIBRARY.xet_find_disagreements(
+                xet_shards._memory._list(data), len(data), out, room, ctypes.byref(written)
             )
         return number, written.value
 
@@ -1019,18 +1021,18 @@ def test_outputs_of_disagreements():
     assert call(shards[:1], 4) == (0, 0)
     assert bytes(out) == before
     assert call(shards, 4) == (0, 3)
-    assert [xet_shards._disagreement(it, 3) for it in out[:3]] == found
+    assert [xet_shards._merging._disagreement(it, 3) for it in out[:3]] == found
     assert bytes(out)[3 * size :] == before[3 * size :]
     assert call(shards, 3) == (0, 3)
 
 
 def test_outputs_of_queries():
-    count, run = ctypes.c_size_t(12345), xet_shards._Segment((1, 2, 3, 4), 5, 6, 7, 8)
+    count, run = ctypes.c_size_t(12345), structs._Segment((1, 2, 3, 4), 5, 6, 7, 8)
     before = bytes(run)
-    wanted = (xet_shards._Hash * 1)(xet_shards._Hash(scripts.words_of(hash_text("99"))))
+    wanted = (structs._Hash * 1)(structs._Hash(scripts.words_of(hash_text("99"))))
     for length, number in ((len(XORB_AND_FILE), 0), (100, 1)):
         count.value = 12345
-        assert xet_shards._library.xet_query_chunks(
+        assert LIBRARY.xet_query_chunks(
             XORB_AND_FILE, length, wanted, 1, ctypes.byref(count), ctypes.byref(run)
         ) == number
         assert (count.value, bytes(run)) == (0, before)

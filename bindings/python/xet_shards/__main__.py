@@ -6,7 +6,8 @@ import ctypes
 import os
 from ctypes import byref, c_char_p, c_void_p
 
-from . import __version__, _library, _version
+from . import __version__
+from ._calls import _library, _version
 
 
 class _Place(ctypes.Structure):

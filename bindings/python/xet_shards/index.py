@@ -12,11 +12,14 @@ from ctypes import byref
 from itertools import chain, repeat
 from typing import Dict, Iterable, Iterator, List, NamedTuple, Optional, Sequence, Tuple, Union
 
-from . import (
-    _INVALID_SHARD, _IO, NO_EXPIRY, NO_KEY, Buffer, Run, XetError, _Hash, _hashes, _library, _run_at, _seconds, _words,
-    chunk_rows, load, merge,
-)
-from .shard import Path, Shard
+from ._arguments import NO_EXPIRY, NO_KEY, _hashes, _seconds, _words
+from ._calls import _library
+from ._errors import _INVALID_SHARD, _IO, XetError
+from ._lookups import Run, _run_at, chunk_rows, load
+from ._memory import Buffer, _Mapped
+from ._merging import merge
+from ._structs import _ROW, _Hash
+from .shard import Path
 
 # A block has so many rows at most: a row comes to its place by moving those behind it.
 _BLOCK = 512
@@ -334,7 +337,7 @@ def _columns(rows: memoryview) -> Tuple[memoryview, memoryview]:
 
 def _table(shard: Buffer, start: int, count: int) -> Tuple[memoryview, memoryview]:
     """Returns the words and the places of a chunk table of so many rows, where it lies in a shard."""
-    whole = memoryview(shard.buffer if isinstance(shard, Shard) else shard).cast("B")
+    whole = memoryview(shard.buffer if isinstance(shard, _Mapped) else shard).cast("B")
     rows = whole[start : start + _TABLE_ROW * count]
     if len(rows) < _TABLE_ROW * count:
         raise XetError(_IO)

@@ -8,18 +8,20 @@ from concurrent.futures import Future, ThreadPoolExecutor
 from ctypes import byref, c_char, c_size_t, string_at
 from typing import Any, Iterator, List, NamedTuple, Optional, Sequence, Tuple
 
-from . import (
-    Buffer, WritableBuffer, _Addresses, _advise_large_pages, _check, _Info, _library, _list, _merge_to, _output_apart,
-    _range, _Range, _words, find_disagreement, find_malformed,
-)
+from ._arguments import _words
+from ._calls import _library
+from ._errors import _check
+from ._memory import Buffer, WritableBuffer, _Addresses, _advise_large_pages, _list, _output_apart
+from ._merging import _merge_to, _range, find_disagreement, find_malformed
+from ._structs import _ROW, _Info, _Range
 
 # The four words of a hash, by which hashes are ordered.
 Words = Tuple[int, ...]
 
 # How many hashes of the inputs are looked at to find cuts.
 _SAMPLE = 1024
-# The bytes of a row of a section, and of a row of the tables of files and xorbs.
-_ROW, _TABLE_ROW = 48, 12
+# The bytes of a row of the tables of files and xorbs.
+_TABLE_ROW = 12
 # The bytes of a hash.
 _HASH = 32
 # The fractional parts of its multiples are spread evenly, however many there are.

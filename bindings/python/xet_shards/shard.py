@@ -6,11 +6,13 @@ import mmap
 import os
 from typing import Iterator, List, Optional, Sequence, Tuple, TypeVar, Union
 
-from . import (
-    _INTERNAL_ERROR, _IO, File, Finding, Info, ListedFile, Run, Table, XetError, Xorb, check, chunk_rows, eligible,
-    export, file_at, files, find_file, find_rows, load, minimal, query_at, query_chunks, subset, table, write_v2, xorb_at,
-    xorbs,
-)
+from ._checking import Finding, check
+from ._errors import _INTERNAL_ERROR, _IO, XetError
+from ._forms import eligible, export, minimal, subset, write_v2
+from ._lookups import Info, Run, chunk_rows, find_file, find_rows, load, query_at, query_chunks
+from ._memory import _Mapped
+from ._records import File, ListedFile, Xorb, file_at, files, xorb_at, xorbs
+from ._tables import Table, table
 from .ranges import _TABLE_ROW
 
 Path = Union[str, bytes, "os.PathLike[str]", "os.PathLike[bytes]"]
@@ -27,7 +29,7 @@ def open(path: Path) -> Shard:
     return Shard(path)
 
 
-class Shard:
+class Shard(_Mapped):
     """A shard in a file, which `open` maps to memory. It is a context manager, which closes it at its end.
 
     A method does what the function of its name does with the bytes. A shard can also be given to any function that

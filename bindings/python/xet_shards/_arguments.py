@@ -1,0 +1,75 @@
+"""Numbers and hashes, as calls take them."""
+from __future__ import annotations
+
+import ctypes
+import struct
+from array import array
+from ctypes import c_uint64
+from typing import Any, List, Optional, Sequence, Tuple
+
+from ._memory import _array
+from ._structs import _Hash, _Words
+
+NO_KEY = "0" * 64
+"""The key of an export that leaves chunk hashes as they are, and of a shard whose chunk hashes are not keyed."""
+
+NO_EXPIRY = 2**64 - 1
+"""The expiry of a shard that has none."""
+
+# The text of a hash, taken as bytes.
+_WORDS = struct.Struct(">4Q")
+
+
+def _seconds(number: int) -> int:
+    if not 0 <= number < 2**64:
+        raise ValueError("a time has 64 bits")
+    return number
+
+
+def _word(number: int) -> int:
+    if not 0 <= number < 2**64:
+        raise ValueError("a number of a shard has 64 bits")
+    return number
+
+
+def _number(number: int) -> int:
+    if not 0 <= number < 2**32:
+        raise ValueError("a number of a record has 32 bits")
+    return number
+
+
+def _words(text: str) -> ctypes.Array[c_uint64]:
+    return _Words(*_WORDS.unpack(_digits(text)))
+
+
+def _digits(text: str) -> bytes:
+    """Returns the bytes that the text of a hash stands for, the highest of each word first."""
+    try:
+        # Spaces between digits are passed over.
+        digits = bytes.fromhex(text)
+    except ValueError:
+        digits = b""
+    if len(digits) != 32 or len(text) != 64:
+        raise ValueError("a hash has 64 hexadecimal digits")
+    return digits
+
+
+def _words_or_zero(text: Optional[str]) -> ctypes.Array[c_uint64]:
+    return _Words() if text is None else _words(text)
+
+
+def _text(words: Sequence[int]) -> str:
+    return _WORDS.pack(*words).hex()
+
+
+def _hashes(texts: Sequence[str]) -> ctypes.Array[Any]:
+    words = array("Q", b"".join(map(_digits, texts)))
+    words.byteswap()
+    return (_Hash * len(texts)).from_buffer_copy(words) if texts else _array(_Hash, 0)
+
+
+def _array_of(item: Any, items: List[Any]) -> Tuple[ctypes.Array[Any], int]:
+    """Returns an array of these items, and their number."""
+    array_of = _array(item, len(items))
+    array_of[: len(items)] = items
+    return array_of, len(items)

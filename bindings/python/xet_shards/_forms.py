@@ -1,0 +1,83 @@
+"""Other forms of a shard."""
+from __future__ import annotations
+
+from ctypes import byref
+from typing import List, Optional, Sequence
+
+from ._arguments import _hashes, _seconds, _text, _words
+from ._calls import _library
+from ._memory import Buffer, _Addresses, _filled, _made
+from ._structs import _Export, _Hash, _Subset
+
+
+def export(
+    shard: Buffer, key: str, now: int, valid_seconds: int, files: bool = True, aux_rows: bool = True,
+    xorb_table: bool = True, chunk_table: bool = True,
+) -> bytes:
+    """Returns the shard with its chunk hashes under a key, created at `now`, to expire `valid_seconds` later.
+
+    It has its files, which keep their auxiliary rows, the table of xorbs and that of chunks, unless these are left out.
+    """
+    options = _Export(
+        _words(key), _seconds(now), _seconds(valid_seconds), files, aux_rows, xorb_table, chunk_table
+    )
+    with _Addresses(shard) as [data]:
+        return _made(
+            data[1],
+            lambda out, room, written: _library.xet_export(*data, byref(options), out, room, byref(written)),
+            "the chunk hashes are keyed already, or the times add up to 2^64 or more",
+        )
+
+
+def minimal(shard: Buffer, now: int, verification: bool = False, aux_rows: bool = True) -> bytes:
+    """Returns the records of the shard without tables, created at `now`.
+
+    Files keep their auxiliary rows, unless these are left out, and with `verification` their verification rows, which
+    each file has to have then.
+    """
+    now = _seconds(now)
+    with _Addresses(shard) as [data]:
+        return _made(
+            data[1],
+            lambda out, room, written: _library.xet_minimal(
+                *data, now, verification, aux_rows, out, room, byref(written)
+            ),
+        )
+
+
+def subset(shard: Buffer, now: int, expiry: Optional[int] = None, xorbs: Optional[Sequence[str]] = None) -> bytes:
+    """Returns the xorbs of the shard with these hashes, or all, without files and tables, created at `now`.
+
+    A hash that no xorb has is passed over. It expires at `expiry`, in seconds; None and 0 mean that it does not.
+    """
+    listed = _hashes(xorbs or [])
+    options = _Subset(_seconds(now), _seconds(expiry or 0), xorbs is None)
+    with _Addresses(shard) as [data]:
+        return _made(
+            data[1],
+            lambda out, room, written: _library.xet_subset(
+                *data, byref(options), listed, len(xorbs or []), out, room, byref(written)
+            ),
+        )
+
+
+def write_v2(shard: Buffer) -> bytes:
+    """Returns the same shard in version 2, for readers that do not know version 3.
+
+    No file may have an auxiliary row.
+    """
+    with _Addresses(shard) as [data]:
+        return _made(
+            data[1],
+            lambda out, room, written: _library.xet_write_v2(*data, out, room, byref(written)),
+            "a file has an auxiliary row, which version 2 does not have",
+        )
+
+
+def eligible(shard: Buffer) -> List[str]:
+    """Returns the hashes of the chunks that the global index keeps, in ascending order."""
+    with _Addresses(shard) as [data]:
+        hashes = _filled(
+            _Hash, 16, lambda out, room, written: _library.xet_eligible(*data, out, room, byref(written))
+        )
+    return [_text(it.words) for it in hashes]

@@ -1,0 +1,166 @@
+"""Lookups in a shard, and in parts of one."""
+from __future__ import annotations
+
+import ctypes
+from ctypes import POINTER, byref, c_size_t, c_uint32
+from dataclasses import dataclass
+from typing import Any, Dict, List, Optional, Sequence, Tuple
+
+from ._arguments import _hashes, _number, _text, _words
+from ._calls import _library
+from ._errors import _NO_WHOLE_ROWS, _SHORT, _check
+from ._memory import Buffer, _Addresses, _array, _filled, _made
+from ._records import File, Segment, _segment, _shown_file
+from ._structs import _ROW, _ChunkPlace, _ChunkRow, _File, _FileSegment, _Hash, _Info, _Segment
+
+
+@dataclass(frozen=True)
+class Info:
+    """What the header and the footer of a shard say. A table that is left out has 0 rows.
+
+    `file_section` to `footer` are where the parts of the shard start, in bytes from its front. A table ends where the
+    next part starts; its rows have 12 bytes, in the chunk table 16. A row of a section has 48.
+    """
+
+    version: int
+    files: int
+    xorbs: int
+    chunks: int
+    key: str
+    creation: int
+    expiry: int
+    stored_bytes_on_disk: int
+    materialized_bytes: int
+    stored_bytes: int
+    file_section: int
+    xorb_section: int
+    file_table: int
+    xorb_table: int
+    chunk_table: int
+    footer: int
+    footer_size: int
+    footer_version: int
+    reserved: Tuple[int, ...]
+
+
+def load(shard: Buffer) -> Info:
+    """Returns what the header and the footer of a shard say: its first 48 and its last 200 bytes.
+
+    These 248 bytes are enough, without what lies between them.
+    """
+    info = _Info()
+    with _Addresses(shard) as [data]:
+        _check(_library.xet_load(*data, byref(info)))
+    values: Dict[str, Any] = {name: getattr(info, name) for name, *_ in _Info._fields_}
+    values["key"], values["reserved"] = _text(info.key), tuple(info.reserved)
+    return Info(**values)
+
+
+def find_file(shard: Buffer, file_hash: str) -> Optional[File]:
+    """Returns the file with this hash, or None.
+
+    In a shard without a table of files, as a minimal one, none is found.
+    """
+    wanted, file, room = _Hash(_words(file_hash)), _File(), 64
+    segments = _array(_FileSegment, room)
+    with _Addresses(shard) as [data]:
+        number = _library.xet_find_file(*data, byref(wanted), byref(file), segments, room)
+        if number == _SHORT:
+            room = file.segments
+            segments = _array(_FileSegment, room)
+            number = _library.xet_find_file(*data, byref(wanted), byref(file), segments, room)
+    _check(number)
+    return _shown_file(file, segments[: file.segments]) if file.found else None
+
+
+def find_rows(table: Buffer, wanted: str) -> List[int]:
+    """Returns the rows of a section that the bytes of its table have under the first word of a hash: 7 at most.
+
+    So a file is found in a shard that is far away by three reads. `load` of its first 48 and its last 200 bytes says
+    where the table of files is, and `file_in` reads the record from a row on, whose hash is to be compared:
+
+        rows = find_rows(read(info.file_table, 12 * info.files), file_hash)
+        found = file_in(read(info.file_section + 48 * rows[0], 48 * 100), info.version)
+    """
+    word = _words(wanted)[0]
+    with _Addresses(table) as [data]:
+        rows = _filled(
+            c_uint32,
+            7,
+            lambda out, room, written: _library.xet_find_rows(*data, word, out, room, byref(written)),
+            _NO_WHOLE_ROWS,
+        )
+    return list(rows)
+
+
+def find_places(table: Buffer, wanted: str) -> List[Tuple[int, int]]:
+    """Returns the places that the bytes of a table of chunks have under the first word of a chunk's hash: 8 at most.
+
+    A place is the row of the xorb section at which a xorb starts, and the index of the chunk in it. If the shard has a
+    key, the hash is one under it, as `hmac` makes it.
+    """
+    word = _words(wanted)[0]
+    with _Addresses(table) as [data]:
+        places = _filled(
+            _ChunkPlace,
+            8,
+            lambda out, room, written: _library.xet_find_places(*data, word, out, room, byref(written)),
+            _NO_WHOLE_ROWS,
+        )
+    return [(it.row, it.index) for it in places]
+
+
+@dataclass(frozen=True)
+class Run:
+    """How many of the chunks that were asked for, from the first on, a xorb has one after another, and where."""
+
+    count: int
+    segment: Segment
+
+
+def query_chunks(shard: Buffer, hashes: Sequence[str]) -> Optional[Run]:
+    """Returns a run of chunks with these hashes, which are not keyed, or None. It has at least the first.
+
+    In a shard without a table of chunks, as a minimal one, none is found.
+    """
+    wanted, count, run = _hashes(hashes), c_size_t(), _Segment()
+    with _Addresses(shard) as [data]:
+        _check(_library.xet_query_chunks(*data, wanted, len(hashes), byref(count), byref(run)))
+    return Run(count.value, _segment(run)) if count.value else None
+
+
+def query_at(shard: Buffer, hashes: Sequence[str], row: int, index: int) -> Optional[Run]:
+    """Returns the run of these hashes that starts at one chunk: at an index of the xorb at a row of the xorb section.
+
+    The hashes are not keyed. It is None if the chunk has another hash than the first.
+    """
+    return _run_at(shard, _hashes(hashes), len(hashes), _number(row), _number(index))
+
+
+def _run_at(shard: Buffer, wanted: ctypes.Array[Any], length: int, row: int, index: int) -> Optional[Run]:
+    count, run = c_size_t(), _Segment()
+    with _Addresses(shard) as [data]:
+        number = _library.xet_query_at(*data, wanted, length, row, index, byref(count), byref(run))
+    _check(number, "there is no chunk at this row and index")
+    return Run(count.value, _segment(run)) if count.value else None
+
+
+def chunk_rows(shard: Buffer) -> bytes:
+    """Returns where the chunks of a shard are: the rows of its chunk table, or the rows that it would have.
+
+    Without a table they are in the order of the xorb section. A row has 16 bytes, lowest byte first: the first word of
+    the chunk's hash, under the shard's key if it has one, the row of the xorb section at which its xorb starts, and its
+    index in the xorb. So `struct.iter_unpack("<QII", rows)` gives them one by one, and
+    `numpy.frombuffer(rows, [("word", "<u8"), ("row", "<u4"), ("index", "<u4")])` as an array.
+    """
+    size = ctypes.sizeof(_ChunkRow)
+    with _Addresses(shard) as [data]:
+
+        def write(out: ctypes.Array[Any], room: int, written: c_size_t) -> Any:
+            rows = ctypes.cast(out, POINTER(_ChunkRow))
+            number = _library.xet_chunk_rows(*data, rows, room // size, byref(written))
+            written.value *= size
+            return number
+
+        # A chunk has a row of 48 bytes in the section.
+        return _made(data[1] // _ROW * size, write)

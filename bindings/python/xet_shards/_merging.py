@@ -1,0 +1,269 @@
+"""Unions and differences of shards, and what does not agree."""
+from __future__ import annotations
+
+from ctypes import byref, c_bool, c_char, c_size_t
+from typing import Any, Callable, Iterable, List, Optional, Sequence
+
+from ._arguments import _text, _words
+from ._calls import _library
+from ._errors import (
+    _DISAGREE, _INVALID_ARGUMENTS, _MALFORMED, _OTHER_KEYS, _SHORT, Disagreement, DisagreementError, MalformedError,
+    MalformedRecord, XetError, _check,
+)
+from ._lookups import load
+from ._memory import Buffer, WritableBuffer, _Addresses, _filled, _list, _made, _output_apart, _written_bytes
+from ._structs import _Disagreement, _Range, _Words
+
+
+def union(first: Buffer, second: Buffer) -> bytes:
+    """Returns the union of two shards of one key."""
+    return _combined(_library.xet_union, first, second)
+
+
+def difference(first: Buffer, second: Buffer) -> bytes:
+    """Returns the second shard's records whose hashes the first does not have."""
+    return _combined(_library.xet_difference, first, second)
+
+
+def _combined(operation: Callable[..., Any], first: Buffer, second: Buffer) -> bytes:
+    with _Addresses(first, second) as [one, other]:
+        return _made(
+            one[1] + other[1],
+            lambda out, room, written: operation(*one, *other, out, room, byref(written)),
+            _OTHER_KEYS,
+        )
+
+
+def merge(
+    shards: Iterable[Buffer],
+    strict: bool = False,
+    start: Optional[str] = None,
+    stop: Optional[str] = None,
+    threads: Optional[int] = None,
+) -> bytes:
+    """Returns the union of one shard or more, by a balanced tree of unions; a single one is united with itself.
+
+    With `start` or `stop`, hashes as text, it has only the files and the xorbs whose hash is not below `start` and is
+    below `stop`. Of well-formed shards that agree, ranges that follow one another have together each record of the join
+    once, so each may be merged by a thread or a machine of its own. All shards are read for each range, and with
+    `strict` all their records have to agree.
+
+    With `threads` so many threads at most merge a range each, and `concatenate` puts the results together. Bytes and
+    errors are the same, whatever is given; the bytes of the output are in memory twice.
+
+    If the sections of the inputs hold well-formed shards that agree pairwise, under one key, it is the bytes of their
+    join, which has no order, and any other tree of unions gives the same. Shards agree if files with one hash have
+    equal segments, and an equal optional part wherever both have it, and xorbs with one hash are equal. They are
+    well-formed if `find_malformed` finds nothing. With `strict` it is a `MalformedError` if one of the shards is not
+    well-formed, and a `DisagreementError` if two do not agree; so what it returns has no order, whatever is given.
+    """
+    shards = list(shards)
+    # With this room no merge is made twice.
+    return _written_bytes(
+        merge_room(shards), lambda out: merge_into(shards, memoryview(out), strict, start, stop, threads)
+    )
+
+
+def merge_room(shards: Iterable[Buffer]) -> int:
+    """Returns the bytes that are enough for `merge_into` of these shards, whatever they hold."""
+    with _Addresses(*shards) as data:
+        # As in xet_union_room of xet.h.
+        return 352 + sum(length for _, length in data) // 3 * 8
+
+
+def merge_into(
+    shards: Iterable[Buffer],
+    out: WritableBuffer,
+    strict: bool = False,
+    start: Optional[str] = None,
+    stop: Optional[str] = None,
+    threads: Optional[int] = None,
+) -> int:
+    """Writes what `merge` returns to the front of a buffer that can be written, and returns the number of its bytes.
+
+    If the buffer is too small it stays as it is: then the number is greater than its length. With inputs and output in
+    files that are mapped, a merge needs memory of its own only for tables and for where records lie, and with `threads`
+    as much as the output has.
+
+    The buffer shares no memory with a shard: that is a `ValueError`. Two maps of one file are not found out.
+    """
+    shards = list(shards)
+    if not shards:
+        raise ValueError("no shard is given")
+    if threads is not None and threads < 1:
+        raise ValueError("there is one thread at least")
+    if threads is not None and threads > 1:
+        length = _merge_in_threads_to(shards, out, threads, strict, start, stop)
+        if length is not None:
+            return length
+    try:
+        if start is not None or stop is not None:
+            return _merge_range_to(shards, out, strict, start, stop)
+        return _merge_strictly_to(shards, out) if strict else _merge_to(_library.xet_merge, shards, out)
+    except (DisagreementError, MalformedError):
+        raise
+    except XetError as error:
+        raise XetError(error.number, _to_blame(shards, error.number), _OTHER_KEYS) from None
+
+
+def _to_blame(shards: Sequence[Buffer], number: int) -> Optional[int]:
+    """Returns the place of the first shard by which a merge fails with this error, or None if it is no single one."""
+    if number == _INVALID_ARGUMENTS:
+        return _first_of_other_key(shards)
+    for index, shard in enumerate(shards):
+        try:
+            _merge_to(_library.xet_merge, [shard], bytearray(0))
+        except XetError as error:
+            if error.number == number:
+                return index
+    return None
+
+
+def _first_of_other_key(shards: Sequence[Buffer]) -> Optional[int]:
+    """Returns the place of the first shard whose key is not that of the first one, if both can be read."""
+    key = _key_of(shards[0])
+    if key is None:
+        return None
+    return next((index for index, shard in enumerate(shards) if _key_of(shard) not in (key, None)), None)
+
+
+def _key_of(shard: Buffer) -> Optional[str]:
+    try:
+        return load(shard).key
+    except XetError:
+        return None
+
+
+def _merge_to(call: Callable[..., Any], shards: Sequence[Buffer], out: WritableBuffer) -> int:
+    """Makes a call that merges shards to the front of a buffer, and returns the number of the bytes of the merge."""
+    written = c_size_t()
+    with _output_apart(out, shards) as (array, data):
+        number = call(_list(data), len(data), array, len(array), byref(written))
+    if number != _SHORT:
+        _check(number)
+    return written.value
+
+
+def _merge_strictly_to(shards: Sequence[Buffer], out: WritableBuffer) -> int:
+    differing, found = c_size_t(), _Disagreement()
+    try:
+        return _merge_to(
+            lambda *arguments: _library.xet_merge_agreeing(*arguments, byref(differing), byref(found)), shards, out
+        )
+    except XetError as error:
+        if error.number == _MALFORMED:
+            raise MalformedError(_malformed(found)) from None
+        if error.number == _DISAGREE:
+            raise DisagreementError(_disagreement(found, differing.value)) from None
+        raise
+
+
+def _merge_range_to(
+    shards: Sequence[Buffer], out: WritableBuffer, strict: bool, start: Optional[str], stop: Optional[str]
+) -> int:
+    asked = _range(*(None if it is None else tuple(_words(it)) for it in (start, stop)))
+    if strict:
+        malformed = find_malformed(shards)
+        if malformed:
+            raise MalformedError(malformed)
+        differing = find_disagreement(shards)
+        if differing:
+            raise DisagreementError(differing)
+    return _merge_to(
+        lambda listed, count, *output: _library.xet_merge_range(listed, count, byref(asked), *output), shards, out
+    )
+
+
+def _range(start: Optional[Sequence[int]], stop: Optional[Sequence[int]]) -> _Range:
+    """Returns the range between two hashes, where a bound may be left out."""
+    words = [_Words(*(it or ())) for it in (start, stop)]
+    return _Range(*words, start is not None, stop is not None)
+
+
+def concatenate(shards: Iterable[Buffer]) -> bytes:
+    """Returns the shard that has the records of one shard or more, in their order, with all tables and no timestamps.
+
+    The hashes of files have to ascend from each shard to the next, and so have those of xorbs, and the shards have one
+    key. So it puts together what `merge` returns of well-formed shards that agree, for ranges that follow one another,
+    where `start` of the first and `stop` of the last are left out: the result is that of the one merge. Records are
+    copied and not checked.
+    """
+    shards = list(shards)
+    if not shards:
+        raise ValueError("no shard is given")
+    with _Addresses(*shards) as data:
+        listed, room = _list(data), sum(length for _, length in data)
+        return _made(
+            room,
+            lambda out, room, written: _library.xet_concatenate(listed, len(data), out, room, byref(written)),
+            "the keys of the shards differ, or hashes do not ascend from one shard to the next",
+        )
+
+
+def concatenate_into(shards: Iterable[Buffer], out: WritableBuffer) -> int:
+    """Writes what `concatenate` returns to the front of a buffer that can be written, and returns its number of bytes.
+
+    If the buffer is too small, and after any error, it stays as it is: if it is too small, the number is greater than
+    its length. With inputs and output in files that are mapped, this needs some hundred bytes a shard of its own.
+    """
+    shards = list(shards)
+    if not shards:
+        raise ValueError("no shard is given")
+    room, written = memoryview(out).nbytes, c_size_t()
+    array = (c_char * room).from_buffer(out)
+    with _Addresses(*shards) as data:
+        number = _library.xet_concatenate(_list(data), len(data), array, room, byref(written))
+    if number != _SHORT:
+        _check(number)
+    return written.value
+
+
+def find_disagreement(shards: Iterable[Buffer]) -> Optional[Disagreement]:
+    """Returns the first hash under which two of the shards have records that do not agree, or None if each two agree.
+
+    Those of files are before those of xorbs, and the least hash is first.
+    """
+    differing, found = c_size_t(), _Disagreement()
+    with _Addresses(*shards) as data:
+        _check(_library.xet_find_disagreement(_list(data), len(data), byref(differing), byref(found)))
+    return _disagreement(found, differing.value) if differing.value else None
+
+
+def find_disagreements(shards: Iterable[Buffer]) -> List[Disagreement]:
+    """Returns all hashes under which two of the shards have records that do not agree, each once.
+
+    Those of files are before those of xorbs, and each in ascending order. The list is empty if each two shards agree.
+    """
+    with _Addresses(*shards) as data:
+        listed = _list(data)
+        # Where there are more all records are compared twice.
+        found = _filled(
+            _Disagreement,
+            1024,
+            lambda out, room, written: _library.xet_find_disagreements(listed, len(data), out, room, byref(written)),
+        )
+    return [_disagreement(it, len(found)) for it in found]
+
+
+def find_malformed(shards: Iterable[Buffer]) -> Optional[MalformedRecord]:
+    """Returns a record that no shard may have, of the first shard that has one, or None if each is well-formed.
+
+    A union keeps the reserved word and the flags of a file of one of its inputs, and `find_disagreement` does not
+    compare them. So the order of a merge may count unless its shards are well-formed and agree.
+    """
+    malformed, found = c_bool(), _Disagreement()
+    with _Addresses(*shards) as data:
+        _check(_library.xet_find_malformed(_list(data), len(data), byref(malformed), byref(found)))
+    return _malformed(found) if malformed.value else None
+
+
+def _malformed(found: _Disagreement) -> MalformedRecord:
+    return MalformedRecord("xorb" if found.is_xorb else "file", _text(found.hash), found.first)
+
+
+def _disagreement(found: _Disagreement, count: int) -> Disagreement:
+    return Disagreement("xorb" if found.is_xorb else "file", _text(found.hash), found.first, found.second, count)
+
+
+# It is made of the functions above.
+from .ranges import merge_in_threads_to as _merge_in_threads_to  # noqa: E402
