@@ -12,6 +12,7 @@ VERSIONS = {
     "bindings/c/xet.h": r'^#define XET_VERSION "(.*)"$',
     "bindings/python/xet_shards/__init__.py": r'^__version__ = "(.*)"$',
     "bindings/rust/Cargo.toml": r'^version = "(.*)"$',
+    "bindings/rust-compat/Cargo.toml": r'^version = "(.*)"$',
     "crates/mdb/src/command_line.rt": r'^const VERSION: &str = "(\S+), ',
     "diff/Cargo.toml": r'^version = "(.*)"$',
 }
@@ -34,7 +35,7 @@ def check_versions():
 
 def check_licence():
     """Packages of the bindings carry the licence and the notice."""
-    for package in ("python", "rust"):
+    for package in ("python", "rust", "rust-compat"):
         for name in ("LICENSE", "NOTICE"):
             if not os.path.isfile(f"{BINDINGS}/{package}/{name}"):
                 return f"bindings/{package} has no {name}"

@@ -1,12 +1,25 @@
-"""Checks of bindings/rust."""
+"""Checks of bindings/rust and of bindings/rust-compat."""
 import os
 import re
 
 from .common import BINDINGS, Skip, error_constants, error_numbers, ran, read, sources, structs
 
 CRATE = f"{BINDINGS}/rust"
+# Both crates, the second over the first.
+CRATES = ("rust", "rust-compat")
 # Calls whose answer the crate writes itself: the text of a hash.
 NOT_CALLED = {"xet_hash_to_hex", "xet_shard_name"}
+# A program of the original, which prints how many files a shard has.
+PROGRAM = """
+use xet_core_structures::{error::Result, metadata_shard::MDBShardInfo};
+
+fn main() -> Result<()> {
+    let path = std::env::args().nth(1).expect("a path");
+    let info = MDBShardInfo::load_from_reader(&mut std::fs::File::open(path)?)?;
+    println!("{}", info.num_file_entries());
+    Ok(())
+}
+"""
 # The shards of the examples, as the commands of a script that make them.
 EXAMPLES = {
     "a": ["xorb 10 21:5", "file 100 10:0:1:5"],
@@ -71,22 +84,26 @@ def check_example_shards(shard):
     return None
 
 
-def cargo(room, libraries, *words):
-    """Runs cargo on the crate, without a network, and with what it builds in a room."""
-    needed = re.search(r'^rust-version = "1\.(\d+)"$', read(f"{CRATE}/Cargo.toml"), re.M)[1]
+def cargo(crate, room, libraries, *words):
+    """Runs cargo on a crate, without a network, and with what it builds in a room."""
+    needed = re.search(r'^rust-version = "1\.(\d+)"$', read(f"{BINDINGS}/{crate}/Cargo.toml"), re.M)[1]
     found = re.match(r"cargo 1\.(\d+)\.", ran("cargo", "--version")[0])
     if not found or int(found[1]) < int(needed):
-        raise Skip(f"cargo 1.{needed} is not there, so nothing of bindings/rust was built or run")
-    named = {"CARGO_NET_OFFLINE": "true", "CARGO_TARGET_DIR": f"{room}/target", "XET_LIB_DIR": libraries}
-    return ran("cargo", *words, cwd=CRATE, env=named)
+        raise Skip(f"cargo 1.{needed} is not there, so nothing of bindings/{crate} was built or run")
+    return ran("cargo", *words, cwd=f"{BINDINGS}/{crate}", env=names(room, libraries))
 
 
-def check_form(room, libraries):
+def names(room, libraries):
+    """Returns the variables by which cargo needs no network and finds the library."""
+    return {"CARGO_NET_OFFLINE": "true", "CARGO_TARGET_DIR": f"{room}/target", "XET_LIB_DIR": libraries}
+
+
+def check_form(crate, room, libraries):
     """The crate is written as cargo's tools want it."""
     for tool, words in (("fmt", ["--check"]), ("clippy", ["--quiet", "--all-targets", "--", "-D", "warnings"])):
-        if cargo(room, libraries, tool, "--version")[1]:
-            raise Skip(f"cargo {tool} is not there, so the form of bindings/rust was not checked whole")
-        why = cargo(room, libraries, tool, *words)[1]
+        if cargo(crate, room, libraries, tool, "--version")[1]:
+            raise Skip(f"cargo {tool} is not there, so the form of bindings/{crate} was not checked whole")
+        why = cargo(crate, room, libraries, tool, *words)[1]
         if why:
             return why
     return None
@@ -95,18 +112,38 @@ def check_form(room, libraries):
 def check_merge(room, libraries, wanted):
     """The example merges the two files."""
     words = ["run", "--quiet", "--example", "merge", "--", f"{room}/first.mdb", f"{room}/second.mdb"]
-    why = cargo(room, libraries, *words, "-o", f"{room}/rust_merged.mdb")[1]
+    why = cargo("rust", room, libraries, *words, "-o", f"{room}/rust_merged.mdb")[1]
     if why:
         return why
     with open(f"{room}/rust_merged.mdb", "rb") as file:
         return None if file.read() == wanted else "the example of bindings/rust writes other bytes than the vector has"
 
 
-def run_tests(room, libraries):
+def write_program(folder, name, dependency, source):
+    """Writes a program of its own that has one dependency."""
+    os.makedirs(f"{folder}/src")
+    manifest = f'[package]\nname = "{name}"\nversion = "0.0.0"\nedition = "2021"\n[dependencies]\n{dependency}\n'
+    for path, text in (("Cargo.toml", manifest), ("src/main.rs", source)):
+        with open(f"{folder}/{path}", "w", encoding="utf-8") as file:
+            file.write(text)
+
+
+def check_renamed(room, libraries):
+    """A program of the original is built over bindings/rust-compat by the one line of Cargo.toml that its page has."""
+    # Where cargo is missing this is skipped.
+    cargo("rust-compat", room, libraries, "--version")
+    line = re.search(r"^xet-core-structures = .*$", read(f"{BINDINGS}/rust-compat/README.md"), re.M)[0]
+    write_program(f"{room}/count", "count", line.replace("...", os.path.dirname(BINDINGS)), PROGRAM)
+    words = ["run", "--quiet", f"{CRATE}/examples/a.mdb"]
+    printed, why = ran("cargo", *words, cwd=f"{room}/count", env=names(room, libraries))
+    return why or (None if printed == "1\n" else f"a program over bindings/rust-compat prints {printed!r}, not 1")
+
+
+def run_tests(crate, room, libraries):
     """Returns how many tests passed, those in the documentation too, and what is wrong with the others."""
-    printed, why = cargo(room, libraries, "test", "--no-fail-fast")
+    printed, why = cargo(crate, room, libraries, "test", "--no-fail-fast")
     passed = sum(int(it) for it in re.findall(r"^test result: .* (\d+) passed", printed, re.M))
     if why is None and passed == 0:
-        why = "cargo test runs no test"
+        why = f"cargo test runs no test of bindings/{crate}"
     failed = re.findall(r"^test (.*) \.\.\. FAILED$", printed, re.M)
-    return passed, [f"bindings/rust: {it} fails" for it in failed] or ([why] if why else [])
+    return passed, [f"bindings/{crate}: {it} fails" for it in failed] or ([why] if why else [])
