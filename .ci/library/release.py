@@ -12,6 +12,7 @@ import zipfile
 from .c import CC, WARNINGS
 from .common import BINDINGS, TOP, Skip, ran, read
 from .python import SONAME, TESTS
+from .rust import PROGRAM, write_program
 
 VERSION = read(f"{TOP}/VERSION").strip()
 FOLDER = f"xet-shards-{VERSION}-linux-x86_64"
@@ -242,23 +243,32 @@ def run_python_tests(release):
     return passed, []
 
 
-def check_crate(release):
-    """A fresh program that uses the crate is linked with the library that pkg-config finds."""
-    crate = release.found(".crate")
+def build_program(release, name, dependency, source):
+    """Builds a fresh program with one dependency, over the library that pkg-config finds. Returns what is wrong."""
+    folder = f"{release.room}/{name}"
+    write_program(folder, name, dependency, source)
+    named = {"PKG_CONFIG_PATH": f"{release.top}/lib/pkgconfig", "CARGO_TARGET_DIR": f"{release.room}/built"}
+    return release.ran("cargo", "build", "--quiet", "--offline", cwd=folder, env=named)[1]
+
+
+def check_crates(release):
+    """Fresh programs that use the crates are linked with the library that pkg-config finds."""
+    crates = [release.found(f"{it}-{VERSION}.crate") for it in ("xet-shards", "xet-shards-compat")]
     if not shutil.which("cargo") or not shutil.which("pkg-config"):
-        raise Skip("cargo or pkg-config is not there, so the crate of the release was not used")
-    folder = f"{release.room}/program"
-    with tarfile.open(crate) as archive:
-        archive.extractall(release.room)
-    os.makedirs(f"{folder}/src")
-    shutil.copy(f"{release.room}/xet-shards-{VERSION}/examples/merge.rs", f"{folder}/src/main.rs")
-    dependency = f'xet-shards = {{ path = "../xet-shards-{VERSION}" }}'
-    with open(f"{folder}/Cargo.toml", "w", encoding="utf-8") as file:
-        file.write(f'[package]\nname = "program"\nversion = "0.0.0"\nedition = "2021"\n[dependencies]\n{dependency}\n')
-    named = {"PKG_CONFIG_PATH": f"{release.top}/lib/pkgconfig", "CARGO_TARGET_DIR": f"{folder}/out"}
-    why = release.ran("cargo", "build", "--quiet", "--offline", cwd=folder, env=named)[1]
-    words = ["first.mdb", "second.mdb", "-o", "rust.mdb"]
-    return why or release.ran(f"{folder}/out/debug/program", *words)[1] or release.is_union("rust.mdb")
+        raise Skip("cargo or pkg-config is not there, so the crates of the release were not used")
+    for crate in crates:
+        with tarfile.open(crate) as archive:
+            archive.extractall(release.room)
+    merge = read(f"{release.room}/xet-shards-{VERSION}/examples/merge.rs")
+    why = build_program(release, "merge", f'xet-shards = {{ path = "../xet-shards-{VERSION}" }}', merge)
+    compatible = f'{{ package = "xet-shards-compat", path = "../xet-shards-compat-{VERSION}" }}'
+    why = why or build_program(release, "count", f"xet-core-structures = {compatible}", PROGRAM)
+    built, words = f"{release.room}/built/debug", ["first.mdb", "second.mdb", "-o", "rust.mdb"]
+    why = why or release.ran(f"{built}/merge", *words)[1] or release.is_union("rust.mdb")
+    if why:
+        return why
+    printed, why = release.ran(f"{built}/count", "rust.mdb")
+    return why or (None if printed == "2\n" else f"a program over the crate xet-shards-compat prints {printed!r}")
 
 
 def check_debian(release):
@@ -295,6 +305,6 @@ def check_systems(release):
 
 
 CHECKS = (
-    check_hidden, check_sums, check_gate, check_programs, check_pages, check_c, check_wheel, check_crate, check_debian,
+    check_hidden, check_sums, check_gate, check_programs, check_pages, check_c, check_wheel, check_crates, check_debian,
     check_systems,
 )

@@ -1,10 +1,11 @@
 """The packages for Python and Rust."""
 import os
+import pathlib
 import shutil
 import sys
 
-from . import elf, kit
-from .common import NAME, SONAME, TOP, VERSION, Fault, Missing, ran, write
+from . import elf, kit, tree
+from .common import NAME, SONAME, TOP, VERSION, Fault, Missing, ran, read, write
 
 BINDINGS = f"{TOP}/bindings"
 
@@ -51,3 +52,20 @@ def crate(room):
     name = f"{NAME}-{VERSION}.crate"
     shutil.move(f"{room}/target/package/{name}", f"{room}/{name}")
     return name
+
+
+def compatible_crate(room, seconds):
+    """Returns the crate with the original's names, which uses the other where it is unpacked beside it, by its name.
+
+    Cargo packs no crate that uses one which is in no registry.
+    """
+    top, folder = f"{BINDINGS}/rust-compat", f"{NAME}-compat-{VERSION}"
+    names = [os.path.relpath(it, top) for it in pathlib.Path(top, "src").rglob("*.rs")]
+    names += ["Cargo.toml", "LICENSE", "NOTICE", "README.md"]
+    found = {it: tree.File(read(f"{top}/{it}", "rb")) for it in names}
+    text = found["Cargo.toml"].content
+    found["Cargo.toml"].content = text.replace(b'path = "../rust"', f'path = "../{NAME}-{VERSION}"'.encode())
+    if found["Cargo.toml"].content == text:
+        raise Fault("bindings/rust-compat/Cargo.toml names no path ../rust")
+    write(f"{room}/{folder}.crate", tree.tar(found, folder, seconds))
+    return f"{folder}.crate"
