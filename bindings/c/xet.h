@@ -183,7 +183,9 @@ uint32_t xet_union(const uint8_t *first, size_t first_length, const uint8_t *sec
  * all that can fail is done, and so is what xet_merge_range writes; the other calls make their bytes first, and copy
  * them.
  *
- * Where several inputs are refused, the error may be that of another than xet_union tells.
+ * Where several inputs are refused, the error may be that of another than xet_union tells. A merge of each alone, with
+ * no room for a result (`capacity` 0), finds the shard that is at fault: XET_SHORT if it is not. If none is, and the
+ * keys are one, two files cannot be combined, and xet_find_disagreements writes which, or there are too many rows.
  *
  * XET_INVALID_ARGUMENTS: there is no shard, or the keys differ.
  * The other errors are those of xet_union. */
