@@ -474,7 +474,8 @@ uint32_t xet_xorb_at(const uint8_t *shard, size_t length, uint32_t row, xet_plac
  *
  * xet_find_rows looks in the bytes of a file table, or of a xorb table, for the first word of a hash, and writes the
  * rows of the section at which records with such a hash start: 7 at most. A row is 48 bytes, so the file at row 5
- * starts at `info.file_section` + 5 * 48.
+ * starts at `info.file_section` + 5 * 48. Part of a table is enough, if it has all rows with the word: rows ascend by
+ * their words, and have 12 bytes, 16 in a chunk table.
  *
  * XET_INVALID_ARGUMENTS: the bytes are no whole rows.
  * XET_TRUNCATED_HASH_COLLISION: eight or more rows have the word.

@@ -3,6 +3,7 @@ pub mod Checking
 pub mod ChunkRows
 pub mod Combining
 pub mod CutOut
+pub mod CutTables
 pub mod EndsAlone
 pub mod Exclusive
 pub mod Expiring
@@ -18,14 +19,17 @@ pub mod Malformed
 pub mod MemoryErrors
 pub mod Merging
 pub mod MinimalSizes
+pub mod RangeReads
 pub mod Reading
 pub mod Recording
 pub mod Reordered
 pub mod RewriteSizes
 pub mod Searching
 pub mod Sizes
+pub mod TableParts
 pub mod Versions
 pub mod Walking
 pub mod Walks
 pub mod Whole
 pub mod Written
+pub mod WrittenParts

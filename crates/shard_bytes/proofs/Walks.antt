@@ -14,7 +14,7 @@ use Rattle.xet_core_structures.specs.TwoShards.ByteResults.{LoadRefusal}
 use Rattle.xet_core_structures.specs.Ends.{HasHeaderAndFooter}
 use Rattle.xet_core_structures.specs.Lookup.{row_at}
 use Rattle.xet_core_structures.specs.Records.ShardContents.{IsSectionOf}
-use Rattle.xet_core_structures.specs.SectionReading.{BeginsWithBookend, BeginsRefused, EndsEarly}
+use Rattle.xet_core_structures.specs.SectionReading.{BeginsWithBookend, BeginsRefused, EndsEarly, SectionCase}
 use Rattle.xet_core_structures.specs.SectionReading.SectionCase.{not_read, passes_limit}
 use Rattle.xet_core_structures.specs.Source.ReadCase.{out_of_memory, out_of_bytes}
 use Rattle.xet_records.specs.RecordKind.{RecordKind}
@@ -125,11 +125,14 @@ module _ {H R : Type 0} (K : RecordKind H R) (laws : KindLaws K) (bytes : List �
       no_record K laws 4294967296 (from_row row) at.stored at.taken.0 at.is_stored (omega (arith, laws.rows at.stored at.is_stored, at.rows)) at.taken.1 (inr stops)
 
   -- there it is read unless an allocation fails
+  pub memory_alone : (row : ℕ) (found : Option R) (e : CoreError) → At row found → SectionCase (BeginsRefused K 4294967296) (EndsEarly K 4294967296) (from_row row) e → e ≡ OutOfMemory
+  memory_alone row found e at (not_read (out_of_memory is)) = is
+  memory_alone row found e at (not_read (out_of_bytes is short)) = absurd (readable row found at (inr short))
+  memory_alone row found e at (passes_limit is refused) = absurd (readable row found at (inl refused))
+
   only_memory : (row : ℕ) (found : Option R) (e : CoreError) → length bytes < 2 ^ 64 → At row found → NotAtRow K bytes offset row e → e ≡ OutOfMemory
   only_memory row found e small at (inl (bare, past)) = absurd (omega (arith, small, past, within row found at))
-  only_memory row found e small at (inr (not_read (out_of_memory is))) = is
-  only_memory row found e small at (inr (not_read (out_of_bytes is short))) = absurd (readable row found at (inr short))
-  only_memory row found e small at (inr (passes_limit is refused)) = absurd (readable row found at (inl refused))
+  only_memory row found e small at (inr case) = memory_alone row found e at case
 
   -- the section of a map has its values
   pub has_values : (m : FinMap hash_cmp R) → IsSectionOf K (drop offset bytes) m → (found : List R) → IsSectionReadAs K (drop offset bytes) found ↔ (found ≡ values m)
@@ -145,7 +148,7 @@ same_walks One Other rows other row (r ∷ rs) (fits, at, on) = (fits, other row
 
 -- what is said with the header and the footer that bytes have
 module _ (bytes : List ℕ) (info : MDBShardInfo) (ends : HasHeaderAndFooter bytes info) where
-  said_of : (Says : MDBShardInfo → Type 0) → WithEnds bytes Says → Says info
+  pub said_of : (Says : MDBShardInfo → Type 0) → WithEnds bytes Says → Says info
   said_of Says (other, there, says) = subst Says (only_info bytes other info there ends) says
 
   not_refused : (e : CoreError) → ¬ LoadRefusal bytes e

@@ -11,8 +11,10 @@ pub mod Minimal
 pub mod Outcomes
 pub mod Parts
 pub mod Query
+pub mod RangeReads
 pub mod Recording
 pub mod Sizes
 pub mod Steps
 pub mod Versions
 pub mod Walking
+pub use Rattle.xet_shards.specs.Write.Section

@@ -5,19 +5,31 @@
 //! [`load_bytes`](crate::load::load_bytes), and the footer says where tables and sections are. So a
 //! file of a remote shard is found by few reads: its two ends, the file table, and the record.
 
-ghost use Rattle.std.specs.Prelude.{◌≡◌, ◌≢◌, ◌<◌, ◌*◌, ◌%◌, ◌/◌, ◌^◌, ℕ, List, length, IfOk, IsOkAnd, MatchResult};
+ghost use Rattle.std.specs.Prelude.{◌≡◌, ◌≢◌, ◌<◌, ◌≤◌, ◌+◌, ◌*◌, ◌%◌, ◌/◌, ◌^◌, ◌∷◌, ℕ, Contains, List, Option, Some, length, IfOk, IsOkAnd, MatchResult};
 ghost use Rattle.std.specs.FinMap as finite;
 ghost use Rattle.xet_core_structures.specs.declared.error.CoreError.{CoreError};
+ghost use Rattle.xet_core_structures.specs.declared.file_structs.MDBFileInfo.{MDBFileInfo};
+ghost use Rattle.xet_core_structures.specs.declared.merklehash.DataHash.{DataHash};
 ghost use Rattle.xet_core_structures.specs.declared.shard_format.MDBShardInfo.{MDBShardInfo};
+ghost use Rattle.xet_core_structures.specs.declared.xorb_structs.MDBXorbInfo.{MDBXorbInfo};
+ghost use Rattle.xet_core_structures.specs.ChunkQuery.{Run};
 ghost use Rattle.xet_core_structures.specs.Ends.{HasHeaderAndFooter};
-ghost use Rattle.xet_core_structures.specs.FileRecord.{file_records};
-ghost use Rattle.xet_core_structures.specs.Lookup.{HasAt, StartsAmong, row_at};
+ghost use Rattle.xet_core_structures.specs.FileRecord.{file_record_bytes, file_records};
+ghost use Rattle.xet_core_structures.specs.KeyedHash.{no_key};
+ghost use Rattle.xet_core_structures.specs.Lookup.{FoundInShard, HasAt, StartsAmong, row_at, with_first_word};
 ghost use Rattle.xet_core_structures.specs.Shard.{Shard};
+ghost use Rattle.xet_core_structures.specs.Table.{IsSorted, Table};
+ghost use Rattle.xet_core_structures.specs.WrittenQueries.{RunAmong};
 ghost use Rattle.xet_core_structures.specs.WrittenShard.{IsBytesWithInfo};
-ghost use Rattle.xet_core_structures.specs.XorbRecord.{xorb_records};
+ghost use Rattle.xet_core_structures.specs.XorbRecord.{xorb_record_bytes, xorb_records};
 ghost use Rattle.xet_shards.specs.Lookup.WrittenChunks.{RowsAmong};
-ghost use Rattle.shard_bytes.specs.Walking.{HasFileAt, HasXorbAt};
+ghost use Rattle.xet_shards.specs.Write.Section.{StartsAt};
+ghost use Rattle.xet_shards.specs.Write.Tables.{starts};
+ghost use Rattle.shard_bytes.specs.Finding.{FindsFile, RefusesFile};
 ghost use Rattle.shard_bytes.specs.Parts.{HasFileIn, RefusesFileIn, HasXorbIn, RefusesXorbIn, FindsPlaces, FindsRowsIn, RefusesPlaces, RefusesRows, CollidesAmong, IsCut};
+ghost use Rattle.shard_bytes.specs.Query.{AnswersQuery};
+ghost use Rattle.shard_bytes.specs.RangeReads.{HasRowsWith, IsAround, FindsFileInParts, FindsXorbInParts, QueriesInParts, chunk_table_in, file_table_in, xorb_table_in};
+ghost use Rattle.shard_bytes.specs.Walking.{HasFileAt, HasXorbAt};
 
 use crate::walk::unless_bookend;
 use std::alloc::Global;
@@ -35,9 +47,10 @@ const START_ROW_SIZE: u64 = 12;
 // The size of a row of a chunk table, in bytes.
 const CHUNK_ROW_SIZE: u64 = 16;
 
-/// Looks for the first word of a hash in the bytes of a file table or a xorb table. Puts the rows
-/// of the section at which the records with this word start at the front of `rows`, and returns how
-/// many these are, fewer than eight. Entries past them are unchanged.
+/// Looks for the first word of a hash in rows of a file table or a xorb table. Puts the rows of the
+/// section at which the records with this word start at the front of `rows`, and returns how many
+/// these are, fewer than eight. Entries past them are unchanged. Part of the table is enough, if it
+/// has all rows with the word.
 ///
 /// `InvalidArguments` if the size of the table is no multiple of 12 bytes, the size of a row.
 /// `TruncatedHashCollision` with the word if eight or more rows have it.
@@ -45,11 +58,11 @@ pub fn find_rows(alloc: Global, table: &[u8], word: u64, rows: &mut [u32; 8]) ->
     ensures table { MatchResult result (FindsRowsIn table.now word rows.old rows.new)
         (RefusesRows table.now word) }
     ensures files { (s : Shard) → (shard : List ℕ) → (info : MDBShardInfo) → IsBytesWithInfo s shard info
-        → IsCut shard info.metadata.file_lookup_offset (12 * info.metadata.file_lookup_num_entry) table.now
+        → HasRowsWith (file_table_in info.metadata shard) table.now word
         → MatchResult result (StartsAmong file_records (finite.values s.files) word rows.new)
         (CollidesAmong file_records (finite.values s.files) word) }
     ensures xorbs { (s : Shard) → (shard : List ℕ) → (info : MDBShardInfo) → IsBytesWithInfo s shard info
-        → IsCut shard info.metadata.xorb_lookup_offset (12 * info.metadata.xorb_lookup_num_entry) table.now
+        → HasRowsWith (xorb_table_in info.metadata shard) table.now word
         → MatchResult result (StartsAmong xorb_records (finite.values s.xorbs) word rows.new)
         (CollidesAmong xorb_records (finite.values s.xorbs) word) }
 {
@@ -70,7 +83,8 @@ fn search_starts(alloc: Global, table: &[u8], word: u64, rows: &mut [u32; 8]) ->
 /// Looks for the first word of a chunk's hash in the bytes of a chunk table. Puts the places of up
 /// to eight chunks with this word at the front of `places`: the row of the xorb section at which
 /// the xorb starts, and the index of the chunk in it. Returns how many these are; entries past them
-/// are unchanged. The table has the words of hashes under the shard's key, if it has one.
+/// are unchanged. The table has the words of hashes under the shard's key, if it has one. Part of it
+/// is enough, if it has all rows with the word.
 ///
 /// `InvalidArguments` if the size of the table is no multiple of 16 bytes, the size of a row.
 pub fn find_places(
@@ -82,7 +96,7 @@ pub fn find_places(
     ensures table { MatchResult result (FindsPlaces table.now word places.old places.new)
         (RefusesPlaces table.now) }
     ensures chunks { (s : Shard) → (shard : List ℕ) → (info : MDBShardInfo) → IsBytesWithInfo s shard info
-        → IsCut shard info.metadata.chunk_lookup_offset (16 * info.metadata.chunk_lookup_num_entry) table.now
+        → HasRowsWith (chunk_table_in info.metadata shard) table.now word
         → IsOkAnd result (RowsAmong (finite.values s.xorbs) word places.old places.new) }
 {
     search_chunks(alloc, table, word, places)
@@ -126,6 +140,61 @@ fn hash_with_word(word: u64) -> MerkleHash
     MerkleHash::from([word, 0, 0, 0])
 }
 
+/// Does nothing. Its contract says that lookups in parts are lookups in all bytes. A file is looked
+/// up by [`find_rows`], in a part of the file table that has all rows with the first word of its
+/// hash, and by [`file_in`] at the rows that are found, until a file has the hash. What this gives
+/// meets each contract of [`find_file`](crate::find::find_file): on any bytes that one
+/// (`any_file`), of a shard's bytes it is the file that the shard has (`file`). The same is said of
+/// xorbs. [`find_places`] and [`query_at`](crate::query::query_at) at these places are
+/// [`query_chunks`](crate::query::query_chunks).
+pub fn parts_are_enough()
+    ensures any_file { (shard : List ℕ) → (info : MDBShardInfo) → (hash : DataHash)
+        → (answer : Option MDBFileInfo) → length shard < 2 ^ 64 → HasHeaderAndFooter shard info
+        → FindsFileInParts info.metadata shard hash answer → FindsFile shard hash answer }
+    ensures any_collision { (shard : List ℕ) → (info : MDBShardInfo) → (hash : DataHash)
+        → (table : List ℕ) → (e : CoreError) → length shard < 2 ^ 64 → HasHeaderAndFooter shard info
+        → HasRowsWith (file_table_in info.metadata shard) table hash.word0
+        → RefusesRows table hash.word0 e → RefusesFile shard hash e }
+    ensures file { (s : Shard) → (shard : List ℕ) → (info : MDBShardInfo) → (hash : DataHash)
+        → (answer : Option MDBFileInfo) → IsBytesWithInfo s shard info
+        → FindsFileInParts info.metadata shard hash answer → FoundInShard s hash answer }
+    ensures xorb { (s : Shard) → (shard : List ℕ) → (info : MDBShardInfo) → (hash : DataHash)
+        → (answer : Option MDBXorbInfo) → IsBytesWithInfo s shard info
+        → FindsXorbInParts info.metadata shard hash answer
+        → (length (with_first_word xorb_records hash.word0 (finite.values s.xorbs)) < 8)
+        × (answer ≡ finite.get s.xorbs hash) }
+    ensures any_query { (shard : List ℕ) → (info : MDBShardInfo) → (q : DataHash)
+        → (qs : List DataHash) → (answer : Option Run) → length shard < 2 ^ 64
+        → HasHeaderAndFooter shard info → QueriesInParts info.metadata shard q qs answer
+        → AnswersQuery shard (q ∷ qs) answer }
+    ensures query { (s : Shard) → (shard : List ℕ) → (info : MDBShardInfo) → (q : DataHash)
+        → (qs : List DataHash) → (answer : Option Run) → IsBytesWithInfo s shard info
+        → QueriesInParts info.metadata shard q qs answer
+        → RunAmong no_key (q ∷ qs) (finite.values s.xorbs) answer }
+{}
+
+/// Does nothing. Its contract says when a part of a table has all rows with a word: if it is the
+/// whole table (`whole`), or in a sorted one, as a shard's are (`sorted`), if a smaller word is
+/// first and a greater one last, unless the table begins or ends there (`around`). The rows that
+/// [`find_rows`] finds are those at which records start (`starts`).
+pub fn parts_have_rows()
+    ensures whole { (t : Table) → (part : List ℕ) → (word : ℕ) → t.start ≤ length t.bytes
+        → IsCut t.bytes t.start ((8 + t.width) * t.rows) part → HasRowsWith t part word }
+    ensures around { (t : Table) → (part : List ℕ) → (word : ℕ) → IsSorted t
+        → IsAround t part word → HasRowsWith t part word }
+    ensures sorted { (s : Shard) → (shard : List ℕ) → (info : MDBShardInfo) → IsBytesWithInfo s shard info
+        → IsSorted (file_table_in info.metadata shard) × IsSorted (xorb_table_in info.metadata shard)
+        × IsSorted (chunk_table_in info.metadata shard) }
+    ensures starts { (files : List MDBFileInfo) → (word row : ℕ)
+        → Contains (starts file_records files) (word, row)
+        → (file : MDBFileInfo) × StartsAt file_records files row file
+        × (file.metadata.file_hash.word0 ≡ word) }
+    ensures xorb_starts { (xorbs : List MDBXorbInfo) → (word row : ℕ)
+        → Contains (starts xorb_records xorbs) (word, row)
+        → (xorb : MDBXorbInfo) × StartsAt xorb_records xorbs row xorb
+        × (xorb.metadata.xorb_hash.word0 ≡ word) }
+{}
+
 /// The file whose record begins these bytes, or `None` if a section's bookend does. The version is
 /// the number in the shard's header. The bytes of a shard from a row of its file section on, and as
 /// far as the record goes, give the file at this row.
@@ -139,6 +208,12 @@ pub fn file_in(alloc: Global, version: u64, bytes: &[u8]) -> Result<Option<MDBFi
         → HasHeaderAndFooter shard info → info.header.version ≡ version
         → HasAt shard (row_at info.metadata.file_info_offset row) bytes.now
         → IfOk result (HasFileAt shard row) }
+    ensures written { (s : Shard) → (shard : List ℕ) → (info : MDBShardInfo) → (row : ℕ)
+        → (file : MDBFileInfo) → IsBytesWithInfo s shard info → info.header.version ≡ version
+        → StartsAt file_records (finite.values s.files) row file
+        → HasAt shard (row_at info.metadata.file_info_offset row) bytes.now
+        → length (file_record_bytes file) ≤ length bytes.now
+        → MatchResult result (λ found. found ≡ Some file) (λ e. e ≡ CoreError.OutOfMemory) }
 {
     read_file(alloc, version, bytes)
 }
@@ -170,6 +245,12 @@ pub fn xorb_in(alloc: Global, bytes: &[u8]) -> Result<Option<MDBXorbInfo>>
         → HasHeaderAndFooter shard info
         → HasAt shard (row_at info.metadata.xorb_info_offset row) bytes.now
         → IfOk result (HasXorbAt shard row) }
+    ensures written { (s : Shard) → (shard : List ℕ) → (info : MDBShardInfo) → (row : ℕ)
+        → (xorb : MDBXorbInfo) → IsBytesWithInfo s shard info
+        → StartsAt xorb_records (finite.values s.xorbs) row xorb
+        → HasAt shard (row_at info.metadata.xorb_info_offset row) bytes.now
+        → length (xorb_record_bytes xorb) ≤ length bytes.now
+        → MatchResult result (λ found. found ≡ Some xorb) (λ e. e ≡ CoreError.OutOfMemory) }
 {
     read_xorb(alloc, bytes)
 }

@@ -1,13 +1,24 @@
 -- What was made is delivered, and why nothing was made is answered.
-use Rattle.std.proofs.Common.{◌≡◌, ◌⊎◌, inl, inr, ℕ, ◌<◌, ◌≤◌, List, ◌++◌, length, drop, Option, Ok, Err, Result, MatchResult, sym, ◌∙◌, subst, arith}
-use Rattle.std.specs.Prelude.{IfOk, IfErr}
+use Rattle.std.proofs.Common.{◌≡◌, ◌⊎◌, inl, inr, ℕ, ◌<◌, ◌≤◌, List, ◌++◌, length, drop, map, Option, Ok, Err, Result, MatchResult, sym, ◌∙◌, subst, arith}
+use Rattle.std.specs.Prelude.{IfOk, IfErr, IsOkAnd}
+use Rattle.std.specs.FinMap.{values}
 use Rattle.std.specs.declared.vec.Vec.{Vec}
 use Rattle.xet_core_structures.specs.declared.error.CoreError.{CoreError}
 use Rattle.xet_core_structures.specs.declared.file_structs.FileDataSequenceEntry.{FileDataSequenceEntry}
+use Rattle.xet_core_structures.specs.declared.merklehash.DataHash.{DataHash}
+use Rattle.xet_core_structures.specs.declared.xorb_structs.MDBXorbInfo.{MDBXorbInfo}
 use Rattle.xet_core_structures.specs.Errors.{CoreResult, variant_number}
+use Rattle.xet_core_structures.specs.KeyedHash.{no_key}
+use Rattle.xet_core_structures.specs.Shard.{Shard}
 use Rattle.xet_core_structures.specs.Trees.Filling.{FillsWith}
+use Rattle.xet_core_structures.specs.WrittenQueries.{RunAmong, RunInXorb}
+use Rattle.xet_core_structures.specs.WrittenShard.{IsBytesOf}
+use Rattle.xet_core_structures.specs.XorbRecord.{xorb_records}
+use Rattle.shard_bytes.specs.Query.{AnswersQuery, AnswersQueryAt, HasNoChunkAt, RefusesQuery, RefusesQueryAt}
+use Rattle.shard_bytes.specs.Section.{StartsAt}
+use Rattle.xet_c.specs.declared.hash.XetHash.{XetHash}
 use Rattle.xet_c.specs.declared.segment.XetSegment.{XetSegment}
-use Rattle.xet_c.specs.Arguments.{IsRun, ShowsRun}
+use Rattle.xet_c.specs.Arguments.{AnswersRun, AnswersRunAt, IsRun, RefusesRun, RefusesRunAt, ShowsRun, c_hash}
 use Rattle.xet_c.specs.Output.{Answers, Delivers, Refuses, Outcome}
 
 pub outcome : {X Z : Type 0} (IsMade : List X → Type 0) (IsCause : CoreError → Type 0) (old new : List X) (written answer : ℕ) (made : Result (Vec X Z) CoreError)
@@ -66,3 +77,18 @@ pub run_shown : (IsAnswer : Option (ℕ × FileDataSequenceEntry) → Type 0) (I
     → ShowsRun IsAnswer IsCause old new count answer
 run_shown IsAnswer IsCause old new count answer (Ok run) is shown = inl (run, is, shown.0, shown.1)
 run_shown IsAnswer IsCause old new count answer (Err e) is shown = inr (e, is, shown.0, shown.1, shown.2)
+
+-- a run that was looked for, on any bytes and on those of a shard
+pub run_said : (bytes : List ℕ) (cs : List XetHash) (hashes : List DataHash) (found : CoreResult (Option (ℕ × FileDataSequenceEntry))) → map c_hash hashes ≡ cs
+    → MatchResult found (AnswersQuery bytes hashes) (RefusesQuery bytes hashes) → ((s : Shard) → IsBytesOf s bytes → IsOkAnd found (RunAmong no_key hashes (values s.xorbs)))
+    → MatchResult found (AnswersRun bytes cs) (RefusesRun bytes cs)
+run_said bytes cs hashes (Ok answer) same any_bytes written = (hashes, same, any_bytes, written)
+run_said bytes cs hashes (Err e) same any_bytes written = inr (hashes, same, any_bytes, written)
+
+-- a run that was looked for at a place, on any bytes and at a shard's xorb
+pub run_at_said : (bytes : List ℕ) (cs : List XetHash) (hashes : List DataHash) (row index : ℕ) (found : CoreResult (Option (ℕ × FileDataSequenceEntry))) → map c_hash hashes ≡ cs
+    → MatchResult found (AnswersQueryAt bytes hashes row index) (RefusesQueryAt bytes hashes row index)
+    → ((s : Shard) (xorb : MDBXorbInfo) → IsBytesOf s bytes → StartsAt xorb_records (values s.xorbs) row xorb → MatchResult found (RunInXorb no_key hashes xorb index) (HasNoChunkAt hashes xorb index))
+    → MatchResult found (AnswersRunAt bytes cs row index) (RefusesRunAt bytes cs row index)
+run_at_said bytes cs hashes row index (Ok answer) same any_bytes written = (hashes, same, any_bytes, λ s xorb start. written s xorb start.0 start.1)
+run_at_said bytes cs hashes row index (Err e) same any_bytes written = inr (hashes, same, any_bytes, λ s xorb start. written s xorb start.0 start.1)

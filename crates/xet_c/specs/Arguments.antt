@@ -1,5 +1,6 @@
 -- What the structs say that are passed.
 use Rattle.std.specs.Prelude.{◌≡◌, ◌⊎◌, ⊤, ℕ, Bool, true, false, is_some, List, [], ◌∷◌, length, map, Option, None, Some, option_map}
+use Rattle.std.specs.FinMap.{values}
 use Rattle.xet_core_structures.specs.declared.error.CoreError.{CoreError}
 use Rattle.xet_core_structures.specs.declared.error.CoreError.TheVariants.{OutOfMemory}
 use Rattle.xet_core_structures.specs.declared.file_structs.FileDataSequenceEntry.{FileDataSequenceEntry}
@@ -8,15 +9,22 @@ use Rattle.xet_core_structures.specs.declared.file_structs.MDBFileInfo.{MDBFileI
 use Rattle.xet_core_structures.specs.declared.merklehash.DataHash.{DataHash}
 use Rattle.xet_core_structures.specs.declared.shard_format.MDBShardInfo.{MDBShardInfo}
 use Rattle.xet_core_structures.specs.declared.set_operations.ranges.HashRange.{HashRange}
+use Rattle.xet_core_structures.specs.declared.xorb_structs.MDBXorbInfo.{MDBXorbInfo}
 use Rattle.xet_core_structures.specs.Errors.{variant_number}
 use Rattle.xet_core_structures.specs.FileRecord.{has_verification}
 use Rattle.xet_core_structures.specs.Hash.{words_of}
+use Rattle.xet_core_structures.specs.KeyedHash.{no_key}
+use Rattle.xet_core_structures.specs.Shard.{Shard}
+use Rattle.xet_core_structures.specs.WrittenQueries.{RunAmong, RunInXorb}
+use Rattle.xet_core_structures.specs.WrittenShard.{IsBytesOf}
+use Rattle.xet_core_structures.specs.XorbRecord.{xorb_records}
+use Rattle.shard_bytes.specs.Section.{StartsAt}
 use Rattle.shard_bytes.specs.declared.export.Export.{Export}
 use Rattle.shard_bytes.specs.declared.minimal.KeptXorbs.{KeptXorbs}
 use Rattle.shard_bytes.specs.declared.minimal.KeptXorbs.TheVariants.{All as all_xorbs, Listed}
 use Rattle.shard_bytes.specs.declared.minimal.Subset.{Subset}
 use Rattle.shard_bytes.specs.Minimal.{SubsetBytes}
-use Rattle.shard_bytes.specs.Query.{AnswersQuery, RefusesQuery, AnswersQueryAt, RefusesQueryAt}
+use Rattle.shard_bytes.specs.Query.{AnswersQuery, RefusesQuery, AnswersQueryAt, RefusesQueryAt, HasNoChunkAt}
 use Rattle.xet_c.specs.declared.export.XetExport.{XetExport}
 use Rattle.xet_c.specs.declared.find.XetFile.{XetFile}
 use Rattle.xet_c.specs.declared.hash.XetHash.{XetHash}
@@ -145,31 +153,41 @@ abbrev pub IsRun : Option (ℕ × FileDataSequenceEntry) → (old new : XetSegme
 IsRun None old new count = (count ≡ 0) × (new ≡ old)
 IsRun (Some run) old new count = (count ≡ run.0) × (new ≡ c_segment run.1)
 
--- what a query for these hashes answers
+-- what a query for these hashes answers, on any bytes and on those of a shard
 abbrev pub AnswersRun : List ℕ → List XetHash → Option (ℕ × FileDataSequenceEntry) → Type 0
 AnswersRun bytes cs answer =
     (hashes : List DataHash) × (map c_hash hashes ≡ cs) × AnswersQuery bytes hashes answer
+    × ((s : Shard) → IsBytesOf s bytes → RunAmong no_key hashes (values s.xorbs) answer)
 
 -- why a query for these hashes is refused: an allocation failed, or the query is refused on these
--- bytes
+-- bytes, which are not a shard's
 abbrev pub RefusesRun : List ℕ → List XetHash → CoreError → Type 0
 RefusesRun bytes cs e =
     (e ≡ OutOfMemory)
-    ⊎ ((hashes : List DataHash) × (map c_hash hashes ≡ cs) × RefusesQuery bytes hashes e)
+    ⊎ ((hashes : List DataHash) × (map c_hash hashes ≡ cs) × RefusesQuery bytes hashes e
+    × ((s : Shard) → ¬ IsBytesOf s bytes))
 
--- the answer of a query for these hashes at a row and an index
+-- these bytes are a shard's, and at a row starts this xorb of it
+abbrev pub HasXorbStart : List ℕ → ℕ → Shard → MDBXorbInfo → Type 0
+HasXorbStart bytes row s xorb = IsBytesOf s bytes × StartsAt xorb_records (values s.xorbs) row xorb
+
+-- the answer of a query for these hashes at a row and an index, on any bytes and at a shard's xorb
 abbrev pub AnswersRunAt : List ℕ → List XetHash → (row index : ℕ)
     → Option (ℕ × FileDataSequenceEntry) → Type 0
 AnswersRunAt bytes cs row index answer =
     (hashes : List DataHash) × (map c_hash hashes ≡ cs)
     × AnswersQueryAt bytes hashes row index answer
+    × ((s : Shard) → (xorb : MDBXorbInfo) → HasXorbStart bytes row s xorb
+    → RunInXorb no_key hashes xorb index answer)
 
--- why a query for these hashes at a row and an index is refused
+-- why a query for these hashes at a row and an index is refused, on any bytes and at a shard's xorb
 abbrev pub RefusesRunAt : List ℕ → List XetHash → (row index : ℕ) → CoreError → Type 0
 RefusesRunAt bytes cs row index e =
     (e ≡ OutOfMemory)
     ⊎ ((hashes : List DataHash) × (map c_hash hashes ≡ cs)
-    × RefusesQueryAt bytes hashes row index e)
+    × RefusesQueryAt bytes hashes row index e
+    × ((s : Shard) → (xorb : MDBXorbInfo) → HasXorbStart bytes row s xorb
+    → HasNoChunkAt hashes xorb index e))
 
 -- an answer is shown, or why there is none: then the count is 0, and the segment stays
 abbrev pub ShowsRun : (Option (ℕ × FileDataSequenceEntry) → Type 0) → (CoreError → Type 0)

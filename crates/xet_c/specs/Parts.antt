@@ -1,16 +1,23 @@
 -- Lookups in parts of a shard, and the rows of a chunk table, as they are shown.
-use Rattle.std.specs.Prelude.{◌≡◌, ◌⊎◌, ℕ, ◌<◌, ◌%◌, List, length, map, AllPairs, All, Option, MatchResult, min}
+use Rattle.std.specs.Prelude.{◌≡◌, ◌⊎◌, ℕ, ◌<◌, ◌≤◌, ◌%◌, List, length, map, AllPairs, All, Option, Some, IfOk, MatchResult, min}
+use Rattle.std.specs.FinMap.{values}
 use Rattle.xet_core_structures.specs.declared.error.CoreError.{CoreError}
 use Rattle.xet_core_structures.specs.declared.error.CoreError.TheVariants.{OutOfMemory}
 use Rattle.xet_core_structures.specs.declared.file_structs.MDBFileInfo.{MDBFileInfo}
+use Rattle.xet_core_structures.specs.declared.shard_format.MDBShardInfo.{MDBShardInfo}
 use Rattle.xet_core_structures.specs.declared.xorb_structs.MDBXorbInfo.{MDBXorbInfo}
+use Rattle.xet_core_structures.specs.Ends.{HasHeaderAndFooter}
 use Rattle.xet_core_structures.specs.Errors.{CoreResult}
-use Rattle.xet_core_structures.specs.Lookup.{AreHits, IsRowAndIndex}
+use Rattle.xet_core_structures.specs.FileRecord.{file_record_bytes, file_records}
+use Rattle.xet_core_structures.specs.Lookup.{AreHits, HasAt, IsRowAndIndex, row_at}
 use Rattle.xet_core_structures.specs.Shard.{Shard}
-use Rattle.xet_core_structures.specs.WrittenShard.{IsBytesOf}
+use Rattle.xet_core_structures.specs.WrittenShard.{IsBytesOf, IsBytesWithInfo}
 use Rattle.xet_core_structures.specs.Table.{Hit, IsHit, OtherRow, IsSorted, hits}
+use Rattle.xet_core_structures.specs.XorbRecord.{xorb_record_bytes, xorb_records}
+use Rattle.shard_bytes.specs.Section.{StartsAt}
 use Rattle.shard_bytes.specs.ChunkRows.{HasChunkRows, RefusesChunkRows, ListsChunks}
 use Rattle.shard_bytes.specs.Parts.{table_of, ArePlacesAmong, HasFileIn, RefusesFileIn, HasXorbIn, RefusesXorbIn}
+use Rattle.shard_bytes.specs.Walking.{HasFileAt, HasXorbAt}
 use Rattle.xet_c.specs.declared.chunk_rows.XetChunkRow.{XetChunkRow}
 use Rattle.xet_c.specs.declared.parts.XetChunkPlace.{XetChunkPlace}
 
@@ -59,11 +66,34 @@ RefusesRowsOf bytes e =
     (e ≡ OutOfMemory)
     ⊎ (RefusesChunkRows bytes e × ((s : Shard) → IsBytesOf s bytes → e ≡ OutOfMemory))
 
--- what was read at the front of bytes as a file is what they have there, or why it was not
-abbrev pub IsFileIn : ℕ → List ℕ → CoreResult (Option MDBFileInfo) → Type 0
-IsFileIn version bytes found =
-    MatchResult found (HasFileIn version bytes) (RefusesFileIn version bytes)
+-- what was read at the front of bytes as a file: what they have there, or why it was not
+pub record IsFileIn (version : ℕ) (bytes : List ℕ) (found : CoreResult (Option MDBFileInfo))
+    : Type 0 where
+  pub any_bytes : MatchResult found (HasFileIn version bytes) (RefusesFileIn version bytes)
+  -- of bytes that a shard has from a row on, it is the file at this row
+  pub in_shard : (shard : List ℕ) → (info : MDBShardInfo) → (row : ℕ)
+      → HasHeaderAndFooter shard info → info.header.version ≡ version
+      → HasAt shard (row_at info.metadata.file_info_offset row) bytes
+      → IfOk found (HasFileAt shard row)
+  -- a shard's file is read where it starts, if the bytes reach as far as its record
+  pub written : (s : Shard) → (shard : List ℕ) → (info : MDBShardInfo) → (row : ℕ)
+      → (file : MDBFileInfo) → IsBytesWithInfo s shard info → info.header.version ≡ version
+      → StartsAt file_records (values s.files) row file
+      → HasAt shard (row_at info.metadata.file_info_offset row) bytes
+      → length (file_record_bytes file) ≤ length bytes
+      → MatchResult found (λ read. read ≡ Some file) (λ e. e ≡ OutOfMemory)
 
--- what was read at the front of bytes as a xorb is what they have there, or why it was not
-abbrev pub IsXorbIn : List ℕ → CoreResult (Option MDBXorbInfo) → Type 0
-IsXorbIn bytes found = MatchResult found (HasXorbIn bytes) (RefusesXorbIn bytes)
+-- what was read at the front of bytes as a xorb: what they have there, or why it was not
+pub record IsXorbIn (bytes : List ℕ) (found : CoreResult (Option MDBXorbInfo)) : Type 0 where
+  pub any_bytes : MatchResult found (HasXorbIn bytes) (RefusesXorbIn bytes)
+  -- of bytes that a shard has from a row on, it is the xorb at this row
+  pub in_shard : (shard : List ℕ) → (info : MDBShardInfo) → (row : ℕ)
+      → HasHeaderAndFooter shard info → HasAt shard (row_at info.metadata.xorb_info_offset row) bytes
+      → IfOk found (HasXorbAt shard row)
+  -- a shard's xorb is read where it starts, if the bytes reach as far as its record
+  pub written : (s : Shard) → (shard : List ℕ) → (info : MDBShardInfo) → (row : ℕ)
+      → (xorb : MDBXorbInfo) → IsBytesWithInfo s shard info
+      → StartsAt xorb_records (values s.xorbs) row xorb
+      → HasAt shard (row_at info.metadata.xorb_info_offset row) bytes
+      → length (xorb_record_bytes xorb) ≤ length bytes
+      → MatchResult found (λ read. read ≡ Some xorb) (λ e. e ≡ OutOfMemory)

@@ -1,6 +1,6 @@
 //! Lookups in parts of a shard that the caller has read: a table, and a record.
 
-ghost use Rattle.std.specs.Prelude.{◌≡◌, ◌⊎◌, ◌*◌, ℕ, List, Option, map, IfOk, IfErr, MatchResult};
+ghost use Rattle.std.specs.Prelude.{◌≡◌, ◌⊎◌, ℕ, List, Option, map, IfOk, IfErr, MatchResult};
 ghost use Rattle.std.specs.FinMap as finite;
 ghost use Rattle.xet_core_structures.specs.declared.error.CoreError.{CoreError};
 ghost use Rattle.xet_core_structures.specs.declared.file_structs.MDBFileInfo.{MDBFileInfo};
@@ -11,7 +11,8 @@ ghost use Rattle.xet_core_structures.specs.FileRecord.{file_records};
 ghost use Rattle.xet_core_structures.specs.Shard.{Shard};
 ghost use Rattle.xet_core_structures.specs.WrittenShard.{IsBytesWithInfo};
 ghost use Rattle.xet_core_structures.specs.XorbRecord.{xorb_records};
-ghost use Rattle.shard_bytes.specs.Parts.{AreStartsWith, CollidesAmong, IsCut, RefusesRows, RefusesPlaces};
+ghost use Rattle.shard_bytes.specs.Parts.{AreStartsWith, CollidesAmong, RefusesRows, RefusesPlaces};
+ghost use Rattle.shard_bytes.specs.RangeReads.{HasRowsWith, chunk_table_in, file_table_in, xorb_table_in};
 ghost use Rattle.xet_c.specs.Output.{Outcome};
 ghost use Rattle.xet_c.specs.Parts.{AreChunksWith, AreRowsWith, ArePlacesWith, c_chunk_place, IsFileIn, IsXorbIn};
 ghost use Rattle.xet_c.specs.Walking.{ShowsFileAt, ShowsXorbAt};
@@ -48,13 +49,13 @@ pub extern "C" fn xet_find_rows(
         (λ e. (e ≡ CoreError.OutOfMemory) ⊎ RefusesRows table.now word e) rows.old rows.new
         written.new result }
     ensures files { (s : Shard) → (shard : List ℕ) → (info : MDBShardInfo) → IsBytesWithInfo s shard info
-        → IsCut shard info.metadata.file_lookup_offset (12 * info.metadata.file_lookup_num_entry) table.now
+        → HasRowsWith (file_table_in info.metadata shard) table.now word
         → Outcome (AreStartsWith file_records (finite.values s.files) word)
         (λ e. (e ≡ CoreError.OutOfMemory)
         ⊎ CollidesAmong file_records (finite.values s.files) word e) rows.old rows.new written.new
         result }
     ensures xorbs { (s : Shard) → (shard : List ℕ) → (info : MDBShardInfo) → IsBytesWithInfo s shard info
-        → IsCut shard info.metadata.xorb_lookup_offset (12 * info.metadata.xorb_lookup_num_entry) table.now
+        → HasRowsWith (xorb_table_in info.metadata shard) table.now word
         → Outcome (AreStartsWith xorb_records (finite.values s.xorbs) word)
         (λ e. (e ≡ CoreError.OutOfMemory)
         ⊎ CollidesAmong xorb_records (finite.values s.xorbs) word e) rows.old rows.new written.new
@@ -68,13 +69,13 @@ fn rows_with(alloc: Global, table: &[u8], word: u64) -> Result<Vec<u32>>
     ensures table { MatchResult result (λ found. AreRowsWith table.now word found.items)
         (λ e. (e ≡ CoreError.OutOfMemory) ⊎ RefusesRows table.now word e) }
     ensures files { (s : Shard) → (shard : List ℕ) → (info : MDBShardInfo) → IsBytesWithInfo s shard info
-        → IsCut shard info.metadata.file_lookup_offset (12 * info.metadata.file_lookup_num_entry) table.now
+        → HasRowsWith (file_table_in info.metadata shard) table.now word
         → MatchResult result
         (λ found. AreStartsWith file_records (finite.values s.files) word found.items)
         (λ e. (e ≡ CoreError.OutOfMemory)
         ⊎ CollidesAmong file_records (finite.values s.files) word e) }
     ensures xorbs { (s : Shard) → (shard : List ℕ) → (info : MDBShardInfo) → IsBytesWithInfo s shard info
-        → IsCut shard info.metadata.xorb_lookup_offset (12 * info.metadata.xorb_lookup_num_entry) table.now
+        → HasRowsWith (xorb_table_in info.metadata shard) table.now word
         → MatchResult result
         (λ found. AreStartsWith xorb_records (finite.values s.xorbs) word found.items)
         (λ e. (e ≡ CoreError.OutOfMemory)
@@ -101,7 +102,7 @@ pub extern "C" fn xet_find_places(
         (λ e. (e ≡ CoreError.OutOfMemory) ⊎ RefusesPlaces table.now e) places.old places.new
         written.new result }
     ensures chunks { (s : Shard) → (shard : List ℕ) → (info : MDBShardInfo) → IsBytesWithInfo s shard info
-        → IsCut shard info.metadata.chunk_lookup_offset (16 * info.metadata.chunk_lookup_num_entry) table.now
+        → HasRowsWith (chunk_table_in info.metadata shard) table.now word
         → Outcome (AreChunksWith (finite.values s.xorbs) word) (λ e. e ≡ CoreError.OutOfMemory)
         places.old places.new written.new result }
 {
@@ -113,7 +114,7 @@ fn places_with(alloc: Global, table: &[u8], word: u64) -> Result<Vec<XetChunkPla
     ensures table { MatchResult result (λ found. ArePlacesWith table.now word found.items)
         (λ e. (e ≡ CoreError.OutOfMemory) ⊎ RefusesPlaces table.now e) }
     ensures chunks { (s : Shard) → (shard : List ℕ) → (info : MDBShardInfo) → IsBytesWithInfo s shard info
-        → IsCut shard info.metadata.chunk_lookup_offset (16 * info.metadata.chunk_lookup_num_entry) table.now
+        → HasRowsWith (chunk_table_in info.metadata shard) table.now word
         → MatchResult result (λ found. AreChunksWith (finite.values s.xorbs) word found.items)
         (λ e. e ≡ CoreError.OutOfMemory) }
 {

@@ -29,6 +29,7 @@ pub extern "C" fn xet_query_chunks(
     show_run(&found, count, run)
 }
 
+#[tactic(auto, using(crate::proofs::Outcomes::run_said))]
 fn query(
     alloc: Global,
     shard: &[u8],
