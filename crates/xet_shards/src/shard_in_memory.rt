@@ -31,6 +31,7 @@ ghost use Rattle.xet_records.specs.Limits.{MAX_ROWS};
 mod chunk_query;
 mod file_store;
 mod sums;
+pub(crate) mod unindexed;
 mod union_rows;
 mod xorb_store;
 

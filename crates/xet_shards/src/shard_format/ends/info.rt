@@ -1,6 +1,7 @@
 //! Header and footer of a shard, writing a shard, and reading its sections.
 
-ghost use Rattle.std.specs.Prelude.{◌≡◌, ◌⊎◌, ℕ, Option, ◌+◌, ◌*◌, ◌^◌, ◌<◌, ◌≤◌, ◌++◌, length, List, [], IsTrue, IsErrAnd, false, All, MatchResult, OnOk, IfOk, IfErr, IfSome};
+ghost use Rattle.std.specs.Prelude.{◌≡◌, ◌⊎◌, ℕ, Option, ◌+◌, ◌*◌, ◌^◌, ◌<◌, ◌≤◌, ◌++◌, length, List, [], IsTrue, IsErrAnd, false, All, map, MatchResult, OnOk, IfOk, IfErr, IfSome};
+ghost use Rattle.std.specs.BTreeMap.{values};
 ghost use Rattle.std.specs.FinMap as finite;
 ghost use Rattle.std.specs.Io.KnownBytes.{Appends};
 ghost use Rattle.xet_base.specs.Errors.{IsWriteError};
@@ -11,7 +12,10 @@ ghost use Rattle.xet_shards.specs.Write.WrittenShard.{IsBytesWithInfo, ReadsBack
 ghost use Rattle.xet_base.specs.Source.{ReadsBytes, DeviceFailure};
 ghost use Rattle.xet_records.specs.Version.{IsVersion};
 ghost use Rattle.xet_records.specs.declared.record_reader.FormatVersion.{FormatVersion};
-ghost use Rattle.xet_records.specs.XorbRecord.{xorb_records};
+ghost use Rattle.xet_records.specs.FileRecord.{file_records, IsWellFormed};
+ghost use Rattle.xet_records.specs.Limits.{MAX_ROWS};
+ghost use Rattle.xet_records.specs.XorbRecord.{xorb_records, HasItsChunks};
+ghost use Rattle.xet_shards.specs.Write.Section.{total_rows};
 ghost use Rattle.xet_shards.specs.Read.SectionReading.{ReadsFiles, ReadsXorbs, SectionFails};
 ghost use Rattle.xet_shards.specs.Read.XorbHeaders.{xorb_headers, ReadsXorbHeaders};
 ghost use Rattle.xet_shards.specs.Ends.Ends.{HasHeaderAndFooter, HasUnsupportedHeader, EndsInHeader, HasUnsupportedFooter, EndsInFooter, FitsFooter, PartFails, Loads, LoadFails};
@@ -20,13 +24,15 @@ use super::footer::{FOOTER_SIZE, MDBShardFileFooter, check_version};
 use super::header::{MDBShardFileHeader, check_tag};
 use super::options::LayoutOptions;
 use crate::shard_format::read::section_reader::{read_section_at, read_xorb_headers};
-use crate::shard_format::write::writer::{write_end, write_values};
+use crate::shard_format::write::writer::{HoldsRecord, write_end, write_values};
 use crate::shard_format::write::written::{WrittenFiles, WrittenXorbs};
 use crate::shard_in_memory::MDBInMemoryShard;
 use std::alloc::Global;
+use std::collections::BTreeMap;
 use std::io;
 use std::io::{ErrorKind, Write};
 use xet_base::error::{CoreError, Result};
+use xet_base::merklehash::MerkleHash;
 use xet_base::source::{ShardSource, read_full};
 use xet_records::file_structs::MDBFileInfo;
 use xet_records::record_reader::FormatVersion;
@@ -216,10 +222,41 @@ fn write_shard<W: Write>(
     ensures shard { IfOk result (λ _. IsShard shard.now.content) }
     ensures causes { IfErr result IsWriteError }
 {
+    shard.invariant();
+    write_maps(
+        alloc,
+        writer,
+        shard.file_content(),
+        shard.xorb_content(),
+        options,
+    )
+}
+
+/// Writes a shard of the records that two maps hold, in the order of their hashes.
+pub(crate) fn write_maps<V: HoldsRecord<MDBXorbInfo>, W: Write>(
+    alloc: Global,
+    writer: &mut W,
+    files: &BTreeMap<MerkleHash, MDBFileInfo>,
+    xorbs: &BTreeMap<MerkleHash, V>,
+    options: &LayoutOptions,
+) -> Result<MDBShardInfo>
+    requires files { All IsWellFormed (values files.now) }
+    requires file_rows { total_rows file_records (values files.now) ≤ MAX_ROWS }
+    requires xorbs { All HasItsChunks (map V.held (values xorbs.now)) }
+    requires xorb_rows { total_rows xorb_records (map V.held (values xorbs.now)) ≤ MAX_ROWS }
+    ensures bytes { OnOk result
+        (Appends (W.contents writer.old) (W.contents writer.new)
+        (layout_of (values files.now) (map V.held (values xorbs.now)) options.now)) }
+    ensures info { IfOk result
+        (λ info. info
+        ≡ info_of (values files.now) (map V.held (values xorbs.now)) options.now) }
+    ensures widths { IfOk result (λ info. FitsFooter info.metadata) }
+    ensures causes { IfErr result IsWriteError }
+{
     let header = MDBShardFileHeader::of_version(options.version);
     header.serialize(writer)?;
-    let files: WrittenFiles = write_values(alloc, writer, shard.file_content())?;
-    let xorbs: WrittenXorbs = write_values(alloc, writer, shard.xorb_content())?;
+    let files: WrittenFiles = write_values(alloc, writer, files)?;
+    let xorbs: WrittenXorbs = write_values(alloc, writer, xorbs)?;
     let metadata = write_end(writer, &files, xorbs, options)?;
     Ok(MDBShardInfo { header, metadata })
 }

@@ -71,6 +71,14 @@ impl HoldsRecord<MDBFileInfo> for MDBFileInfo {
     }
 }
 
+impl HoldsRecord<MDBXorbInfo> for MDBXorbInfo {
+    ghost held = { λ xorb. xorb };
+
+    fn record(&self) -> &MDBXorbInfo {
+        self
+    }
+}
+
 impl HoldsRecord<MDBXorbInfo> for Rc<MDBXorbInfo> {
     ghost held = { λ owner. owner.value };
 
