@@ -9,12 +9,13 @@ ghost use Rattle.xet_core_structures.specs.WrittenShard.{IsBytesOf};
 ghost use Rattle.shard_bytes.specs.Recording.{with_files, with_xorbs, shard_of, CanAddFiles, CanAddXorbs, CanAddRecords, AdmitsAll, HasRecords, RefusesRecords};
 
 use std::alloc::Global;
-use xet_core_structures::error::{CoreError, Result};
+use xet_core_structures::error::Result;
 use xet_core_structures::file_structs::MDBFileInfo;
 use xet_core_structures::shard_format::MDBShardInfo;
-use xet_core_structures::shard_in_memory::MDBInMemoryShard;
 use xet_core_structures::source::MemorySource;
 use xet_core_structures::xorb_structs::MDBXorbInfo;
+use xet_records::record_reader::FormatVersion;
+use xet_shards::shard_writer::UnindexedShard;
 
 /// The records of a shard, files and xorbs each in the order of their section.
 #[derive(Debug, PartialEq, Drop)]
@@ -42,16 +43,16 @@ pub fn write_records(
         (λ bytes. IsBytesOf (shard_of files.items xorbs.items) bytes.items) }
     ensures admitted { AdmitsAll (CanAddRecords files.items xorbs.items) result }
 {
-    let mut shard = MDBInMemoryShard::new(alloc);
+    let mut shard = UnindexedShard::new(alloc);
     add_files(alloc, &mut shard, files)?;
-    add_xorbs(alloc, &mut shard, xorbs)?;
+    add_xorbs(&mut shard, xorbs)?;
     bytes_of(alloc, &shard, expiry)
 }
 
 // Adds files to a shard in memory, one after another.
-fn add_files(alloc: Global, shard: &mut MDBInMemoryShard, files: Vec<MDBFileInfo>) -> Result<()>
-    ensures ok { OnOk result (shard.new.content ≡ with_files shard.old.content files.items) }
-    ensures admitted { AdmitsAll (CanAddFiles shard.old.content files.items) result }
+fn add_files(alloc: Global, shard: &mut UnindexedShard, files: Vec<MDBFileInfo>) -> Result<()>
+    ensures ok { OnOk result (shard.new ≡ with_files shard.old files.items) }
+    ensures admitted { AdmitsAll (CanAddFiles shard.old files.items) result }
 {
     for file in files {
         shard.add_file_reconstruction_info(alloc, file)?;
@@ -60,29 +61,24 @@ fn add_files(alloc: Global, shard: &mut MDBInMemoryShard, files: Vec<MDBFileInfo
 }
 
 // Adds xorbs to a shard in memory, one after another.
-fn add_xorbs(alloc: Global, shard: &mut MDBInMemoryShard, xorbs: Vec<MDBXorbInfo>) -> Result<()>
-    ensures ok { OnOk result (shard.new.content ≡ with_xorbs shard.old.content xorbs.items) }
-    ensures admitted { AdmitsAll (CanAddXorbs shard.old.content xorbs.items) result }
+fn add_xorbs(shard: &mut UnindexedShard, xorbs: Vec<MDBXorbInfo>) -> Result<()>
+    ensures ok { OnOk result (shard.new ≡ with_xorbs shard.old xorbs.items) }
+    ensures admitted { AdmitsAll (CanAddXorbs shard.old xorbs.items) result }
 {
     for xorb in xorbs {
-        shard.add_xorb_block(alloc, xorb)?;
+        shard.add_xorb_block(xorb)?;
     }
     Ok(())
 }
 
 // The bytes of a shard in memory.
-fn bytes_of(alloc: Global, shard: &MDBInMemoryShard, expiry: Option<u64>) -> Result<Vec<u8>>
-    ensures ok { IfOk result (λ bytes. bytes.items ≡ layout shard.now.content expiry) }
-    ensures shard { IfOk result (λ _. IsShard shard.now.content) }
+fn bytes_of(alloc: Global, shard: &UnindexedShard, expiry: Option<u64>) -> Result<Vec<u8>>
+    ensures ok { IfOk result (λ bytes. bytes.items ≡ layout shard.now expiry) }
+    ensures shard { IfOk result (λ _. IsShard shard.now) }
     ensures width { IfOk result (λ _. IfSome expiry (λ e. e < 2 ^ 64)) }
     ensures causes { IfErr result (λ e. e ≡ CoreError.OutOfMemory) }
 {
-    let mut bytes = Vec::new(alloc);
-    match MDBShardInfo::serialize_from(alloc, &mut bytes, shard, expiry) {
-        Ok(_) => Ok(bytes),
-        // Writing to a vector fails only if it is out of memory.
-        Err(_) => Err(CoreError::OutOfMemory),
-    }
+    shard.to_bytes(alloc, FormatVersion::V3, expiry)
 }
 
 /// The records of the sections at the offsets in the footer of a shard's bytes, in their order. No

@@ -4,5 +4,5 @@ use Rattle.shard_bytes.proofs.records.add_files.Given as goal
 
 abbrev pub invariant-loop-file : goal.invariant-loop-file
 invariant-loop-file l =
-    (with_files l.fn.shard.content l.fn.files.items ≡ with_files l.shard.content l.file-iterator.rest.items)
-    × (CanAddFiles l.fn.shard.content l.fn.files.items ↔ CanAddFiles l.shard.content l.file-iterator.rest.items)
+    (with_files l.fn.shard l.fn.files.items ≡ with_files l.shard l.file-iterator.rest.items)
+    × (CanAddFiles l.fn.shard l.fn.files.items ↔ CanAddFiles l.shard l.file-iterator.rest.items)

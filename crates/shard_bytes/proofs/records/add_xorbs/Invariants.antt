@@ -4,5 +4,5 @@ use Rattle.shard_bytes.proofs.records.add_xorbs.Given as goal
 
 abbrev pub invariant-loop-xorb : goal.invariant-loop-xorb
 invariant-loop-xorb l =
-    (with_xorbs l.fn.shard.content l.fn.xorbs.items ≡ with_xorbs l.shard.content l.xorb-iterator.rest.items)
-    × (CanAddXorbs l.fn.shard.content l.fn.xorbs.items ↔ CanAddXorbs l.shard.content l.xorb-iterator.rest.items)
+    (with_xorbs l.fn.shard l.fn.xorbs.items ≡ with_xorbs l.shard l.xorb-iterator.rest.items)
+    × (CanAddXorbs l.fn.shard l.fn.xorbs.items ↔ CanAddXorbs l.shard l.xorb-iterator.rest.items)
