@@ -6,7 +6,7 @@
 #include <stdlib.h>
 #include <string.h>
 
-enum { ROOM = 1 << 20, CALLS = 33 };
+enum { ROOM = 1 << 20, CALLS = 34 };
 
 void *__real_malloc(size_t size);
 void *__real_realloc(void *block, size_t size);
@@ -94,7 +94,7 @@ static uint32_t call(int number, size_t *count) {
     size_t differing = 0;
     const char *name = "0000000000000001000000000000000200000000000000030000000000000004.mdb";
     /* These write no count. */
-    if (number == 6 || number > 24)
+    if (number == 6 || number > 25)
         *count = 0;
     switch (number) {
     case 0:
@@ -158,20 +158,22 @@ static uint32_t call(int number, size_t *count) {
     case 24:
         return xet_find_disagreements(both, 2, out.disagreements, 100, count);
     case 25:
-        return xet_file_at(first, first_length, 0, &out.listed.place, &out.listed.file, out.listed.segments, 100);
+        return xet_complete(first, first_length, &file, out.bytes, ROOM, count);
     case 26:
-        return xet_xorb_at(first, first_length, 0, &out.listed.place, &out.listed.xorb, out.listed.chunks, 100);
+        return xet_file_at(first, first_length, 0, &out.listed.place, &out.listed.file, out.listed.segments, 100);
     case 27:
+        return xet_xorb_at(first, first_length, 0, &out.listed.place, &out.listed.xorb, out.listed.chunks, 100);
+    case 28:
         return xet_file_in(first + info.file_section, info.xorb_section - info.file_section, 3, &out.listed.place,
                            &out.listed.file, out.listed.segments, 100);
-    case 28:
+    case 29:
         return xet_xorb_in(first + info.xorb_section, info.file_table - info.xorb_section, &out.listed.place,
                            &out.listed.xorb, out.listed.chunks, 100);
-    case 29:
-        return xet_hash_from_hex((const uint8_t *)name, 64, out.hashes);
     case 30:
-        return xet_parse_shard_name((const uint8_t *)name, 68, out.hashes);
+        return xet_hash_from_hex((const uint8_t *)name, 64, out.hashes);
     case 31:
+        return xet_parse_shard_name((const uint8_t *)name, 68, out.hashes);
+    case 32:
         return xet_hash_bytes(&file, first, first_length, out.hashes) | xet_hmac(&file, chunks, out.hashes);
     default:
         return xet_version() == XET_VERSION_NUMBER ? xet_load(first, first_length, &out.info) : XET_OTHER;

@@ -205,6 +205,11 @@ static uint32_t call_write_v2(const struct input *input, void *out, size_t capac
     return within(xet_export_room(input->shards[0].length), error, *written);
 }
 
+static uint32_t call_complete(const struct input *input, void *out, size_t capacity, size_t *written) {
+    uint32_t error = xet_complete(SHARD(0), &input->file, out, capacity, written);
+    return within(xet_export_room(input->shards[0].length), error, *written);
+}
+
 static uint32_t call_eligible(const struct input *input, void *out, size_t capacity, size_t *written) {
     return xet_eligible(SHARD(0), out, capacity, written);
 }
@@ -352,6 +357,7 @@ static const struct filling fillings[] = {
     {"xet_minimal", 1, OF_SECTIONS, call_minimal, 3},
     {"xet_subset", 1, OF_SECTIONS, call_subset, 3},
     {"xet_write_v2", 1, OF_MERGING, call_write_v2, 2},
+    {"xet_complete", 1, OF_SECTIONS, call_complete, 3},
     {"xet_records and xet_write", 1, OF_MERGING, call_write, 3},
     {"xet_eligible", sizeof(xet_hash), OF_SECTIONS, call_eligible, 0},
     {"xet_chunk_rows", sizeof(xet_chunk_row), OF_SECTIONS, call_chunk_rows, 0},

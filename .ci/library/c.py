@@ -19,8 +19,13 @@ def check_errors():
     texts = re.findall(r'"(\w+)"', header[header.index("names[]") : header.index("return error <")])
     if len(constants) < 2 or constants != {0: "Ok", **error_numbers()}:
         return "the errors of xet.h are not those of crates/xet_c"
-    same = dict(enumerate(texts)) == constants
-    return None if same else "the names of errors in xet.h are not those of its constants"
+    if dict(enumerate(texts)) != constants:
+        return "the names of errors in xet.h are not those of its constants"
+    enum = header[header.index("enum xet_error") : header.index("xet_error_name")]
+    meant = re.findall(r"case (XET_\w+): return", header)
+    returned = re.findall(r"^    (XET_\w+) = \d+,? +/\* [^*]|^    (XET_OK) = 0", enum, re.M)
+    same = meant == [one or other for one, other in returned]
+    return None if same else "xet_error_text has no text for an error, or one for a number that no call returns"
 
 
 def check_header():

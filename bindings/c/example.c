@@ -19,7 +19,7 @@ static uint8_t *read_shard(const char *name, size_t *length) {
     xet_info info;
     uint32_t error = xet_load(bytes, *length, &info);
     if (error)
-        stop(name, xet_error_name(error));
+        stop(name, xet_error_text(error));
     printf("%s: %llu files, %llu xorbs, %llu chunks\n", name, (unsigned long long)info.files,
            (unsigned long long)info.xorbs, (unsigned long long)info.chunks);
     return bytes;
@@ -34,10 +34,10 @@ int main(int count, char **names) {
     size_t room = xet_union_room(lengths[0] + lengths[1]);
     uint8_t *out = malloc(room);
     if (!out)
-        stop("union", xet_error_name(XET_OUT_OF_MEMORY));
+        stop("union", xet_error_text(XET_OUT_OF_MEMORY));
     uint32_t error = xet_union(first, lengths[0], second, lengths[1], out, room, &written);
     if (error)
-        stop("union", xet_error_name(error));
+        stop("union", xet_error_text(error));
     FILE *file = fopen(names[3], "wb");
     if (!file || fwrite(out, 1, written, file) != written || fclose(file) != 0)
         stop(names[3], "cannot be written");

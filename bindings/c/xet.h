@@ -79,6 +79,26 @@ static inline const char *xet_error_name(uint32_t error) {
     return error < sizeof names / sizeof *names ? names[error] : "Unknown";
 }
 
+/* What an error means, in a sentence without a point; of a number that no call returns, "unknown error". */
+static inline const char *xet_error_text(uint32_t error) {
+    switch (error) {
+    case XET_OK: return "no error";
+    case XET_IO: return "the bytes end too early, or verification rows are missing";
+    case XET_INTERNAL_ERROR: return "a row of a table leads to the end of a section";
+    case XET_TRUNCATED_HASH_COLLISION: return "eight or more files share the first word of the hash";
+    case XET_SHARD_VERSION: return "the bytes have another tag or version than a shard";
+    case XET_BAD_FILENAME: return "the text is not the name of a shard file";
+    case XET_INVALID_SHARD: return "the bytes are not a valid shard, or two shards have no union";
+    case XET_INVALID_ARGUMENTS: return "the call does not admit its arguments";
+    case XET_HASH_PARSING: return "the text is not the digits of a hash";
+    case XET_OUT_OF_MEMORY: return "an allocation failed";
+    case XET_SHORT: return "the output does not fit the room that was given";
+    case XET_DISAGREE: return "two shards that have to agree do not";
+    case XET_MALFORMED: return "a shard that has to be well-formed is not";
+    default: return "unknown error";
+    }
+}
+
 /* A hash of 32 bytes, as four words: word 0 is the first eight bytes, lowest byte first, and so on. As text a shard's
  * hash is words 0, 1, 2 and 3, each as sixteen hexadecimal digits, highest first. */
 typedef struct xet_hash {
@@ -149,7 +169,7 @@ static inline size_t xet_union_room(size_t bytes) {
     return bytes / 3 > (SIZE_MAX - 352) / 8 ? SIZE_MAX : 352 + bytes / 3 * 8;
 }
 
-/* The room that is enough for xet_export and xet_write_v2 of a shard of so many bytes: 344 bytes, and 4/3 of these. */
+/* The room that is enough for xet_export, xet_write_v2 and xet_complete of so many bytes: 344 bytes, and 4/3 of these. */
 static inline size_t xet_export_room(size_t bytes) {
     return bytes / 3 > (SIZE_MAX - 348) / 4 ? SIZE_MAX : 348 + bytes / 3 * 4;
 }
@@ -344,6 +364,18 @@ uint32_t xet_subset(const uint8_t *shard, size_t length, const xet_subset_option
  * XET_INVALID_SHARD: a file has a row that its version does not have, or a section more than 4294967295 rows.
  * XET_OUT_OF_MEMORY, XET_SHORT. */
 uint32_t xet_write_v2(const uint8_t *shard, size_t length, uint8_t *out, size_t capacity, size_t *written);
+
+/* Writes the whole shard of which these bytes have the header and both sections, whatever comes after these: bytes of a
+ * stream that end before the tables do, a minimal shard, or a shard with a wrong footer. It is in version 3, with all
+ * tables, creation 0 and no expiry. `key` is the one that the chunk hashes are under, which the footer then says; zeros
+ * are no key. So each other call can be made on the result.
+ *
+ * XET_SHARD_VERSION: the tag is another, or the version is neither 2 nor 3.
+ * XET_IO: the bytes end before the sections do.
+ * XET_INVALID_SHARD: a file has a row that the version does not have, or a section more than 4294967295 rows.
+ * XET_OUT_OF_MEMORY, XET_SHORT. */
+uint32_t xet_complete(const uint8_t *shard, size_t length, const xet_hash *key, uint8_t *out, size_t capacity,
+                      size_t *written);
 
 /* Looks for a run of chunks with these hashes, which are not keyed, also if the shard's are. `*count` is how many
  * chunks, from the first hash on, a xorb has one after another, and `run` says where. If there is none, `*count` is 0

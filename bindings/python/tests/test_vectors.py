@@ -817,6 +817,30 @@ def test_write_v2():
     refused("Io", xet_shards.write_v2, old[:47])
 
 
+def test_complete():
+    shard = Shard()
+    shard.add_file("100", "v=365", "s=9364", "x=777", "200:0:5:5")
+    shard.add_xorb("10", "21:5", "22:7")
+    written = shard.written()
+    end = xet_shards.load(written).file_table
+    for size in (end, end + 1, len(written) - 1, len(written)):
+        assert xet_shards.complete(written[:size]) == written
+        assert xet_shards.complete(written[:size] + b"\xff" * 300) == written
+    for size in (0, 31, 47, 48, end - 1):
+        refused("Io", xet_shards.complete, written[:size])
+    refused("ShardVersion", xet_shards.complete, b"\1" + written[1:])
+    # The footer says the key; chunk hashes stay as they are.
+    keyed = xet_shards.export(written, hash_text("7"), 1000, 60)
+    whole = xet_shards.complete(keyed[:end], hash_text("7"))
+    assert xet_shards.merge([keyed]) == whole and xet_shards.check(whole) == []
+    # A minimal shard has no tables, and this one no file at whose start a chunk is marked.
+    old = Shard()
+    old.add_xorb("10", "21:5", "22:7")
+    for version in (2, 3):
+        minimal = xet_shards.minimal(old.written(version=version), 9)
+        assert xet_shards.complete(minimal) == old.written()
+
+
 def test_merge():
     # These scripts print one byte string of three trees over three shards, and merge gives it, in any order. The shards
     # of merge_02 don't agree.

@@ -23,7 +23,7 @@ from ._checking import Finding, check  # noqa: E402
 from ._errors import (  # noqa: E402
     Disagreement, DisagreementError, MalformedError, MalformedRecord, XetError,
 )
-from ._forms import eligible, export, minimal, subset, write_v2  # noqa: E402
+from ._forms import complete, eligible, export, minimal, subset, write_v2  # noqa: E402
 from ._hashes import hash_bytes, hash_of_name, hmac, shard_name  # noqa: E402
 from ._lookups import (  # noqa: E402
     Info, Run, chunk_rows, find_file, find_places, find_rows, load, query_at, query_chunks,
@@ -44,8 +44,8 @@ from .shard import Shard, open as open  # noqa: E402
 __all__ = [
     "Buffer", "Chunk", "Disagreement", "DisagreementError", "File", "Finding", "Index", "Info", "ListedFile",
     "MalformedError", "MalformedRecord", "NO_EXPIRY", "NO_KEY", "Run", "Segment", "Shard", "Table", "WritableBuffer",
-    "XetError", "Xorb", "check", "chunk_rows", "concatenate", "concatenate_into", "difference", "eligible", "export",
-    "file_at", "file_in", "files", "find_disagreement", "find_disagreements", "find_file", "find_malformed",
+    "XetError", "Xorb", "check", "chunk_rows", "complete", "concatenate", "concatenate_into", "difference", "eligible",
+    "export", "file_at", "file_in", "files", "find_disagreement", "find_disagreements", "find_file", "find_malformed",
     "find_places", "find_rows", "from_table", "hash_bytes", "hash_column", "hash_of_name", "hash_texts", "hmac", "load",
     "merge", "merge_into", "merge_room", "minimal", "query_at", "query_chunks", "shard_name", "subset", "table",
     "union", "write", "write_v2", "xorb_at", "xorb_in", "xorbs",

@@ -33,6 +33,7 @@ _CALLS = {
     "xet_minimal": [*_SHARD, c_uint64, c_bool, c_bool, *_OUT],
     "xet_subset": [*_SHARD, POINTER(_Subset), *_HASHES, *_OUT],
     "xet_write_v2": [*_SHARD, *_OUT],
+    "xet_complete": [*_SHARD, POINTER(_Hash), *_OUT],
     "xet_query_chunks": [*_SHARD, *_HASHES, POINTER(c_size_t), POINTER(_Segment)],
     "xet_query_at": [*_SHARD, *_HASHES, c_uint32, c_uint32, POINTER(c_size_t), POINTER(_Segment)],
     "xet_chunk_rows": [*_SHARD, POINTER(_ChunkRow), c_size_t, POINTER(c_size_t)],

@@ -4,7 +4,7 @@ from __future__ import annotations
 from ctypes import byref
 from typing import List, Optional, Sequence
 
-from ._arguments import _hashes, _seconds, _text, _words
+from ._arguments import NO_KEY, _hashes, _seconds, _text, _words
 from ._calls import _library
 from ._memory import Buffer, _Addresses, _filled, _made
 from ._structs import _Export, _Hash, _Subset
@@ -71,6 +71,20 @@ def write_v2(shard: Buffer) -> bytes:
             data[1],
             lambda out, room, written: _library.xet_write_v2(*data, out, room, byref(written)),
             "a file has an auxiliary row, which version 2 does not have",
+        )
+
+
+def complete(data: Buffer, key: str = NO_KEY) -> bytes:
+    """Returns the whole shard of which these bytes have the header and both sections, whatever comes after these.
+
+    So bytes of a stream that end before the tables do can be listed, searched and exported. The shard is in version 3,
+    with all tables, creation 0 and no expiry. `key` is the one that the chunk hashes are under.
+    """
+    under = _Hash(_words(key))
+    with _Addresses(data) as [given]:
+        return _made(
+            given[1],
+            lambda out, room, written: _library.xet_complete(*given, byref(under), out, room, byref(written)),
         )
 
 

@@ -62,6 +62,7 @@ library! {
     ) -> u32;
     fn xet_subset(shard: &[u8], options: &Subset, xorbs: &[Hash], out: &mut [u8], written: &mut usize) -> u32;
     fn xet_write_v2(shard: &[u8], out: &mut [u8], written: &mut usize) -> u32;
+    fn xet_complete(shard: &[u8], key: &Hash, out: &mut [u8], written: &mut usize) -> u32;
     fn xet_query_chunks(shard: &[u8], hashes: &[Hash], count: &mut usize, run: &mut Segment) -> u32;
     fn xet_query_at(
         shard: &[u8], hashes: &[Hash], row: u32, index: u32, count: &mut usize, run: &mut Segment,

@@ -171,3 +171,27 @@ pub fn subset(shard: &[u8], options: &Subset<'_>) -> Result<Vec<u8>> {
 pub fn write_v2(shard: &[u8]) -> Result<Vec<u8>> {
     bytes_of(shard.len(), |out, written| calls::xet_write_v2(shard, out, written))
 }
+
+/// The whole shard of which these bytes have the header and both sections, whatever comes after these, as of a stream
+/// that was cut: in version 3, with all tables, creation 0 and no expiry. `key` is the one that the chunk hashes are
+/// under, [`NO_KEY`](crate::NO_KEY) if there is none.
+///
+/// # Errors
+///
+/// - `ShardVersion`: the header is unsupported.
+/// - `Io`: the bytes end before the sections do.
+/// - `InvalidShard`: a file has a row that the version does not have, or a section more than 4294967295 rows.
+/// - `OutOfMemory`: an allocation failed.
+///
+/// ```
+/// # fn main() -> Result<(), Box<dyn std::error::Error>> {
+/// let shard = std::fs::read("examples/a.mdb")?;
+/// let sections = xet_shards::load(&shard)?.file_table as usize;
+/// let whole = xet_shards::complete(&shard[..sections], &xet_shards::NO_KEY)?;
+/// assert_eq!(xet_shards::records(&whole)?, xet_shards::records(&shard)?);
+/// # Ok(())
+/// # }
+/// ```
+pub fn complete(bytes: &[u8], key: &Hash) -> Result<Vec<u8>> {
+    bytes_of(bytes.len(), |out, written| calls::xet_complete(bytes, key, out, written))
+}

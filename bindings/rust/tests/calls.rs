@@ -195,6 +195,19 @@ fn version_2_without_auxiliary_rows() {
 }
 
 #[test]
+fn completes_what_ends_behind_its_sections() {
+    let mut shard = Shard::default();
+    shard.add_file(&["100", "v=365", "s=9364", "200:0:5:5"]);
+    shard.add_xorb(&["10", "21:5"]);
+    let written = shard.written(xet_shards::NO_EXPIRY, 3);
+    let end = xet_shards::load(&written).expect("it is a shard").file_table as usize;
+    for size in [end, end + 1, written.len()] {
+        assert_eq!(xet_shards::complete(&written[..size], &NO_KEY).as_ref(), Ok(&written));
+    }
+    assert_eq!(xet_shards::complete(&written[..end - 1], &NO_KEY), Err(Error::Io));
+}
+
+#[test]
 fn walks_through_both_sections() {
     let mut shard = Shard::default();
     let segments: Vec<String> = (0..70).map(|it| format!("200:{it}:{}:9", it + 1)).collect();

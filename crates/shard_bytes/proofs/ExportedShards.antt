@@ -145,13 +145,13 @@ module _ (x : Export) (s : Shard) (shard : IsShard s) where
 
 -- a shard that follows the header is what an export reads
 module _ (s : Shard) (bytes : List ℕ) (follows : FollowsHeader s bytes) where
-  abbrev stored_files : List MDBFileInfo
+  abbrev pub stored_files : List MDBFileInfo
   stored_files = follows.files.stored
 
-  abbrev stored_xorbs : List MDBXorbInfo
+  abbrev pub stored_xorbs : List MDBXorbInfo
   stored_xorbs = follows.xorbs.stored
 
-  sections : HasSections bytes stored_files stored_xorbs
+  pub sections : HasSections bytes stored_files stored_xorbs
   sections =
       let after : xorbs_after (values s.files) ≡ xorbs_after stored_files = omega (arith, ap (total_rows file_records) follows.files.returned, rows_handed file_records file_laws stored_files) in
       record {
@@ -159,6 +159,20 @@ module _ (s : Shard) (bytes : List ℕ) (follows : FollowsHeader s bytes) where
         file_section = follows.files.section;
         xorb_section = subst (λ n. IsSection xorb_records (drop n bytes) stored_xorbs) after follows.xorbs.section;
       }
+
+  -- and only memory can be lacking when they are read
+  pub only_memory : (e : CoreError) → ¬ IsWriteError e → ExportCase bytes e → e ≡ OutOfMemory
+  only_memory e read (bad_header (unsupported_format is (inl (long, other)))) = absurd (other follows.header.tag)
+  only_memory e read (bad_header (unsupported_format is (inr (long, other)))) = absurd (other follows.header.version follows.header.version_is)
+  only_memory e read (bad_header (too_few_bytes is (inl short))) = absurd (omega (arith, short, follows.header.size))
+  only_memory e read (bad_header (too_few_bytes is (inr (short, tag)))) = absurd (omega (arith, short, follows.header.size))
+  only_memory e read (bad_files header (not_read (out_of_memory is))) = is
+  only_memory e read (bad_files header (not_read (out_of_bytes is short))) = absurd (files_not_cut bytes stored_files stored_xorbs sections header short)
+  only_memory e read (bad_files header (passes_limit is refused)) = absurd (files_not_refused bytes stored_files stored_xorbs sections header refused)
+  only_memory e read (bad_xorbs header files there (not_read (out_of_memory is))) = is
+  only_memory e read (bad_xorbs header files there (not_read (out_of_bytes is short))) = absurd (xorbs_not_cut bytes stored_files stored_xorbs sections header files there short)
+  only_memory e read (bad_xorbs header files there (passes_limit is refused)) = absurd (xorbs_not_refused bytes stored_files stored_xorbs sections header files there refused)
+  only_memory e read (not_written header write) = absurd (read write)
 
   pub export_held : (x : Export) (out : List ℕ) → IsShard s → IsHash x.key → x.now < 2 ^ 64 → ExportsBytes x bytes out → HoldsExport x s out
   export_held x out shard key now e =
@@ -184,17 +198,6 @@ module _ (s : Shard) (bytes : List ℕ) (follows : FollowsHeader s bytes) where
     not_refused : (e : CoreError) → ¬ LoadRefusal bytes e
     not_refused e (inl (is, unsupported)) = not_unsupported bytes info ends unsupported
     not_refused e (inr (is, short)) = not_too_short bytes info ends short
-
-    only_memory : (e : CoreError) → ¬ IsWriteError e → ExportCase bytes e → e ≡ OutOfMemory
-    only_memory e read (bad_header (unsupported_format is why)) = absurd (not_unsupported bytes info ends (inl why))
-    only_memory e read (bad_header (too_few_bytes is why)) = absurd (not_too_short bytes info ends (inl why))
-    only_memory e read (bad_files header (not_read (out_of_memory is))) = is
-    only_memory e read (bad_files header (not_read (out_of_bytes is short))) = absurd (files_not_cut bytes stored_files stored_xorbs sections header short)
-    only_memory e read (bad_files header (passes_limit is refused)) = absurd (files_not_refused bytes stored_files stored_xorbs sections header refused)
-    only_memory e read (bad_xorbs header files there (not_read (out_of_memory is))) = is
-    only_memory e read (bad_xorbs header files there (not_read (out_of_bytes is short))) = absurd (xorbs_not_cut bytes stored_files stored_xorbs sections header files there short)
-    only_memory e read (bad_xorbs header files there (passes_limit is refused)) = absurd (xorbs_not_refused bytes stored_files stored_xorbs sections header files there refused)
-    only_memory e read (not_written header write) = absurd (read write)
 
     pub refused : (e : CoreError) → RefusesExport x bytes e → e ≡ OutOfMemory
     refused e (inl is) = is

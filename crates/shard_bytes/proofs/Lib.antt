@@ -2,6 +2,7 @@ pub mod Agreeing
 pub mod Checking
 pub mod ChunkRows
 pub mod Combining
+pub mod Completing
 pub mod CutOut
 pub mod CutTables
 pub mod EndsAlone

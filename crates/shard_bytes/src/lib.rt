@@ -6,6 +6,7 @@ pub mod agree;
 pub mod check;
 pub mod chunk_rows;
 pub mod combine;
+pub mod complete;
 pub mod expiry;
 pub mod export;
 pub mod find;

@@ -11,6 +11,7 @@ mod agree;
 mod check;
 mod chunk_rows;
 mod combine;
+mod complete;
 mod eligible;
 mod export;
 mod find;
