@@ -4,6 +4,7 @@ import json
 import os
 import re
 import resource
+import shutil
 import signal
 import stat
 import subprocess
@@ -501,6 +502,9 @@ def pages_have_all_commands(place):
         ["bash", "-c", f". {place.path('pages/mdb.bash')}; {words}"], capture_output=True, check=True, timeout=20
     )
     wants("a word is completed", run.stdout == b"--strict\n")
+    for shell, page in (("zsh", "_mdb"), ("fish", "mdb.fish")):
+        if shutil.which(shell):
+            subprocess.run([shell, "-n", place.path(f"pages/{page}")], check=True, timeout=20)
 
 
 ROWS = (

@@ -181,14 +181,17 @@ def check_pages(release):
     """The manual page and the completions name each command, and bash can read its own."""
     commands = re.findall(r"^  ([\w-]+) ", release.ran(f"{release.top}/bin/mdb", "--help")[0], re.M)
     share = f"{release.top}/share"
-    names = ("man/man1/mdb.1", "bash-completion/completions/mdb", "fish/vendor_completions.d/mdb.fish")
+    names = (
+        "man/man1/mdb.1", "bash-completion/completions/mdb", "fish/vendor_completions.d/mdb.fish",
+        "zsh/site-functions/_mdb",
+    )
     for name in names:
         lacking = sorted(set(commands) - {"help"} - set(re.findall(r"[\w-]+", read(f"{share}/{name}"))))
         if lacking or len(commands) < 10:
             return f"{name} of the archive lacks {', '.join(lacking)}"
     if not shutil.which("bash"):
         raise Skip("bash is not there, so its completions were not tried")
-    script = f". '{share}/{names[1]}'; COMP_WORDS=(mdb mer) COMP_CWORD=1; _mdb; echo \"${{COMPREPLY[*]}}\""
+    script = f". '{share}/{names[1]}'; COMP_WORDS=(mdb mer) COMP_CWORD=1; _mdb mdb mer mdb; echo \"${{COMPREPLY[*]}}\""
     printed, why = release.ran("bash", "-c", script)
     return why or (None if printed == "merge\n" else f"bash completes mer to {printed}")
 

@@ -32,7 +32,7 @@ TEXT = {
 def placed(found):
     """Returns for each package its files, by their paths on a system."""
     own = f"lib/libxet.so.{VERSION}"
-    of_mdb = ("bin/mdb", "share/man/", "share/bash-completion/", "share/fish/")
+    of_mdb = ("bin/mdb", "share/man/", "share/bash-completion/", "share/zsh/", "share/fish/")
     tools = {path: f"usr/{path}" for path in found if path.startswith(of_mdb)}
     runtime = {path: f"{LIBRARY}/{os.path.basename(path)}" for path in (own, f"lib/{SONAME}")}
     rest = ("lib/libxet.a", "lib/libxet.so", "lib/pkgconfig/xet.pc")

@@ -1,96 +1,179 @@
-"""The manual page of mdb, and what shells complete, from what its `--help` prints."""
+"""The manual page of mdb, and what shells need to complete its words, from its help.
+
+The help comes from the table of commands (crates/mdb/src/command_table.rt), so nothing is written twice.
+"""
+import os
 import re
 
-from .common import VERSION, ran
+from .common import ran
 
-SECTION = re.compile(r"^(\w+):$\n((?:^ .*\n?|^\n(?= ))*)", re.M)
-
-
-def helped(program):
-    """Returns what the program says of itself, and of each of its commands by name."""
-    whole = ran(program, "--help")
-    names = re.findall(r"^  ([\w-]+) ", sections(whole)["Commands"], re.M)
-    return whole, {name: ran(program, name, "--help") for name in names if name != "help"}
-
-
-def sections(text):
-    """Returns the sections of a help page, as Commands, Arguments and Options."""
-    return dict(SECTION.findall(text))
+OPTION = re.compile(r"^ {2,6}(?:-(?P<short>\w), )?--(?P<long>[\w-]+)(?: <(?P<value>\w+)>)? {2,}(?P<help>.*)$")
+WORD = re.compile(r"^ {2}(?P<word>[<\[]\w+[>\]](?:\.\.\.)?) {2,}(?P<help>.*)$")
+COMMAND = re.compile(r"^ {2}(?P<name>[a-z]+) {2,}(?P<about>.*)$")
+CHOICES = re.compile(r" \[possible values: (.*)\]$")
+# The values that are paths; the others are not completed.
+PATHS = {"FILE": "files", "A": "files", "B": "files", "LIST": "files", "HASHES": "files", "OUT": "files",
+         "FOLDER": "folders", "TO": "folders"}
 
 
-def options(text):
-    """Returns the long options of a help page, with what each is for."""
-    return re.findall(r"^ +(?:-\w, )?--([\w-]+).*? {2,}(.*)$", sections(text)["Options"], re.M)
+class Option:
+    def __init__(self, found):
+        self.short, self.long, self.value = found["short"], found["long"], found["value"]
+        choices = CHOICES.search(found["help"])
+        self.choices = choices.group(1).split(", ") if choices else []
+        self.help = CHOICES.sub("", found["help"])
+
+    def names(self):
+        return ([f"-{self.short}"] if self.short else []) + [f"--{self.long}"]
+
+    def takes(self):
+        return PATHS.get(self.value, "") if self.value else None
+
+
+class Command:
+    """A command by its help: what it is about, its usage, its words and options, and the text after them."""
+
+    def __init__(self, program, name, about):
+        self.name, self.about = name, about
+        lines = ran(program, name, "--help").splitlines()
+        usage = next(at for at, line in enumerate(lines) if line.startswith("Usage: "))
+        end = lines.index("", usage)
+        self.usage = [line.replace("Usage: ", "", 1).strip() for line in lines[usage:end]]
+        self.words = [it.groupdict() for it in map(WORD.match, lines) if it]
+        self.options = [Option(it) for it in map(OPTION.match, lines) if it]
+        last = max(at for at, line in enumerate(lines) if OPTION.match(line))
+        self.after = [line.strip() for line in lines[last + 1 :]]
+
+
+def commands(program):
+    found = [it for it in map(COMMAND.match, ran(program, "--help").splitlines()) if it]
+    return [Command(program, it["name"], it["about"]) for it in found if it["name"] != "help"]
 
 
 def roff(text):
-    """Returns text as the formatter of manual pages shows it unchanged."""
     text = text.replace("\\", "\\e").replace("-", "\\-")
-    return re.sub(r"^([.'])", r"\\&\1", text, flags=re.M)
+    return f"\\&{text}" if text.startswith((".", "'")) else text
 
 
-def manual(whole, commands):
-    """Returns the manual page: the help of each command, and what the exit statuses mean."""
-    about = whole.partition("\n")[0]
-    lines = [f'.TH MDB 1 "" "mdb {VERSION}" "Xet metadata shards"', ".SH NAME", f"mdb \\- {roff(about)}"]
-    lines += [".SH SYNOPSIS", "\\fBmdb\\fR \\fICOMMAND\\fR [\\fIOPTIONS\\fR] [\\fIFILE\\fR]..."]
-    lines += [".SH DESCRIPTION", f"{roff(about)}. A file is a metadata shard of Xet storage.", ".SH COMMANDS"]
-    for name, text in commands.items():
-        lines += [f".SS mdb {name}", ".EX", roff(text.rstrip()), ".EE"]
+def option_item(option):
+    names = ", ".join(f"\\fB{roff(it)}\\fR" for it in option.names())
+    value = f" \\fI{option.value}\\fR" if option.value else ""
+    choices = f" ({' or '.join(option.choices)})" if option.choices else ""
+    return [".TP", names + value, roff(option.help + choices) + "."]
+
+
+def command_section(command):
+    lines = [f".SS {command.name}", roff(command.about) + "."]
+    for usage in command.usage:
+        lines += [".P", f"\\fB{roff(usage)}\\fR"]
+    for word in command.words:
+        lines += [".TP", f"\\fI{roff(word['word'].strip('<>[].'))}\\fR", roff(word["help"]) + "."]
+    for option in command.options:
+        if option.long != "help":
+            lines += option_item(option)
+    lines += [".P", ".nf"] + [roff(line) for line in command.after if line] + [".fi"]
+    return lines
+
+
+STATUSES = (
+    ("0", "all was done"),
+    ("1", "a file or an output failed, or a lookup found nothing"),
+    ("2", "the words are no command"),
+    ("3", "a check found something, or with --strict shards differ"),
+)
+
+
+def manual(program, found):
+    about = ran(program, "--help").splitlines()[0]
+    version = ran(program, "--version").split()[1].strip(",")
+    lines = [f'.TH MDB 1 "" "mdb {version}" "User Commands"', ".SH NAME", f"mdb \\- {roff(about)}", ".SH SYNOPSIS"]
+    lines += [".B mdb", ".I COMMAND", "[\\fIOPTIONS\\fR] [\\fIFILE\\fR]...", ".SH COMMANDS"]
+    for command in found:
+        lines += command_section(command)
     lines += [".SH EXIT STATUS"]
-    for status, why in (
-        ("0", "All was done."),
-        ("1", "A file or an output failed, or a lookup found nothing."),
-        ("2", "The words are no command."),
-        ("3", "A check found something, or with \\-\\-strict a merge met records that differ."),
-    ):
-        lines += [".TP", status, why]
+    for status, when in STATUSES:
+        lines += [".TP", f".B {status}", roff(when) + "."]
     return "\n".join(lines) + "\n"
 
 
-def bash(commands):
-    """Returns bash's completions of commands and of their long options."""
-    words = {name: " ".join(f"--{it}" for it, _ in options(text)) for name, text in commands.items()}
-    cases = [f"        {name}) words='{it}' ;;" for name, it in words.items()]
-    return "\n".join([
-        "# Completion of mdb's commands and options; other words are files.",
-        "_mdb() {",
-        '    local word=${COMP_WORDS[COMP_CWORD]} words=""',
-        '    if [ "$COMP_CWORD" -eq 1 ]; then',
-        f"        COMPREPLY=($(compgen -W '{' '.join(commands)} help --help --version' -- \"$word\"))",
-        "        return",
-        "    fi",
-        '    case "${COMP_WORDS[1]}" in',
-        *cases,
-        "    esac",
-        '    case "$word" in -*) COMPREPLY=($(compgen -W "$words" -- "$word")) ;; esac',
-        "}",
-        "complete -o default -F _mdb mdb",
-        "",
-    ])
+def bash(found):
+    lines = ["# Completion of mdb for bash.", "_mdb() {", '    local command=${COMP_WORDS[1]} word=$2 before=$3']
+    names = " ".join([it.name for it in found] + ["help"])
+    lines += ['    if [ "$COMP_CWORD" -eq 1 ]; then']
+    lines += [f'        COMPREPLY=($(compgen -W "{names} --help --version" -- "$word"))']
+    lines += ["        return", "    fi", '    case "$command $before" in']
+    for command in found:
+        for option in command.options:
+            if option.value:
+                cases = " | ".join(f'"{command.name} {it}"' for it in option.names())
+                if option.choices:
+                    reply = f'-W "{" ".join(option.choices)}"'
+                else:
+                    reply = {"files": "-f", "folders": "-d", "": '-W ""'}[option.takes()]
+                lines.append(f'        {cases}) COMPREPLY=($(compgen {reply} -- "$word")); return ;;')
+    lines += ["    esac", '    case "$command" in']
+    for command in found:
+        options = " ".join(name for it in command.options for name in it.names())
+        lines.append(f'        {command.name}) COMPREPLY=($(compgen -W "{options}" -- "$word")) ;;')
+    lines += ["    esac", '    case "$word" in -*) ;; *) COMPREPLY=($(compgen -f -- "$word")) ;; esac', "}",
+              "complete -o filenames -F _mdb mdb"]
+    return "\n".join(lines) + "\n"
 
 
 def quoted(text):
-    """Returns text as one word of fish."""
-    text = text.replace("\\", "\\\\").replace("'", "\\'")
-    return f"'{text}'"
+    return text.replace("'", "'\\''").replace("[", "\\[").replace("]", "\\]").replace(":", "\\:")
 
 
-def fish(whole, commands):
-    """Returns fish's completions of commands and of their long options, with what each is for."""
-    abouts = dict(re.findall(r"^  ([\w-]+) +(.*)$", sections(whole)["Commands"], re.M))
-    lines = [f"complete -c mdb -n __fish_use_subcommand -a {name} -d {quoted(about)}" for name, about in abouts.items()]
-    for name, text in commands.items():
-        seen = f"complete -c mdb -n '__fish_seen_subcommand_from {name}'"
-        lines += [f"{seen} -l {option} -d {quoted(about)}" for option, about in options(text)]
+def zsh(found):
+    lines = ["#compdef mdb", "# Completion of mdb for zsh.", "_mdb() {", "    local -a commands", "    commands=("]
+    lines += [f"        '{it.name}:{quoted(it.about)}'" for it in found]
+    lines += ["    )", "    if (( CURRENT == 2 )); then", "        _describe command commands", "        return"]
+    lines += ["    fi", "    shift words", "    (( CURRENT-- ))", '    case "$words[1]" in']
+    for command in found:
+        lines.append(f"        {command.name})")
+        arguments = []
+        for option in command.options:
+            action = "(" + " ".join(option.choices) + ")" if option.choices else {
+                "files": "_files", "folders": "_files -/", "": " ", None: ""}[option.takes()]
+            value = f":{option.value}:{action}" if option.value else ""
+            arguments += [f"'*{it}[{quoted(option.help)}]{value}'" for it in option.names()]
+        arguments.append("'*:file:_files'")
+        lines.append("            _arguments " + " \\\n                ".join(arguments))
+        lines.append("            ;;")
+    lines += ["    esac", "}", '_mdb "$@"']
     return "\n".join(lines) + "\n"
 
 
+def fish(found):
+    lines = ["# Completion of mdb for fish."]
+    for command in found:
+        about = command.about.replace("'", "\\'")
+        lines.append(f"complete -c mdb -n __fish_use_subcommand -f -a {command.name} -d '{about}'")
+    for command in found:
+        for option in command.options:
+            words = ["complete -c mdb", f"-n '__fish_seen_subcommand_from {command.name}'", f"-l {option.long}"]
+            words += [f"-s {option.short}"] if option.short else []
+            if option.choices:
+                words.append(f"-x -a '{' '.join(option.choices)}'")
+            elif option.value:
+                folders = "-x -a '(__fish_complete_directories)'"
+                words.append({"files": "-r -F", "folders": folders, "": "-x"}[option.takes()])
+            about = option.help.replace("'", "\\'")
+            lines.append(" ".join(words + [f"-d '{about}'"]))
+    return "\n".join(lines) + "\n"
+
+
+# Where the page and the completions lie in a release.
+PLACES = {
+    "mdb.1": "share/man/man1/mdb.1",
+    "mdb.bash": "share/bash-completion/completions/mdb",
+    "_mdb": "share/zsh/site-functions/_mdb",
+    "mdb.fish": "share/fish/vendor_completions.d/mdb.fish",
+}
+
+
 def made(program):
-    """Returns the pages by their paths in a release."""
-    whole, commands = helped(program)
-    return {
-        "share/man/man1/mdb.1": manual(whole, commands),
-        "share/bash-completion/completions/mdb": bash(commands),
-        "share/fish/vendor_completions.d/mdb.fish": fish(whole, commands),
-    }
+    """Returns the manual page and the completions by their names."""
+    program = os.path.abspath(program)
+    found = commands(program)
+    return {"mdb.1": manual(program, found), "mdb.bash": bash(found), "_mdb": zsh(found), "mdb.fish": fish(found)}

@@ -61,8 +61,8 @@ def files(room):
     """Returns all files of the archive by their paths in it, but for the manifest."""
     found = {f"bin/{it}": File(read(f"{TOP}/crates/{it}/out/{it}", "rb"), mode=0o755) for it in PROGRAMS}
     found.update(installed(room))
-    for path, text in pages.made(f"{TOP}/crates/mdb/out/mdb").items():
-        found[path] = File(text.encode())
+    for name, text in pages.made(f"{TOP}/crates/mdb/out/mdb").items():
+        found[pages.PLACES[name]] = File(text.encode())
     for name, source in DOCUMENTS.items():
         text = read(f"{TOP}/{source}")
         # Links that lead to pages of the repository lead nowhere in the archive.
