@@ -1,8 +1,8 @@
 //! What the calls are made on.
 
+use crate::kinds::{Kind, Made, Slot, KINDS, ONE_FILE, SMALL_FILES};
+use crate::shard::{Parts, EMPTY, ROW};
 use crate::Hash;
-use crate::kinds::{KINDS, Kind, Made, ONE_FILE, SMALL_FILES, Slot};
-use crate::shard::{EMPTY, Parts, ROW};
 use std::iter;
 
 /// What a call is made on.

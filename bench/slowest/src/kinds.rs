@@ -1,8 +1,8 @@
 //! The kinds of shards that are meant to be slow.
 
-use crate::shard::{CHUNK_ENTRY, EMPTY, Layout, MARK, Parts, RECORD_ENTRY, ROW, Shard, Tables};
 use crate::shard::{mix, shuffle};
-use crate::{Chunk, Export, Hash, Segment, calls};
+use crate::shard::{Layout, Parts, Shard, Tables, CHUNK_ENTRY, EMPTY, MARK, RECORD_ENTRY, ROW};
+use crate::{calls, Chunk, Export, Hash, Segment};
 
 /// How the rows of a section stand in records.
 #[derive(Clone, Copy)]
@@ -323,6 +323,7 @@ impl Kind {
             start,
             bytes: 1,
             flags,
+            reserved: 0,
         });
         let mut chunks: Vec<_> = chunks.collect();
         if let Some(last) = chunks.last_mut() {

@@ -15,8 +15,8 @@ mod shard;
 mod subject;
 
 use measure::Cost;
-use subject::{SUBJECTS, Subject};
-use xet_shards::{Chunk, Export, Hash, Info, Segment};
+use subject::{Subject, SUBJECTS};
+use xet_shards::{Chunk, ChunkPlace, ChunkRow, Export, Hash, Info, Segment};
 
 struct Arguments {
     bytes: usize,
