@@ -1,20 +1,4 @@
-//! Tests of the library that no line of a script can make: streams that fail, conversions, and
-//! generic calls at concrete types.
+//! Five callers of the library, each with a theorem.
 #![tactic(auto)]
 
-#[cfg(test)]
-mod conversions;
-pub mod example;
-#[cfg(test)]
-mod fixtures;
-#[cfg(test)]
-mod minimal;
-#[cfg(test)]
-mod numbers;
-#[cfg(test)]
-mod records;
-#[cfg(test)]
-mod shards;
-#[cfg(test)]
-mod stream;
 pub mod uses;

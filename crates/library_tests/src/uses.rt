@@ -5,6 +5,4 @@ pub mod export;
 pub mod find;
 pub mod merge;
 pub mod query;
-#[cfg(test)]
-mod tests;
 pub mod write;

@@ -5,6 +5,7 @@
 mod buffers;
 mod device;
 mod minimal;
+mod numbers;
 mod probe;
 mod reading;
 mod rows;

@@ -9,6 +9,7 @@ use script_lines::show::show_line;
 use script_lines::words::{parse_flags, parse_u64};
 use shard_bytes::minimal::{KeptXorbs, Subset};
 use std::alloc::Global;
+use std::cell::Cell;
 use std::io::{self, Read, Write};
 use xet_core_structures::file_structs::KeptParts;
 use xet_core_structures::merklehash::MerkleHash;
@@ -28,7 +29,7 @@ impl Run<'_> {
         let size = match &command {
             Some(Command::Minimal { now, kept, .. }) => self.write_whole(&shard, *now, *kept),
             Some(Command::Subset { subset, .. }) => self.write_subset(&shard, subset),
-            _ => self.write_subset_only(&shard, words),
+            _ => return self.write_subset_only(&shard, words, out),
         }?;
         writeln!(out, "{size}")?;
         Ok(())
@@ -50,14 +51,27 @@ impl Run<'_> {
         Ok(shard.serialize_xorb_subset_with_expiry(self.alloc, output, now, expiry, is_kept)?)
     }
 
-    fn write_subset_only(&mut self, shard: &MDBMinimalShard, words: &[&str]) -> Written {
+    // Prints the number that the call returns, and how often the filter was called.
+    fn write_subset_only(
+        &mut self,
+        shard: &MDBMinimalShard,
+        words: &[&str],
+        out: &mut Vec<u8>,
+    ) -> Result<(), Stop> {
         let [_, _, _, now, list @ ..] = words else {
             return Err(Stop::Unreadable);
         };
         let now = parse_u64(now)?;
         let kept = parse_kept(self.alloc, list)?;
-        let is_kept = |xorb: &MDBXorbInfoView| has(&kept, &xorb.xorb_hash());
-        Ok(shard.serialize_xorb_subset_only(self.alloc, &mut self.output, now, is_kept)?)
+        let calls = Cell::new(0u64);
+        let is_kept = |xorb: &MDBXorbInfoView| {
+            calls.set(calls.get().saturating_add(1));
+            has(&kept, &xorb.xorb_hash())
+        };
+        let output = &mut self.output;
+        let size = shard.serialize_xorb_subset_only(self.alloc, output, now, is_kept)?;
+        let calls = calls.get();
+        Ok(writeln!(out, "{size}\ncalls {calls}")?)
     }
 
     /// Prints what the minimal shard has that is read from the first source. The word names its

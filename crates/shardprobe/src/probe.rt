@@ -37,7 +37,7 @@ impl Probe {
             || self.run_on_shards(words)?
             || self.show_shards(words, out)?
             || self.run_on_buffers(words, out)?
-            || self.run_on_rows(words, out)?
+            || self.show_cuts(words, out)?
             || self.show_views(words, out)?
             || self.show_sections(words, out)?
             || self.run_on_sets(words, out)?

@@ -1,65 +1,104 @@
-//! Commands that write and read single rows and records.
+//! Commands that write and read single rows, records and shards.
 
 ghost use Rattle.std.specs.Prelude.{IsTrue};
 ghost use Rattle.xet_core_structures.specs.FileRecord.{FitsItsHeader};
 
+use crate::numbers::{show_number, write_number};
 use crate::probe::Probe;
+use crate::runs::Run;
 use crate::stop::Stop;
+use script_lines::command::{Command, Version, parse_words};
 use script_lines::files_and_xorbs::{parse_file, parse_xorb};
 use script_lines::records::{
     Form, parse_aux, parse_full_chunk, parse_full_segment, parse_metadata, parse_verification_row,
 };
-use script_lines::show::show_line;
+use script_lines::show::{show_counted, show_line};
 use script_lines::words::parse_optional_u64;
 use std::alloc::Global;
-use std::io::{ErrorKind, Write};
+use std::io::{ErrorKind, Read, Write};
 use xet_core_structures::error::CoreError;
 use xet_core_structures::file_structs::{
     FileAuxExt, FileDataSequenceEntry, FileDataSequenceHeader, FileMetadataExt,
     FileVerificationEntry, MDBFileInfo,
 };
-use xet_core_structures::shard_format::{MDBShardFileFooter, MDBShardFileHeader};
+use xet_core_structures::rows::{Rows, read_optional, read_rows};
+use xet_core_structures::shard_format::{MDBShardFileFooter, MDBShardFileHeader, MDBShardInfo};
+use xet_core_structures::source::ShardSource;
 use xet_core_structures::xorb_structs::{
     MDBXorbInfo, XorbChunkSequenceEntry, XorbChunkSequenceHeader,
 };
 
-impl Probe {
-    /// Runs a command that writes or reads a row or a record. `false` if the words are no such
-    /// command.
-    pub fn run_on_rows(&mut self, words: &[&str], out: &mut Vec<u8>) -> Result<bool, Stop> {
-        match words {
-            ["append", kind, name, value @ ..] => self.append(kind, name, value, out),
-            ["read", kind, name, from @ ..] => self.show_read(kind, name, from, out),
-            ["cuts", kind, name] => show_cuts(self.alloc, kind, self.buffer(name)?, out),
-            _ => return Ok(false),
-        }?;
-        Ok(true)
-    }
-
-    // The buffer stays as it is if serializing fails.
-    fn append(
-        &mut self,
-        kind: &str,
-        name: &str,
-        value: &[&str],
-        out: &mut Vec<u8>,
-    ) -> Result<(), Stop> {
-        let mut written = Vec::new(self.alloc);
-        let count = write_value(self.alloc, kind, value, &mut written)?;
-        self.buffer_mut(name)?
-            .extend_from_slice(written.as_slice())?;
+impl Run<'_> {
+    /// Runs `append KIND B VALUE`, and prints the number that the call returns, or `write S B
+    /// [EXPIRY]` or `write2 ..`.
+    pub fn write(&mut self, words: &[&str], out: &mut Vec<u8>) -> Result<(), Stop> {
+        let ["append", kind, _, value @ ..] = words else {
+            return self.write_shard(words);
+        };
+        let count = write_value(self.alloc, kind, value, &mut self.output)?;
         Ok(writeln!(out, "{count}")?)
     }
 
-    fn show_read(
-        &self,
-        kind: &str,
-        name: &str,
-        from: &[&str],
-        out: &mut Vec<u8>,
-    ) -> Result<(), Stop> {
-        let from = parse_optional_u64(from)?.unwrap_or(0);
-        show_value(self.alloc, kind, self.buffer_from(name, from)?, out)
+    fn write_shard(&mut self, words: &[&str]) -> Result<(), Stop> {
+        let alloc = self.alloc;
+        let Some(
+            Command::Write {
+                version,
+                shard,
+                expiry,
+                ..
+            },
+        ) = parse_words(alloc, words, Form::Full)?
+        else {
+            return Err(Stop::Unreadable);
+        };
+        let probe = self.probe;
+        let shard = probe.shard(shard)?;
+        let output = &mut self.output;
+        match version {
+            Version::V2 => MDBShardInfo::serialize_from_v2(alloc, output, shard, expiry)?,
+            Version::V3 => MDBShardInfo::serialize_from(alloc, output, shard, expiry)?,
+        };
+        Ok(())
+    }
+
+    /// Runs `read KIND B [FROM]`, and prints the value.
+    pub fn read_value(&mut self, words: &[&str], out: &mut Vec<u8>) -> Result<(), Stop> {
+        let [_, kind, _, from @ ..] = words else {
+            return Err(Stop::Unreadable);
+        };
+        if let Some(from) = parse_optional_u64(from)? {
+            self.first.seek_to(from)?;
+        }
+        show_value(self.alloc, kind, &mut self.first, out)
+    }
+}
+
+impl Probe {
+    /// Runs `cuts KIND B`: deserializes from each proper prefix of the bytes, and prints how many
+    /// of them end too early. `false` if the words are no such command.
+    pub fn show_cuts(&self, words: &[&str], out: &mut Vec<u8>) -> Result<bool, Stop> {
+        let ["cuts", kind, name] = words else {
+            return Ok(false);
+        };
+        let bytes = self.buffer(name)?;
+        let mut ended = 0u64;
+        for len in 0..bytes.len() {
+            let answer = show_value(
+                self.alloc,
+                kind,
+                &mut &bytes[..len],
+                &mut Vec::new(self.alloc),
+            );
+            if let Err(Stop::Refused(CoreError::Io(error))) = answer {
+                if error.kind() == ErrorKind::UnexpectedEof {
+                    ended = ended.saturating_add(1);
+                }
+            }
+        }
+        let prefixes = bytes.len();
+        writeln!(out, "UnexpectedEof {ended} of {prefixes}")?;
+        Ok(true)
     }
 
     /// The bytes of a buffer from an offset on. `Unreadable` if it is past their end.
@@ -72,48 +111,48 @@ impl Probe {
     }
 }
 
-// Serializes the value of this kind that words spell.
-fn write_value(
+// Serializes the value of this kind that words spell, and returns what the call returns.
+fn write_value<W: Write>(
     alloc: Global,
     kind: &str,
     value: &[&str],
-    bytes: &mut Vec<u8>,
+    output: &mut W,
 ) -> Result<usize, Stop> {
     match (kind, value) {
         ("file_header", file) => {
             let header = parse_file(alloc, file, Form::Full)?.metadata;
-            Ok(header.serialize(bytes)?)
+            Ok(header.serialize(output)?)
         }
-        ("file", file) => write_file(&parse_file(alloc, file, Form::Full)?, bytes),
+        ("file", file) => write_file(&parse_file(alloc, file, Form::Full)?, output),
         ("xorb_header", xorb) => {
             let header = parse_xorb(alloc, xorb, Form::Full)?.metadata;
-            Ok(header.serialize(bytes)?)
+            Ok(header.serialize(output)?)
         }
-        ("xorb", xorb) => write_xorb(&parse_xorb(alloc, xorb, Form::Full)?, bytes),
-        ("header", _) => Ok(MDBShardFileHeader::default().serialize(bytes)?),
-        ("footer", _) => Ok(MDBShardFileFooter::default().serialize(bytes)?),
-        (_, [word]) => write_row(kind, word, bytes),
+        ("xorb", xorb) => write_xorb(&parse_xorb(alloc, xorb, Form::Full)?, output),
+        ("header", _) => Ok(MDBShardFileHeader::default().serialize(output)?),
+        ("footer", _) => Ok(MDBShardFileFooter::default().serialize(output)?),
+        (_, [word]) => write_row(kind, word, output),
         _ => Err(Stop::Unreadable),
     }
 }
 
-fn write_row(kind: &str, word: &str, bytes: &mut Vec<u8>) -> Result<usize, Stop> {
+fn write_row<W: Write>(kind: &str, word: &str, output: &mut W) -> Result<usize, Stop> {
     match kind {
-        "segment" => Ok(parse_full_segment(word)?.serialize(bytes)?),
-        "verification" => Ok(parse_verification_row(word)?.serialize(bytes)?),
-        "metadata" => Ok(parse_metadata(word, Form::Full)?.serialize(bytes)?),
-        "aux" => Ok(parse_aux(word, Form::Full)?.serialize(bytes)?),
-        "chunk" => Ok(parse_full_chunk(word, 0)?.serialize(bytes)?),
-        _ => Err(Stop::Unreadable),
+        "segment" => Ok(parse_full_segment(word)?.serialize(output)?),
+        "verification" => Ok(parse_verification_row(word)?.serialize(output)?),
+        "metadata" => Ok(parse_metadata(word, Form::Full)?.serialize(output)?),
+        "aux" => Ok(parse_aux(word, Form::Full)?.serialize(output)?),
+        "chunk" => Ok(parse_full_chunk(word, 0)?.serialize(output)?),
+        _ => write_number(kind, word, output),
     }
 }
 
 // Serializes a record whose parts are those that its header announces.
-fn write_file(file: &MDBFileInfo, bytes: &mut Vec<u8>) -> Result<usize, Stop> {
+fn write_file<W: Write>(file: &MDBFileInfo, output: &mut W) -> Result<usize, Stop> {
     if !fits_its_header(file) {
         return Err(Stop::Unreadable);
     }
-    Ok(file.serialize(bytes)?)
+    Ok(file.serialize(output)?)
 }
 
 fn fits_its_header(file: &MDBFileInfo) -> bool
@@ -126,45 +165,49 @@ fn fits_its_header(file: &MDBFileInfo) -> bool
         && file.aux_ext.is_some() == header.contains_aux_ext()
 }
 
-fn write_xorb(xorb: &MDBXorbInfo, bytes: &mut Vec<u8>) -> Result<usize, Stop> {
+fn write_xorb<W: Write>(xorb: &MDBXorbInfo, output: &mut W) -> Result<usize, Stop> {
     if xorb.chunks.len() != xorb.metadata.num_entries as usize {
         return Err(Stop::Unreadable);
     }
-    Ok(xorb.serialize(bytes)?)
+    Ok(xorb.serialize(output)?)
 }
 
-// Deserializes a value of this kind from the front of some bytes, and prints it.
-fn show_value(alloc: Global, kind: &str, bytes: &[u8], out: &mut Vec<u8>) -> Result<(), Stop> {
-    let mut rest = bytes;
+// Deserializes a value of this kind, and prints it.
+fn show_value<R: Read>(
+    alloc: Global,
+    kind: &str,
+    reader: &mut R,
+    out: &mut Vec<u8>,
+) -> Result<(), Stop> {
     match kind {
-        "file_header" => show_line(&FileDataSequenceHeader::deserialize(&mut rest)?, out)?,
-        "segment" => show_line(&FileDataSequenceEntry::deserialize(&mut rest)?, out)?,
-        "verification" => show_line(&FileVerificationEntry::deserialize(&mut rest)?, out)?,
-        "metadata" => show_line(&FileMetadataExt::deserialize(&mut rest)?, out)?,
-        "aux" => show_line(&FileAuxExt::deserialize(&mut rest)?, out)?,
-        "xorb_header" => show_line(&XorbChunkSequenceHeader::deserialize(&mut rest)?, out)?,
-        "chunk" => show_line(&XorbChunkSequenceEntry::deserialize(&mut rest)?, out)?,
-        "file" => show_line(&MDBFileInfo::deserialize(alloc, &mut rest)?, out)?,
-        "xorb" => show_line(&MDBXorbInfo::deserialize(alloc, &mut rest)?, out)?,
-        "header" => show_line(&MDBShardFileHeader::deserialize(alloc, &mut rest)?, out)?,
-        "footer" => show_line(&MDBShardFileFooter::deserialize(alloc, &mut rest)?, out)?,
-        _ => return Err(Stop::Unreadable),
+        "file" => show_line(&MDBFileInfo::deserialize(alloc, reader)?, out)?,
+        "xorb" => show_line(&MDBXorbInfo::deserialize(alloc, reader)?, out)?,
+        "header" => show_line(&MDBShardFileHeader::deserialize(alloc, reader)?, out)?,
+        "footer" => show_line(&MDBShardFileFooter::deserialize(alloc, reader)?, out)?,
+        "three_rows" => show_three_rows(alloc, reader, out)?,
+        _ => show_row(kind, reader, out)?,
     }
     Ok(())
 }
 
-// Deserializes from each proper prefix of the bytes, and prints how many of them end too early.
-fn show_cuts(alloc: Global, kind: &str, bytes: &[u8], out: &mut Vec<u8>) -> Result<(), Stop> {
-    let mut ended = 0u64;
-    for len in 0..bytes.len() {
-        let answer = show_value(alloc, kind, &bytes[..len], &mut Vec::new(alloc));
-        if let Err(Stop::Refused(CoreError::Io(error))) = answer {
-            if error.kind() == ErrorKind::UnexpectedEof {
-                ended = ended.saturating_add(1);
-            }
-        }
+fn show_row<R: Read>(kind: &str, reader: &mut R, out: &mut Vec<u8>) -> Result<(), Stop> {
+    match kind {
+        "file_header" => show_line(&FileDataSequenceHeader::deserialize(reader)?, out)?,
+        "segment" => show_line(&FileDataSequenceEntry::deserialize(reader)?, out)?,
+        "verification" => show_line(&FileVerificationEntry::deserialize(reader)?, out)?,
+        "metadata" => show_line(&FileMetadataExt::deserialize(reader)?, out)?,
+        "aux" => show_line(&FileAuxExt::deserialize(reader)?, out)?,
+        "xorb_header" => show_line(&XorbChunkSequenceHeader::deserialize(reader)?, out)?,
+        "chunk" => show_line(&XorbChunkSequenceEntry::deserialize(reader)?, out)?,
+        _ => show_number(kind, reader, out)?,
     }
-    let prefixes = bytes.len();
-    writeln!(out, "UnexpectedEof {ended} of {prefixes}")?;
     Ok(())
+}
+
+// Reads two verification rows as a list and one that is optional, and prints them.
+fn show_three_rows<R: Read>(alloc: Global, reader: &mut R, out: &mut Vec<u8>) -> Result<(), Stop> {
+    let rows: Rows<FileVerificationEntry> = read_rows(alloc, reader, 2)?;
+    let last: Option<FileVerificationEntry> = read_optional(reader, true)?;
+    show_counted(rows.as_slice(), out)?;
+    Ok(show_line(&last, out)?)
 }

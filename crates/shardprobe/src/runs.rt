@@ -11,6 +11,7 @@ use xet_core_structures::source::ShardSource;
 #[derive(Drop)]
 pub struct Run<'a> {
     pub alloc: Global,
+    pub probe: &'a Probe,
     pub first: Device<'a>,
     pub second: Device<'a>,
     pub output: Output,
@@ -30,6 +31,8 @@ impl Run<'_> {
             Kind::Combining => self.combine(words, out),
             Kind::Exporting => self.export(words, out),
             Kind::WritingMinimal => self.write_minimal(words, out),
+            Kind::Writing => self.write(words, out),
+            Kind::ReadingValue => self.read_value(words, out),
             Kind::ReadingOn | Kind::Reading => self.read(words, out),
         }
     }
@@ -43,7 +46,10 @@ enum Kind {
     // These two read one source from where it is, and write.
     Exporting,
     WritingMinimal,
-    // Reads one source from where it is.
+    // Reads no source, and writes.
+    Writing,
+    // These two read one source from where it is.
+    ReadingValue,
     ReadingOn,
     // Reads one source at any place.
     Reading,
@@ -57,6 +63,8 @@ fn kind_of(words: &[&str]) -> Kind {
         "set_union" | "set_difference" => Kind::Combining,
         "export" | "drop" | "export_streaming" | "drop_streaming" => Kind::Exporting,
         "minimal" | "dropmin" | "subset" | "subset_only" => Kind::WritingMinimal,
+        "append" | "write" | "write2" => Kind::Writing,
+        "read" => Kind::ReadingValue,
         "minimal_sums" | "minimal_records" | "minimal_eligible" | "eligible_chunks" => {
             Kind::ReadingOn
         }
@@ -68,25 +76,35 @@ fn kind_of(words: &[&str]) -> Kind {
 fn output_of<'a>(words: &[&'a str]) -> Option<&'a str> {
     match (kind_of(words), words) {
         (Kind::Combining, [_, _, _, name, ..]) => Some(*name),
-        (Kind::Exporting | Kind::WritingMinimal, [_, _, name, ..]) => Some(*name),
+        (Kind::Exporting | Kind::WritingMinimal | Kind::Writing, [_, _, name, ..]) => Some(*name),
         _ => None,
     }
 }
 
 impl Probe {
-    /// Runs a command through devices, and stores what it wrote, also if it failed. Prints why it
-    /// failed, and its costs if they are switched on.
+    /// Runs a command through devices, and stores what it wrote, also if it failed, unless it reads
+    /// no source. Prints why it failed, and its costs if they are switched on.
     pub fn run_through_devices(&mut self, words: &[&str], out: &mut Vec<u8>) -> Result<(), Stop> {
         let written = self.run_shown(words, out)?;
-        match output_of(words) {
-            Some(name) => self.put_buffer(name, written),
-            None => Ok(()),
+        match (words, output_of(words)) {
+            (["append", ..], Some(name)) => {
+                Ok(
+                    self.buffer_mut(name)?
+                        .extend_from_slice(written.as_slice())?,
+                )
+            }
+            (_, Some(name)) => self.put_buffer(name, written),
+            (_, None) => Ok(()),
         }
     }
 
     // The bytes that a command writes through devices.
     fn run_shown(&self, words: &[&str], out: &mut Vec<u8>) -> Result<Vec<u8>, Stop> {
         let run = self.run_once(words, self.plan, out)?;
+        if kind_of(words) == Kind::Writing {
+            run.answer?;
+            return Ok(run.output.bytes);
+        }
         match &run.answer {
             Ok(()) => {}
             Err(Stop::Unreadable) => return Err(Stop::Unreadable),
@@ -108,11 +126,14 @@ impl Probe {
             (Kind::Combining, [_, first, second, ..]) => {
                 (self.buffer(first)?, self.buffer(second)?)
             }
+            (Kind::Writing, _) => (&[], &[]),
+            (Kind::ReadingValue, [_, _, first, ..]) => (self.buffer(first)?, &[]),
             (_, [_, first, ..]) => (self.buffer(first)?, &[]),
             _ => return Err(Stop::Unreadable),
         };
         let mut run = Run {
             alloc: self.alloc,
+            probe: self,
             first: Device::new(first, plan.of(Target::First)),
             second: Device::new(second, plan.of(Target::Second)),
             output: Output::new(self.alloc, plan.of(Target::Output))?,

@@ -2,13 +2,12 @@
 
 use crate::probe::Probe;
 use crate::stop::Stop;
-use script_lines::command::{Command, Version, parse_words};
+use script_lines::command::{Command, parse_words};
 use script_lines::ranges::{ByteRange, bytes_in};
 use script_lines::records::Form;
 use script_lines::show::show_bytes;
 use std::io::Write;
 use xet_core_structures::file_structs::MDBFileInfo;
-use xet_core_structures::shard_format::MDBShardInfo;
 use xet_core_structures::shard_in_memory::MDBInMemoryShard;
 use xet_core_structures::xorb_structs::MDBXorbInfo;
 
@@ -16,7 +15,7 @@ impl Probe {
     /// Runs such a command. `false` if the words are none.
     pub fn run_shared(&mut self, words: &[&str], out: &mut Vec<u8>) -> Result<bool, Stop> {
         match words.first() {
-            Some(&("shard" | "file" | "xorb" | "write" | "write2" | "size" | "hex")) => {}
+            Some(&("shard" | "file" | "xorb" | "size" | "hex")) => {}
             _ => return Ok(false),
         }
         match parse_words(self.alloc, words, Form::Full)? {
@@ -31,12 +30,6 @@ impl Probe {
             Command::Shard { shard } => self.put_shard(shard, MDBInMemoryShard::new(self.alloc)),
             Command::File { shard, file } => self.add_file(shard, file),
             Command::Xorb { shard, xorb } => self.add_xorb(shard, xorb),
-            Command::Write {
-                version,
-                shard,
-                buffer,
-                expiry,
-            } => self.write_shard(version, shard, buffer, expiry),
             Command::Size { buffer } => self.show_size(buffer, out),
             Command::Hex { buffer, range } => self.show_hex(buffer, range, out),
             _ => Err(Stop::Unreadable),
@@ -52,23 +45,6 @@ impl Probe {
     fn add_xorb(&mut self, shard: &str, xorb: MDBXorbInfo) -> Result<(), Stop> {
         let alloc = self.alloc;
         Ok(self.shard_mut(shard)?.add_xorb_block(alloc, xorb)?)
-    }
-
-    fn write_shard(
-        &mut self,
-        version: Version,
-        shard: &str,
-        buffer: &str,
-        expiry: Option<u64>,
-    ) -> Result<(), Stop> {
-        let alloc = self.alloc;
-        let shard = self.shard(shard)?;
-        let mut bytes = Vec::new(alloc);
-        match version {
-            Version::V2 => MDBShardInfo::serialize_from_v2(alloc, &mut bytes, shard, expiry)?,
-            Version::V3 => MDBShardInfo::serialize_from(alloc, &mut bytes, shard, expiry)?,
-        };
-        self.put_buffer(buffer, bytes)
     }
 
     fn show_size(&self, buffer: &str, out: &mut Vec<u8>) -> Result<(), Stop> {

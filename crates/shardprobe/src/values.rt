@@ -8,10 +8,11 @@ use crate::sets::split_at_with;
 use crate::stop::Stop;
 use script_lines::files_and_xorbs::{parse_file, parse_xorb};
 use script_lines::records::Form;
+use script_lines::refusal::Refusal;
 use script_lines::show::{show_joined, show_line};
-use script_lines::words::{parse_hash, parse_key, parse_u32};
+use script_lines::words::{parse_hash, parse_key, parse_u32, parse_u64};
 use std::alloc::Global;
-use std::io::{self, Write};
+use std::io::{self, ErrorKind, Write};
 use xet_core_structures::error::CoreError;
 use xet_core_structures::file_structs::FileDataSequenceHeader;
 use xet_core_structures::merklehash::{MerkleHash, keyed_hash};
@@ -30,10 +31,7 @@ impl Probe {
             ["hash_bytes", key, count] => show_hash_bytes(alloc, key, count, out),
             ["name", hash] => show_name(alloc, hash, out),
             ["parse_name", text] => Ok(show_line(&parse_shard_filename(text), out)?),
-            ["error", "other", text] => Err(Stop::Refused(CoreError::other(alloc, text))),
-            ["error", "invalid_shard", text] => {
-                Err(Stop::Refused(CoreError::invalid_shard(alloc, text)))
-            }
+            ["error", kind, text @ ..] => show_error(alloc, kind, text, out),
             _ => return Ok(false),
         }?;
         Ok(true)
@@ -76,7 +74,51 @@ fn show_from_hex(alloc: Global, text: &[&str], out: &mut Vec<u8>) -> Result<(), 
 
 fn show_hmac(key: &str, hash: &str, out: &mut Vec<u8>) -> Result<(), Stop> {
     let keyed = parse_hash(hash)?.hmac(parse_key(key)?);
-    Ok(writeln!(out, "{keyed}")?)
+    Ok(writeln!(out, "{keyed:?}")?)
+}
+
+// Prints the name of an error's variant, as scripts have it, and its message.
+fn show_error(alloc: Global, kind: &str, text: &[&str], out: &mut Vec<u8>) -> Result<(), Stop> {
+    let text = text.first().copied().unwrap_or("");
+    let error = match bare_error(kind) {
+        Some(error) => error,
+        None if kind == "TruncatedHashCollision" => {
+            CoreError::TruncatedHashCollision(parse_u64(text)?)
+        }
+        None => error_with_text(kind, String::from_str(alloc, text)?)?,
+    };
+    let name = Refusal(&error);
+    Ok(writeln!(out, "{name}: {error}")?)
+}
+
+// An error without a text.
+fn bare_error(kind: &str) -> Option<CoreError> {
+    match kind {
+        "Io" => Some(CoreError::Io(io::Error::from(ErrorKind::UnexpectedEof))),
+        "ShardNotFound" => Some(CoreError::ShardNotFound(MerkleHash::default())),
+        "FileNotFound" => Some(CoreError::FileNotFound(MerkleHash::default())),
+        "InvalidRange" => Some(CoreError::InvalidRange),
+        "InvalidArguments" => Some(CoreError::InvalidArguments),
+        "HashMismatch" => Some(CoreError::HashMismatch),
+        "ChunkHeaderParse" => Some(CoreError::ChunkHeaderParse),
+        "OutOfMemory" => Some(CoreError::OutOfMemory),
+        _ => None,
+    }
+}
+
+// An error with a text, which may be empty.
+fn error_with_text(kind: &str, text: String) -> Result<CoreError, Stop> {
+    match kind {
+        "InternalError" => Ok(CoreError::InternalError(text)),
+        "Other" => Ok(CoreError::Other(text)),
+        "ShardVersion" => Ok(CoreError::ShardVersion(text)),
+        "BadFilename" => Ok(CoreError::BadFilename(text)),
+        "QueryFailed" => Ok(CoreError::QueryFailed(text)),
+        "SmudgeQueryPolicy" => Ok(CoreError::SmudgeQueryPolicy(text)),
+        "InvalidShard" => Ok(CoreError::InvalidShard(text)),
+        "MalformedData" => Ok(CoreError::MalformedData(text)),
+        _ => Err(Stop::Unreadable),
+    }
 }
 
 // Prints the keyed hash of so many bytes: 0, 1 and so on to 250, and again.
