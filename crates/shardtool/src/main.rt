@@ -6,8 +6,6 @@ mod merge;
 mod print_run;
 mod run;
 mod stop;
-#[cfg(test)]
-mod tests;
 mod workspace;
 mod write;
 
