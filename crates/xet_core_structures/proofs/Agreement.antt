@@ -7,3 +7,4 @@ pub mod Differing
 pub mod DifferingFound
 pub mod HashRuns
 pub mod Malformed
+pub mod StrictTrees

@@ -15,8 +15,9 @@ mod trees;
 mod two_shards;
 
 pub use agreement::{
-    AgreeingMerge, Disagreement, MalformedRecord, Merged, RecordHash, find_disagreement,
-    find_disagreements, find_malformed, merge_agreeing, merge_or_disagreements,
+    AgreeingFill, AgreeingMerge, Disagreement, MalformedRecord, Merged, RecordHash,
+    find_disagreement, find_disagreements, find_malformed, merge_agreeing, merge_or_disagreements,
+    merge_or_disagreements_into,
 };
 use bumpalo::Bump;
 pub use ranges::{HashRange, merge_range, merge_range_into};

@@ -18,7 +18,7 @@ use Rattle.xet_core_structures.proofs.Records.Items.{below_or_at}
 use Rattle.xet_core_structures.proofs.Trees.PlacedWriting.{placed_once}
 
 -- a record lies where its header and the bytes of its rows do
-copied_placed : {H R : Type 0} (K : RecordKind H R) (one other : PlacedRecord H) (n : ℕ) → one.header ≡ other.header → n ≡ 48 * K.rows_after one.header → take n one.rows.now ≡ take n other.rows.now → (r : R)
+pub copied_placed : {H R : Type 0} (K : RecordKind H R) (one other : PlacedRecord H) (n : ℕ) → one.header ≡ other.header → n ≡ 48 * K.rows_after one.header → take n one.rows.now ≡ take n other.rows.now → (r : R)
     → Places K other r → Places K one r
 copied_placed {H} {R} K one other n same size front r is =
     let stored = is.rows.stored in
@@ -65,12 +65,11 @@ module _ {H R : Type 0} (K : RecordKind H R) (laws : KindLaws K) (lists : List (
   pub placed_here : (p : Place) (placed : PlacedRecord H) (r : R) → IsRecordAt K lists p r → FoundAt p placed → Places K placed r
   placed_here p placed r at found = subst (λ x. Places K x r) (placed_is p placed at.place found) at.is
 
-  -- the record at a place is that at another
-  pub copied_at : (p q : Place) (one other : PlacedRecord H) (n : ℕ) → IsPlace K lists p → FoundAt p one → FoundAt q other → one.header ≡ other.header → n ≡ 48 * K.rows_after one.header → take n one.rows.now ≡ take n other.rows.now → (r : R)
-      → IsRecordAt K lists q r → IsRecordAt K lists p r
-  copied_at p q one other n is one_found other_found same size front r at = record {
+  -- the record at a place is that at another, if it is so of what lies there
+  pub copied_at : (p q : Place) (one other : PlacedRecord H) → IsPlace K lists p → FoundAt p one → FoundAt q other → ((r : R) → Places K other r → Places K one r) → (r : R) → IsRecordAt K lists q r → IsRecordAt K lists p r
+  copied_at p q one other is one_found other_found same r at = record {
     place = is;
-    is = subst (λ x. Places K x r) (sym (placed_is p one is one_found)) (copied_placed K one other n same size front r (placed_here q other r at other_found));
+    is = subst (λ x. Places K x r) (sym (placed_is p one is one_found)) (same r (placed_here q other r at other_found));
   }
 
   module _ (agree : R → R → Type 0) (places : List Place) (from : ℕ) where

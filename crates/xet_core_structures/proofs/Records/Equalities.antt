@@ -73,7 +73,7 @@ files_agreed a b r s v m x r_is s_is v_is m_is x_is = (
   each one two three AuxExt = three
 
 -- what agrees with a file agrees with one that has no other parts, if these agree
-announces_more : (f g : ℕ) (part : OptionalPart) → IncludesBits f g → IsTrue (announces g part) → IsTrue (announces f part)
+pub announces_more : (f g : ℕ) (part : OptionalPart) → IncludesBits f g → IsTrue (announces g part) → IsTrue (announces f part)
 announces_more f g part includes = of (announces g part) (announces f part) (one_announced g part) (one_announced f part) where
   of : (v w : Bool) → bit_at g (bit_of part) ≡ one v → bit_at f (bit_of part) ≡ one w → IsTrue v → IsTrue w
   of v true g_bit f_bit has = refl

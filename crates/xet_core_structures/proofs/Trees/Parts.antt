@@ -127,7 +127,7 @@ module _ {H R : Type 0} (K : RecordKind H R) (laws : KindLaws K) (v w : FormatVe
       none = refused none;
     }
 
-no_shard_union : (x : List ℕ) (i : MDBShardInfo) (y : List ℕ) (j : MDBShardInfo) (one other : Records) → HoldsLists x i one.files one.xorbs → HoldsLists y j other.files other.xorbs → HaveNoRecordUnion one other → HaveNoUnion x i y j
+no_shard_union : (x : List ℕ) (i : MDBShardInfo) (y : List ℕ) (j : MDBShardInfo) (one other : Records) → HoldsLists x i one.files one.xorbs → HoldsLists y j other.files other.xorbs → HaveNoRecordUnion IsEitherFile IsEitherXorb one other → HaveNoUnion x i y j
 no_shard_union x i y j one other first second (inl none) =
     inl (no_list_union file_records file_laws (version_of i.header.version) (version_of j.header.version) IsEitherFile files_unique (files_at x i) (files_at y j) one.files other.files first.files second.files none)
 no_shard_union x i y j one other first second (inr none) =
@@ -213,7 +213,7 @@ module _ (x : List ℕ) (i : MDBShardInfo) (y : List ℕ) (j : MDBShardInfo) (x_
 
 -- why the records of two have no union
 pub lists_refused : (x : List ℕ) (i : MDBShardInfo) (y : List ℕ) (j : MDBShardInfo) (one other : Records) (e : CoreError) → HoldsLists x i one.files one.xorbs → HoldsLists y j other.files other.xorbs
-    → (e ≡ OutOfMemory) ⊎ (IsInvalidShard e × HaveNoRecordUnion one other) → InputRefusal x i y j e ⊎ (IsInvalidShard e × HaveNoUnion x i y j)
+    → (e ≡ OutOfMemory) ⊎ (IsInvalidShard e × HaveNoRecordUnion IsEitherFile IsEitherXorb one other) → InputRefusal x i y j e ⊎ (IsInvalidShard e × HaveNoUnion x i y j)
 lists_refused x i y j one other e first second (inl no_memory) = inl (inl no_memory)
 lists_refused x i y j one other e first second (inr (invalid, none)) = inr (invalid, no_shard_union x i y j one other first second none)
 

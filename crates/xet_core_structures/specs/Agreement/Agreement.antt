@@ -23,10 +23,13 @@ use Rattle.xet_core_structures.specs.declared.set_operations.agreement.differing
 use Rattle.xet_core_structures.specs.declared.set_operations.MergePlan.{MergePlan}
 use Rattle.xet_core_structures.specs.declared.set_operations.agreement.AgreeingMerge.{AgreeingMerge}
 use Rattle.xet_core_structures.specs.declared.set_operations.agreement.AgreeingMerge.TheVariants.{Bytes as MergedBytes, Disagreements, Malformed as FoundMalformed}
+use Rattle.xet_core_structures.specs.declared.set_operations.agreement.AgreeingFill.{AgreeingFill}
+use Rattle.xet_core_structures.specs.declared.set_operations.agreement.AgreeingFill.TheVariants.{Bytes as FilledBytes, Disagreements as Disagreeing, Malformed as Misformed}
 use Rattle.xet_core_structures.specs.declared.set_operations.agreement.Merged.{Merged}
 use Rattle.xet_core_structures.specs.declared.set_operations.agreement.Merged.TheVariants.{Bytes, Disagreement as Disagreed, Malformed}
 use Rattle.xet_core_structures.specs.TwoShards.ByteResults.{key_of, LoadRefusal}
 use Rattle.xet_core_structures.specs.Records.ShardContents.{HasShard}
+use Rattle.xet_core_structures.specs.Trees.Filling.{Fills}
 use Rattle.xet_core_structures.specs.Trees.MergeTrees.{leaves, TreeWrites, InputIs}
 use Rattle.xet_core_structures.specs.Trees.Parts.{SectionsRefusal}
 
@@ -152,3 +155,13 @@ MergesOrFinds inputs plan (MergedBytes bytes) =
 MergesOrFinds inputs plan (Disagreements found) =
     HoldShards inputs × (0 < length found.items) × HasAllDisagreements inputs found.items
 MergesOrFinds inputs plan (FoundMalformed m) = IsFirstMalformed inputs m
+
+-- the same of a slice, to whose front the bytes were put if they fit; if there are none it stays
+abbrev pub FillsOrFinds : List (List ℕ) → MergePlan → (old new : List ℕ) → AgreeingFill → Type 0
+FillsOrFinds inputs plan old new (FilledBytes size) =
+    HoldShards inputs × InputsAgree inputs
+    × ((bytes : List ℕ) × TreeWrites inputs plan bytes × Fills bytes old new size)
+FillsOrFinds inputs plan old new (Disagreeing found) =
+    HoldShards inputs × (0 < length found.items) × HasAllDisagreements inputs found.items
+    × (new ≡ old)
+FillsOrFinds inputs plan old new (Misformed m) = IsFirstMalformed inputs m × (new ≡ old)

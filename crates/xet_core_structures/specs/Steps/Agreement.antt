@@ -1,5 +1,5 @@
 -- Steps towards what `Agreement` defines, which only contracts inside the crate speak of.
-use Rattle.std.specs.Prelude.{◌≡◌, ℕ, ◌<◌, ◌≤◌, List, length, All, Contains, Option, MatchOption}
+use Rattle.std.specs.Prelude.{◌≡◌, ⊤, ℕ, ◌<◌, ◌≤◌, List, length, All, Contains, Option, None, Some, MatchOption, slice_get}
 use Rattle.xet_base.specs.declared.merklehash.DataHash.{DataHash}
 use Rattle.xet_records.specs.declared.file_structs.header.FileDataSequenceHeader.{FileDataSequenceHeader}
 use Rattle.xet_records.specs.declared.file_structs.MDBFileInfo.{MDBFileInfo}
@@ -7,17 +7,23 @@ use Rattle.xet_records.specs.declared.xorb_structs.MDBXorbInfo.{MDBXorbInfo}
 use Rattle.xet_records.specs.Part.{announces, flags_of}
 use Rattle.xet_records.specs.RecordKind.{RecordKind}
 use Rattle.xet_records.specs.XorbRecord.{size_of_chunks}
+use Rattle.xet_shards.specs.Content.SetOperations.{ShardsAgree}
 use Rattle.xet_shards.specs.Content.Shard.{Shard, IsShard}
+use Rattle.xet_core_structures.specs.declared.set_operations.trees.parts.Part.{Part}
 use Rattle.xet_core_structures.specs.declared.set_operations.trees.placed.PlacedRecord.{PlacedRecord}
 use Rattle.xet_core_structures.specs.Records.RecordPairs.{key_of_record}
 use Rattle.xet_core_structures.specs.declared.set_operations.agreement.RecordHash.{RecordHash}
-use Rattle.xet_core_structures.specs.declared.set_operations.agreement.CheckedInputs.{CheckedInputs}
-use Rattle.xet_core_structures.specs.declared.set_operations.agreement.CheckedInputs.TheVariants.{Agreeing, Disagreements, Malformed}
+use Rattle.xet_core_structures.specs.declared.set_operations.agreement.AgreedPart.{AgreedPart}
+use Rattle.xet_core_structures.specs.declared.set_operations.agreement.AgreedPart.TheVariants.{Agreed, Disagreements}
+use Rattle.xet_core_structures.specs.declared.set_operations.MergePlan.{MergePlan}
+use Rattle.xet_core_structures.specs.declared.set_operations.MergePlan.TheVariants.{Leaf, Both'}
 use Rattle.xet_core_structures.specs.declared.set_operations.agreement.WellFormed.{WellFormed}
 use Rattle.xet_core_structures.specs.declared.set_operations.agreement.WellFormed.TheVariants.{Placed, Malformed as FormedMalformed}
 use Rattle.xet_core_structures.specs.Agreement.Agreement.{HasMalformed, HoldShards, IsFirstMalformed, InputsAgree, HasAllDisagreements}
 use Rattle.xet_core_structures.specs.Records.ShardContents.{HasShard}
-use Rattle.xet_core_structures.specs.Steps.Parts.{ArePlaced}
+use Rattle.xet_core_structures.specs.Trees.MergeTrees.{TreeWrites}
+use Rattle.xet_core_structures.specs.TwoShards.ByteResults.{UnitesBytes}
+use Rattle.xet_core_structures.specs.Steps.Parts.{ArePlaced, IsPart}
 use Rattle.xet_core_structures.specs.Steps.Placed.{PlacesAll}
 
 -- two xorbs agree if they are equal
@@ -57,10 +63,35 @@ abbrev pub IsWellFormedOr : List (List ℕ) → WellFormed → Type 0
 IsWellFormedOr inputs (Placed placed) = HoldShards inputs × ArePlaced inputs placed
 IsWellFormedOr inputs (FormedMalformed m) = IsFirstMalformed inputs m
 
--- inputs that hold well-formed shards which agree were placed, or this is why they do not
-abbrev pub IsChecked : List (List ℕ) → CheckedInputs → Type 0
-IsChecked inputs (Agreeing placed) =
-    HoldShards inputs × InputsAgree inputs × ArePlaced inputs placed
-IsChecked inputs (Disagreements found) =
-    HoldShards inputs × (0 < length found.items) × HasAllDisagreements inputs found.items
-IsChecked inputs (Malformed m) = IsFirstMalformed inputs m
+-- two records agree, if both are there
+abbrev pub AgreeIfBoth : {R : Type 0} → (R → R → Type 0) → Option R → Option R → Type 0
+AgreeIfBoth agree None b = ⊤
+AgreeIfBoth agree (Some r) None = ⊤
+AgreeIfBoth agree (Some r) (Some s) = agree r s
+
+-- what is made of two records, which agree if both are there
+abbrev pub MadeIfAgreed : {R : Type 0} → (R → R → Type 0)
+    → (Option R → Option R → Option R → Type 0) → Option R → Option R → Option R → Type 0
+MadeIfAgreed agree makes a b c = AgreeIfBoth agree a b × makes a b c
+
+-- the shards that two byte strings hold agree
+abbrev pub BytesAgree : List ℕ → List ℕ → Type 0
+BytesAgree x y = (s t : Shard) → HasShard s x → HasShard t y → ShardsAgree s t
+
+-- what a tree writes, at each union of which both sides write bytes that agree
+abbrev pub WritesAgreeing : List (List ℕ) → MergePlan → List ℕ → Type 0
+WritesAgreeing inputs (Leaf i) out = slice_get inputs i ≡ Some out
+WritesAgreeing inputs (Both' p left q right) out =
+    (x y : List ℕ) × WritesAgreeing inputs left x × WritesAgreeing inputs right y
+    × UnitesBytes x y out × BytesAgree x y
+
+-- the inputs agree, and this is what the tree writes
+abbrev pub IsAgreed : List (List ℕ) → MergePlan → Part → Type 0
+IsAgreed inputs plan part =
+    InputsAgree inputs × ((bytes : List ℕ) × TreeWrites inputs plan bytes × IsPart bytes part)
+
+-- the same, or all that disagree, of which there is one at least
+abbrev pub IsAgreedPart : List (List ℕ) → MergePlan → AgreedPart → Type 0
+IsAgreedPart inputs plan (Agreed part) = IsAgreed inputs plan part
+IsAgreedPart inputs plan (Disagreements found) =
+    (0 < length found.items) × HasAllDisagreements inputs found.items

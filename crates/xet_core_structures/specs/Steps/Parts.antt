@@ -1,7 +1,9 @@
 -- Steps towards what `Parts` defines, which only contracts inside the crate speak of.
-use Rattle.std.specs.Prelude.{◌≡◌, ◌⊎◌, ℕ, List, map}
+use Rattle.std.specs.Prelude.{◌≡◌, ◌⊎◌, ℕ, List, map, Option}
 use Rattle.std.specs.FinMap.{values}
 use Rattle.std.specs.List.{AllZip}
+use Rattle.xet_records.specs.declared.file_structs.MDBFileInfo.{MDBFileInfo}
+use Rattle.xet_records.specs.declared.xorb_structs.MDBXorbInfo.{MDBXorbInfo}
 use Rattle.xet_records.specs.FileRecord.{file_records}
 use Rattle.xet_records.specs.XorbRecord.{xorb_records}
 use Rattle.xet_shards.specs.declared.shard_format.ends.info.MDBShardInfo.{MDBShardInfo}
@@ -19,7 +21,6 @@ use Rattle.xet_core_structures.specs.declared.set_operations.trees.parts.Listed.
 use Rattle.xet_core_structures.specs.declared.set_operations.trees.parts.Listed.TheVariants.{Own, Placed as PlacedBefore}
 use Rattle.xet_core_structures.specs.TwoShards.ByteResults.{key_of, keyed_info}
 use Rattle.xet_core_structures.specs.Steps.ByteResults.{Records}
-use Rattle.xet_core_structures.specs.Records.ByteUnion.{IsEitherFile, IsEitherXorb}
 use Rattle.xet_core_structures.specs.Steps.ShardContents.{HoldsLists}
 use Rattle.xet_core_structures.specs.Steps.Placed.{HaveNoListUnion}
 use Rattle.xet_core_structures.specs.Steps.Placed.{PlacesAll}
@@ -72,11 +73,14 @@ abbrev pub shard_in : Listed → PlacedShard
 shard_in (Own shard) = shard
 shard_in (PlacedBefore lists) = shard_with lists
 
--- files or xorbs have no union within the rows of a section
-abbrev pub HaveNoRecordUnion : Records → Records → Type 0
-HaveNoRecordUnion one other =
-    HaveNoListUnion file_records IsEitherFile one.files other.files
-    ⊎ HaveNoListUnion xorb_records IsEitherXorb one.xorbs other.xorbs
+-- files or xorbs have no such union within the rows of a section
+abbrev pub HaveNoRecordUnion :
+    (Option MDBFileInfo → Option MDBFileInfo → Option MDBFileInfo → Type 0)
+    → (Option MDBXorbInfo → Option MDBXorbInfo → Option MDBXorbInfo → Type 0) → Records → Records
+    → Type 0
+HaveNoRecordUnion IsFile IsXorb one other =
+    HaveNoListUnion file_records IsFile one.files other.files
+    ⊎ HaveNoListUnion xorb_records IsXorb one.xorbs other.xorbs
 
 -- the bytes of a union under a key, of which these are the records in memory
 pub record IsUnited (bytes : List ℕ) (info : MDBShardInfo) (shard : PlacedShard) : Type 0 where
@@ -97,3 +101,9 @@ abbrev pub IsOpened : List ℕ → MDBShardInfo → Opened → Type 0
 IsOpened bytes info (OpenedInput x i) = (x.now ≡ bytes) × (i ≡ info)
 IsOpened bytes info (OpenedPlaced lists) = PlacesShard bytes info (shard_with lists)
 IsOpened bytes info (OpenedUnion shard) = IsUnited bytes info shard
+
+-- these are the records of two byte strings under one key
+abbrev pub AreListed : (x y : List ℕ) → PlacedShard → PlacedShard → Type 0
+AreListed x y first second =
+    (i j : MDBShardInfo) × HasHeaderAndFooter x i × HasHeaderAndFooter y j × (key_of i ≡ key_of j)
+    × PlacesShard x i first × PlacesShard y j second

@@ -10,29 +10,38 @@
 //! (`find_differing`, of files and of xorbs). Unlike a union, it looks at all bytes of records with
 //! one hash: of shards that are mostly the same it takes longer than their merge
 //! (`bench/README.md`).
+//!
+//! A merge of inputs that have to agree does not sort. Its tree compares the records that it unites
+//! (`strict_tree`), so that inputs which agree are found to by the merge itself. Only where that
+//! makes no merge is it asked which records disagree (`compared_tree`).
 
-ghost use Rattle.std.specs.Prelude.{◌≡◌, ◌⊎◌, ◌++◌, ℕ, List, map, MatchOption, MatchResult, OnOk, IfOk, IfErr};
+ghost use Rattle.std.specs.Prelude.{◌≡◌, ◌⊎◌, ◌++◌, ℕ, List, map, MatchOption, MatchResult, OnOk, IfOk, IfErr, IfSome};
 ghost use Rattle.xet_base.specs.declared.error.CoreError.TheVariants.{OutOfMemory};
-ghost use Rattle.xet_core_structures.specs.Trees.MergeTrees.{TreeWrites, TreeRefusal};
-ghost use Rattle.xet_core_structures.specs.Agreement.Agreement.{InputsAgree, InputsDisagree, HasAllDisagreements, InputsRefusal, HoldShards, IsFirstMalformed, IsMerged, MergesOrFinds, disagreement_of};
-ghost use Rattle.xet_core_structures.specs.Steps.Agreement.{FindsMalformedIn, IsChecked, IsWellFormedOr};
+ghost use Rattle.xet_core_structures.specs.Trees.MergeTrees.{TreeRefusal};
+ghost use Rattle.xet_core_structures.specs.Agreement.Agreement.{InputsAgree, InputsDisagree, HasAllDisagreements, InputsRefusal, HoldShards, IsFirstMalformed, IsMerged, MergesOrFinds, FillsOrFinds, disagreement_of};
+ghost use Rattle.xet_core_structures.specs.Steps.Agreement.{FindsMalformedIn, IsAgreed, IsAgreedPart, IsWellFormedOr};
 ghost use Rattle.xet_core_structures.specs.Steps.Parts.{ArePlaced, IsPlacedOf};
 
 mod differing;
 mod kinds;
 mod malformed;
+mod pairs;
 mod runs;
+mod strict_tree;
 
 use super::MergePlan;
 use crate::set_operations::trees::inputs::{PlacedInputs, input_at, place_input, place_inputs};
-use crate::set_operations::trees::parts::{PlacedShard, part_bytes, place_tree_of};
+use crate::set_operations::trees::parts::{
+    Part, PlacedShard, fill_with_part, part_bytes, place_tree_of,
+};
 use crate::set_operations::two_shards::record_operation::OfUnion;
 use bumpalo::Bump;
 use differing::{Differing, find_differing};
 use kinds::Agreement;
 use malformed::find_malformed_record;
 use std::alloc::Global;
-use xet_base::error::Result;
+use strict_tree::{covered, place_agreeing_tree};
+use xet_base::error::{CoreError, Result};
 use xet_base::merklehash::MerkleHash;
 use xet_records::file_structs::MDBFileInfo;
 use xet_records::record_reader::SectionRecord;
@@ -196,38 +205,8 @@ pub fn merge_or_disagreements(
         (λ e. InputsRefusal (map (λ x. x.now) inputs.now) e
         ⊎ TreeRefusal (map (λ x. x.now) inputs.now) plan.now e) }
 {
-    let checked = check_inputs(alloc, inputs)?;
-    match checked {
-        CheckedInputs::Agreeing(placed) => merge_placed(alloc, plan, &placed),
-        CheckedInputs::Disagreements(found) => Ok(AgreeingMerge::Disagreements(found)),
-        CheckedInputs::Malformed(found) => Ok(AgreeingMerge::Malformed(found)),
-    }
-}
-
-/// Inputs that hold well-formed shards which agree, placed; or why they do not.
-#[derive(Drop)]
-pub enum CheckedInputs<'a> {
-    Agreeing(PlacedInputs<'a>),
-    Disagreements(Vec<Disagreement>),
-    Malformed(MalformedRecord),
-}
-
-// Places the inputs, and looks for malformed records and for disagreements.
-fn check_inputs<'a>(alloc: Global, inputs: &[&'a [u8]]) -> Result<CheckedInputs<'a>>
-    ensures { MatchResult result (IsChecked (map (λ x. x.now) inputs.now))
-        (InputsRefusal (map (λ x. x.now) inputs.now)) }
-{
     let formed = place_well_formed(alloc, inputs)?;
-    match formed {
-        WellFormed::Placed(placed) => {
-            let found = disagreements_of(alloc, &placed)?;
-            if found.is_empty() {
-                return Ok(CheckedInputs::Agreeing(placed));
-            }
-            Ok(CheckedInputs::Disagreements(found))
-        }
-        WellFormed::Malformed(found) => Ok(CheckedInputs::Malformed(found)),
-    }
+    merge_formed(alloc, plan, &formed)
 }
 
 /// Inputs that hold well-formed shards, placed; or a record that no shard may have.
@@ -259,31 +238,180 @@ fn place_well_formed<'a>(alloc: Global, inputs: &[&'a [u8]]) -> Result<WellForme
     Ok(WellFormed::Placed(placed))
 }
 
-// The merge of inputs that hold well-formed shards which agree, and whose records are placed.
-fn merge_placed(alloc: Global, plan: &MergePlan, placed: &PlacedInputs<'_>) -> Result<AgreeingMerge>
-    requires { (inputs : List (List ℕ)) × ArePlaced inputs placed.now }
-    ensures { (inputs : List (List ℕ)) → ArePlaced inputs placed.now → HoldShards inputs
-        → InputsAgree inputs → MatchResult result (MergesOrFinds inputs plan.now)
-        (TreeRefusal inputs plan.now) }
+// The merge of inputs of which is known whether they hold well-formed shards.
+fn merge_formed(alloc: Global, plan: &MergePlan, formed: &WellFormed<'_>) -> Result<AgreeingMerge>
+    requires { (inputs : List (List ℕ)) × IsWellFormedOr inputs formed.now }
+    ensures { (inputs : List (List ℕ)) → IsWellFormedOr inputs formed.now → MatchResult result
+        (MergesOrFinds inputs plan.now)
+        (λ e. InputsRefusal inputs e ⊎ TreeRefusal inputs plan.now e) }
 {
-    let bytes = merge_in_arena(alloc, plan, &*placed)?;
-    Ok(AgreeingMerge::Bytes(bytes))
+    match formed {
+        WellFormed::Placed(placed) => merge_in_arena(alloc, plan, placed),
+        WellFormed::Malformed(found) => Ok(AgreeingMerge::Malformed(*found)),
+    }
 }
 
-// The bytes that the tree writes. The list and its records share one lifetime: the borrow checker
-// finds no lifetime within both theirs and the arena's.
+// The merge of inputs that hold well-formed shards and whose records are placed. The list and its
+// records share one lifetime: the borrow checker finds no lifetime within both theirs and the
+// arena's.
 fn merge_in_arena<'a>(
     alloc: Global,
     plan: &MergePlan,
     placed: &'a PlacedInputs<'a>,
-) -> Result<Vec<u8>>
-    requires { (inputs : List (List ℕ)) × ArePlaced inputs placed.now }
-    ensures { (inputs : List (List ℕ)) → ArePlaced inputs placed.now → MatchResult result
-        (λ bytes. TreeWrites inputs plan.now bytes.items) (TreeRefusal inputs plan.now) }
+) -> Result<AgreeingMerge>
+    requires { (inputs : List (List ℕ)) × ArePlaced inputs placed.now × HoldShards inputs }
+    ensures { (inputs : List (List ℕ)) → ArePlaced inputs placed.now → HoldShards inputs
+        → MatchResult result (MergesOrFinds inputs plan.now)
+        (λ e. InputsRefusal inputs e ⊎ TreeRefusal inputs plan.now e) }
 {
     let arena = Bump::new(alloc);
-    let part = place_tree_of(alloc, &arena, plan, placed)?;
-    part_bytes(alloc, part)
+    let agreed = agreed_part(alloc, &arena, plan, placed)?;
+    match agreed {
+        AgreedPart::Agreed(part) => {
+            let bytes = part_bytes(alloc, part)?;
+            Ok(AgreeingMerge::Bytes(bytes))
+        }
+        AgreedPart::Disagreements(found) => Ok(AgreeingMerge::Disagreements(found)),
+    }
+}
+
+/// What a merge of inputs that have to agree gives, if its bytes go to a slice.
+#[derive(Drop)]
+pub enum AgreeingFill {
+    /// The number of bytes of the merge: each input holds a well-formed shard, and these agree
+    /// pairwise.
+    Bytes(usize),
+    /// The hashes under which two of the shards have records that do not agree, with two such
+    /// shards for each: at least one.
+    Disagreements(Vec<Disagreement>),
+    /// A record that no shard may have, of the first input that holds one.
+    Malformed(MalformedRecord),
+}
+
+/// Writes the bytes that [`merge_or_disagreements`] makes to the front of a slice, if they fit, and
+/// returns their number. If they don't, if it gives no bytes, or if the call fails, the slice stays
+/// as it is. The errors are the same.
+pub fn merge_or_disagreements_into(
+    alloc: Global,
+    plan: &MergePlan,
+    inputs: &[&[u8]],
+    out: &mut [u8],
+) -> Result<AgreeingFill>
+    ensures { MatchResult result
+        (FillsOrFinds (map (λ x. x.now) inputs.now) plan.now out.old out.new)
+        (λ e. (InputsRefusal (map (λ x. x.now) inputs.now) e
+        ⊎ TreeRefusal (map (λ x. x.now) inputs.now) plan.now e) × (out.new ≡ out.old)) }
+{
+    let formed = place_well_formed(alloc, inputs)?;
+    fill_formed(alloc, plan, &formed, out)
+}
+
+// As `merge_formed`, to a slice.
+fn fill_formed(
+    alloc: Global,
+    plan: &MergePlan,
+    formed: &WellFormed<'_>,
+    out: &mut [u8],
+) -> Result<AgreeingFill>
+    requires { (inputs : List (List ℕ)) × IsWellFormedOr inputs formed.now }
+    ensures { (inputs : List (List ℕ)) → IsWellFormedOr inputs formed.now → MatchResult result
+        (FillsOrFinds inputs plan.now out.old out.new)
+        (λ e. (InputsRefusal inputs e ⊎ TreeRefusal inputs plan.now e) × (out.new ≡ out.old)) }
+{
+    match formed {
+        WellFormed::Placed(placed) => fill_in_arena(alloc, plan, placed, out),
+        WellFormed::Malformed(found) => Ok(AgreeingFill::Malformed(*found)),
+    }
+}
+
+// As `merge_in_arena`, to a slice.
+fn fill_in_arena<'a>(
+    alloc: Global,
+    plan: &MergePlan,
+    placed: &'a PlacedInputs<'a>,
+    out: &mut [u8],
+) -> Result<AgreeingFill>
+    requires { (inputs : List (List ℕ)) × ArePlaced inputs placed.now × HoldShards inputs }
+    ensures { (inputs : List (List ℕ)) → ArePlaced inputs placed.now → HoldShards inputs
+        → MatchResult result (FillsOrFinds inputs plan.now out.old out.new)
+        (λ e. (InputsRefusal inputs e ⊎ TreeRefusal inputs plan.now e) × (out.new ≡ out.old)) }
+{
+    let arena = Bump::new(alloc);
+    let agreed = agreed_part(alloc, &arena, plan, placed)?;
+    match agreed {
+        AgreedPart::Agreed(part) => {
+            let size = fill_with_part(alloc, part, out)?;
+            Ok(AgreeingFill::Bytes(size))
+        }
+        AgreedPart::Disagreements(found) => Ok(AgreeingFill::Disagreements(found)),
+    }
+}
+
+/// What a tree gives, if all inputs agree; else all that disagree.
+#[derive(Drop)]
+pub enum AgreedPart<'a> {
+    Agreed(Part<'a>),
+    Disagreements(Vec<Disagreement>),
+}
+
+// What a tree gives of inputs that hold well-formed shards, if these agree.
+fn agreed_part<'a>(
+    alloc: Global,
+    arena: &'a Bump,
+    plan: &MergePlan,
+    placed: &'a PlacedInputs<'a>,
+) -> Result<AgreedPart<'a>>
+    requires { (inputs : List (List ℕ)) × ArePlaced inputs placed.now }
+    ensures { (inputs : List (List ℕ)) → ArePlaced inputs placed.now → HoldShards inputs
+        → MatchResult result (IsAgreedPart inputs plan.now)
+        (λ e. InputsRefusal inputs e ⊎ TreeRefusal inputs plan.now e) }
+{
+    let tried = tried_tree(alloc, arena, plan, placed)?;
+    match tried {
+        Some(part) => Ok(AgreedPart::Agreed(part)),
+        None => compared_tree(alloc, arena, plan, placed),
+    }
+}
+
+// What a tree over all inputs gives, if it is made and its sides agree at each union.
+fn tried_tree<'a>(
+    alloc: Global,
+    arena: &'a Bump,
+    plan: &MergePlan,
+    placed: &'a PlacedInputs<'a>,
+) -> Result<Option<Part<'a>>>
+    requires { (inputs : List (List ℕ)) × ArePlaced inputs placed.now }
+    ensures { (inputs : List (List ℕ)) → ArePlaced inputs placed.now → HoldShards inputs
+        → MatchResult result (λ tried. IfSome tried (IsAgreed inputs plan.now))
+        (λ e. e ≡ OutOfMemory) }
+{
+    if covered(plan, 0) < placed.inputs.len() {
+        return Ok(None);
+    }
+    match place_agreeing_tree(alloc, arena, plan, placed) {
+        Ok(part) => Ok(Some(part)),
+        Err(CoreError::OutOfMemory) => Err(CoreError::OutOfMemory),
+        Err(_) => Ok(None),
+    }
+}
+
+// The same, where all records are compared first.
+fn compared_tree<'a>(
+    alloc: Global,
+    arena: &'a Bump,
+    plan: &MergePlan,
+    placed: &'a PlacedInputs<'a>,
+) -> Result<AgreedPart<'a>>
+    requires { (inputs : List (List ℕ)) × ArePlaced inputs placed.now }
+    ensures { (inputs : List (List ℕ)) → ArePlaced inputs placed.now → MatchResult result
+        (IsAgreedPart inputs plan.now) (λ e. InputsRefusal inputs e ⊎ TreeRefusal inputs plan.now e) }
+{
+    let found = disagreements_of(alloc, &*placed)?;
+    if !found.is_empty() {
+        return Ok(AgreedPart::Disagreements(found));
+    }
+    let part = place_tree_of(alloc, arena, plan, placed)?;
+    Ok(AgreedPart::Agreed(part))
 }
 
 /// What a merge of inputs that have to agree gives, with one disagreement.

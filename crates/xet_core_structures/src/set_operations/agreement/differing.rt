@@ -1,6 +1,6 @@
 //! The hashes under which lists of records have records that do not agree.
 
-ghost use Rattle.std.specs.Prelude.{◌≡◌, ◌+◌, ◌<◌, ◌≤◌, ℕ, IsTrue, List, Contains, Some, length, map, take, slice_get, MatchOption, MatchResult};
+ghost use Rattle.std.specs.Prelude.{◌≡◌, ◌+◌, ◌<◌, ℕ, IsTrue, List, Contains, Some, length, map, slice_get, MatchOption, MatchResult};
 ghost use Rattle.std.specs.List.{AllZip};
 ghost use Rattle.std.specs.List.Sorted.{IsSorted};
 ghost use Rattle.xet_base.specs.declared.error.CoreError.TheVariants.{OutOfMemory};
@@ -9,15 +9,13 @@ ghost use Rattle.xet_core_structures.specs.Steps.Differing.{ComparesRun, AgreeWi
 ghost use Rattle.xet_core_structures.specs.Steps.Differing.{place_cmp, IsPlace, IsRun, IsRecordAt, Covers, KeepsRecord, IsAgainst};
 
 use super::kinds::Agreement;
+use super::pairs::{are_copies, read_placed};
 use super::runs::{Place, run_end, sorted_places};
 use crate::set_operations::trees::placed::{PlacedRecord, copied};
 use std::alloc::Global;
-use xet_base::error::{CoreError, Result};
-use xet_base::input::OfSource;
+use xet_base::error::Result;
 use xet_base::merklehash::MerkleHash;
-use xet_base::source::MemorySource;
 use xet_records::record_reader::SectionRecord;
-use xet_records::rows::ROW_SIZE;
 
 /// Two lists that have records with one hash that do not agree.
 #[derive(Clone, Copy)]
@@ -228,22 +226,10 @@ fn is_copy<R: SectionRecord, A: Agreement<R>>(
     R::laws();
     let one = placed_at(lists, first);
     let other = placed_at(lists, place);
-    let size = ROW_SIZE as u64 * R::rows_after(&one.header);
-    A::are_one_header(&one.header, &other.header) && begin_alike(one.rows, other.rows, size)
+    are_copies::<R, A>(&one, &other)
 }
 
-// Whether two byte strings have the same bytes at their front, so many of them.
-fn begin_alike(first: &[u8], second: &[u8], size: u64) -> bool
-    ensures { IsTrue result → (size ≤ length first.now) × (size ≤ length second.now)
-        × (take size first.now ≡ take size second.now) }
-{
-    if size > first.len() as u64 || size > second.len() as u64 {
-        return false;
-    }
-    first[..size as usize] == second[..size as usize]
-}
-
-// Reads the record at a place. It is there to be read, so this fails only if an allocation does.
+// Reads the record at a place.
 fn read_at<R: SectionRecord + Drop>(
     alloc: Global,
     lists: &[Vec<PlacedRecord<'_, R::Header>>],
@@ -256,11 +242,7 @@ fn read_at<R: SectionRecord + Drop>(
 {
     R::laws();
     let placed = placed_at(lists, place);
-    let mut rows = MemorySource::new(placed.rows);
-    match R::read_rows_after::<OfSource, MemorySource<'_>>(alloc, &mut rows, placed.header) {
-        Ok(record) => Ok(record),
-        Err(_) => Err(CoreError::OutOfMemory),
-    }
+    read_placed::<R>(alloc, &placed)
 }
 
 // The record at a place.

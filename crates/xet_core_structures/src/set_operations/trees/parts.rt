@@ -7,17 +7,16 @@ ghost use Rattle.xet_base.specs.Errors.{IsInvalidShard};
 ghost use Rattle.xet_shards.specs.declared.shard_format.ends.info.MDBShardInfo.{MDBShardInfo};
 ghost use Rattle.xet_shards.specs.Ends.Ends.{HasHeaderAndFooter};
 ghost use Rattle.xet_shards.specs.Write.Layout.{layout_of};
-ghost use Rattle.xet_core_structures.specs.Records.ByteUnion.{IsEitherFile, IsEitherXorb};
 ghost use Rattle.xet_core_structures.specs.TwoShards.ByteResults.{keyed_options, key_of, UnitesBytes, BytesRefusal, LoadRefusal};
 ghost use Rattle.xet_core_structures.specs.Steps.ByteResults.{Records, AreCombined};
 ghost use Rattle.xet_core_structures.specs.Trees.Filling.{Fills, FillsWith};
 ghost use Rattle.xet_core_structures.specs.Trees.MergeTrees.{TreeWrites, TreeRefusal};
 ghost use Rattle.xet_core_structures.specs.Trees.Parts.{SectionsRefusal};
-ghost use Rattle.xet_core_structures.specs.Steps.Parts.{PlacesRecords, MayBeUnited, MayBeWritten, PlacesShard, HaveNoRecordUnion, ArePlaced, IsPart, IsOpened, shard_in};
+ghost use Rattle.xet_core_structures.specs.Steps.Parts.{PlacesRecords, MayBeUnited, MayBeWritten, PlacesShard, HaveNoRecordUnion, ArePlaced, IsPart, IsOpened, AreListed, shard_in};
 
 use super::filling::{frame_of, put_shard};
 use super::inputs::PlacedInputs;
-use super::placed::{PlacedRecord, place_records, unite_placed};
+use super::placed::{PlacedRecord, PlacedUnion, place_records, unite_placed};
 use crate::set_operations::MergePlan;
 use crate::set_operations::two_shards::record_operation::OfUnion;
 use crate::set_operations::two_shards::results::seek;
@@ -149,8 +148,8 @@ pub fn place_tree_of<'a>(
     }
 }
 
-// The input at an index.
-fn placed_leaf<'a>(placed: &'a PlacedInputs<'a>, index: usize) -> Result<Part<'a>>
+/// The input at an index.
+pub fn placed_leaf<'a>(placed: &'a PlacedInputs<'a>, index: usize) -> Result<Part<'a>>
     requires { (inputs : List (List ℕ)) × ArePlaced inputs placed.now }
     ensures { (inputs : List (List ℕ)) → ArePlaced inputs placed.now → MatchResult result
         (λ part. (bytes : List ℕ) × (slice_get inputs index ≡ Some bytes) × IsPart bytes part)
@@ -178,6 +177,20 @@ pub fn unite_parts<'a>(
         (λ part. (bytes : List ℕ) × UnitesBytes x y bytes × IsPart bytes part)
         (BytesRefusal x y) }
 {
+    let (first, second) = list_both(alloc, left, right)?;
+    let shard = unite_lists::<OfUnion, OfUnion>(alloc, arena, &first, &second)?;
+    Ok(Part::United(shard))
+}
+
+/// The records of two parts under one key.
+pub fn list_both<'a>(
+    alloc: Global,
+    left: Part<'a>,
+    right: Part<'a>,
+) -> Result<(Listed<'a>, Listed<'a>)>
+    ensures { (x y : List ℕ) → IsPart x left.entry → IsPart y right.entry → MatchResult result
+        (λ both. AreListed x y (shard_in both.0) (shard_in both.1)) (BytesRefusal x y) }
+{
     let one = open(alloc, left)?;
     let other = open(alloc, right)?;
     let first_key = key(&one);
@@ -187,8 +200,7 @@ pub fn unite_parts<'a>(
     }
     let first = lists(alloc, one)?;
     let second = lists(alloc, other)?;
-    let shard = unite_lists(alloc, arena, &first, &second)?;
-    Ok(Part::United(shard))
+    Ok((first, second))
 }
 
 // A part, and the header and the footer if it is an input.
@@ -267,8 +279,8 @@ pub fn place_shard<'a>(
     })
 }
 
-/// The union of the records of two parts.
-pub fn unite_lists<'a>(
+/// The union of the records of two parts, by these unions of files and of xorbs.
+pub fn unite_lists<'a, F: PlacedUnion<MDBFileInfo>, X: PlacedUnion<MDBXorbInfo>>(
     alloc: Global,
     arena: &'a Bump,
     first: &Listed<'a>,
@@ -276,12 +288,12 @@ pub fn unite_lists<'a>(
 ) -> Result<PlacedShard<'a>>
     ensures { (one other : Records) → MayBeUnited (shard_in first.now) one
         → MayBeUnited (shard_in second.now) other → MatchResult result
-        (λ shard. (made : Records) × AreCombined IsEitherFile IsEitherXorb one other made
+        (λ shard. (made : Records) × AreCombined F.makes X.makes one other made
         × PlacesRecords shard made × (shard.key ≡ (shard_in first.now).key))
-        (λ e. (e ≡ OutOfMemory) ⊎ (IsInvalidShard e × HaveNoRecordUnion one other)) }
+        (λ e. (e ≡ OutOfMemory) ⊎ (IsInvalidShard e × HaveNoRecordUnion F.makes X.makes one other)) }
 {
-    let files = unite_placed::<MDBFileInfo, OfUnion>(alloc, arena, first.files(), second.files())?;
-    let xorbs = unite_placed::<MDBXorbInfo, OfUnion>(alloc, arena, first.xorbs(), second.xorbs())?;
+    let files = unite_placed::<MDBFileInfo, F>(alloc, arena, first.files(), second.files())?;
+    let xorbs = unite_placed::<MDBXorbInfo, X>(alloc, arena, first.xorbs(), second.xorbs())?;
     Ok(PlacedShard {
         key: first.key(),
         files,

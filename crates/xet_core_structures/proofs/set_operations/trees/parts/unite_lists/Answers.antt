@@ -5,7 +5,7 @@ use Rattle.xet_core_structures.specs.Steps.Placed.{PlacesAll}
 use Rattle.xet_core_structures.proofs.set_operations.trees.parts.unite_lists.Goals as goal
 
 pub returns : goal.returns
-returns c = λ one other first second.
+returns g c = λ one other first second.
     let files = c.in_ok-files.ensures one.files other.files
     (record { places = subst (λ l. PlacesAll file_records l one.files) (sym c.files.ensures) first.places.files; ascends = first.files_ascend })
     (record { places = subst (λ l. PlacesAll file_records l other.files) (sym c.files-2.ensures) second.places.files; ascends = second.files_ascend }) in
