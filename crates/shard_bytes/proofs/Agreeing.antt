@@ -9,11 +9,13 @@ use Rattle.xet_core_structures.specs.declared.xorb_structs.MDBXorbInfo.{MDBXorbI
 use Rattle.xet_core_structures.specs.declared.set_operations.MergePlan.{MergePlan}
 use Rattle.xet_core_structures.specs.declared.set_operations.agreement.AgreeingMerge.{AgreeingMerge}
 use Rattle.xet_core_structures.specs.declared.set_operations.agreement.AgreeingMerge.TheVariants.{Bytes, Disagreements, Malformed}
+use Rattle.xet_core_structures.specs.declared.set_operations.agreement.AgreeingFill.{AgreeingFill}
+use Rattle.xet_core_structures.specs.declared.set_operations.agreement.AgreeingFill.TheVariants.{Bytes as FilledBytes, Disagreements as Disagreeing, Malformed as Misformed}
 use Rattle.xet_core_structures.specs.declared.set_operations.agreement.Disagreement.{Disagreement}
 use Rattle.xet_core_structures.specs.declared.set_operations.agreement.MalformedRecord.{MalformedRecord}
 use Rattle.xet_core_structures.specs.declared.set_operations.agreement.RecordHash.{RecordHash}
 use Rattle.xet_core_structures.specs.declared.set_operations.agreement.RecordHash.TheVariants.{File, Xorb}
-use Rattle.xet_core_structures.specs.Agreement.Agreement.{HoldsAt, IsHeld, HasKey, HasMalformed, HoldShards, IsFirstMalformed, InputsAgree, InputsDisagree, HasAllDisagreements, InputsRefusal, MergesOrFinds}
+use Rattle.xet_core_structures.specs.Agreement.Agreement.{HoldsAt, IsHeld, HasKey, HasMalformed, HoldShards, IsFirstMalformed, InputsAgree, InputsDisagree, HasAllDisagreements, InputsRefusal, MergesOrFinds, FillsOrFinds}
 use Rattle.xet_core_structures.specs.FileRecord.{IsWellFormed}
 use Rattle.xet_core_structures.specs.XorbRecord.{IsXorb}
 use Rattle.xet_core_structures.specs.Records.ShardContents.{HasShard, HoldsShard}
@@ -29,9 +31,9 @@ use Rattle.xet_core_structures.proofs.Records.Zipped.{zip_at, zip_back, zipped_m
 use Rattle.xet_core_structures.proofs.Trees.SameTrees.{join_of_same}
 use Rattle.xet_shards.proofs.Content.AgreeingJoins.{joins_exist}
 use Rattle.xet_shards.proofs.ShardInMemory.FileUnions.{holds_in_map}
-use Rattle.shard_bytes.specs.Agreeing.{MergesAgreeing, IsMergeOfAgreeing, HoldNoneAgreeing, GivesJoin}
+use Rattle.shard_bytes.specs.Agreeing.{MergesAgreeing, FillsAgreeing, IsMergeOfAgreeing, HoldNoneAgreeing, GivesJoin, FillsJoin}
 use Rattle.shard_bytes.specs.Merging.{IsMergePlan, MergesBytes, RefusesMerge}
-use Rattle.shard_bytes.specs.Sizes.{HasResultSize}
+use Rattle.shard_bytes.specs.Sizes.{IsResultSize, HasResultSize, HasFillSize}
 use Rattle.shard_bytes.proofs.Merging.{plan_covers}
 use Rattle.shard_bytes.proofs.Sizes.{size_of_merge}
 
@@ -140,3 +142,24 @@ result_size inputs (Ok (Bytes bytes)) (hold, agree, (plan, is, writes)) = size_o
 result_size inputs (Ok (Disagreements found)) is = tt
 result_size inputs (Ok (Malformed m)) is = tt
 result_size inputs (Err e) refused = tt
+
+-- the same of a merge whose bytes are put to the front of a slice
+pub fills_agreeing : (inputs : List (List ℕ)) (plan : MergePlan) → IsMergePlan (length inputs) plan → (old new : List ℕ) (r : CoreResult AgreeingFill) → MatchResult r (FillsOrFinds inputs plan old new) (λ e. (InputsRefusal inputs e ⊎ TreeRefusal inputs plan e) × (new ≡ old))
+    → MatchResult r (FillsAgreeing inputs old new) (λ e. (InputsRefusal inputs e ⊎ RefusesMerge inputs e) × (new ≡ old))
+fills_agreeing inputs plan is old new (Ok (FilledBytes size)) (hold, agree, (bytes, writes, fills)) = (hold, agree, (bytes, (plan, is, writes), fills))
+fills_agreeing inputs plan is old new (Ok (Disagreeing found)) holds = holds
+fills_agreeing inputs plan is old new (Ok (Misformed m)) holds = holds
+fills_agreeing inputs plan is old new (Err e) (inl refused, stays) = (inl refused, stays)
+fills_agreeing inputs plan is old new (Err e) (inr refused, stays) = (inr (inr (inr (plan, is, refused))), stays)
+
+pub fills_join : (inputs : List (List ℕ)) (old new : List ℕ) (r : CoreResult AgreeingFill) → MatchResult r (FillsAgreeing inputs old new) (λ e. (InputsRefusal inputs e ⊎ RefusesMerge inputs e) × (new ≡ old)) → IfOk r (FillsJoin inputs old new)
+fills_join inputs old new (Ok (FilledBytes size)) (hold, agree, (bytes, merges, fills)) = (bytes, merge_of_agreeing inputs bytes hold agree merges, fills)
+fills_join inputs old new (Ok (Disagreeing found)) (hold, some, all, stays) = some_disagree inputs found.items some all
+fills_join inputs old new (Ok (Misformed m)) (first, stays) = one_malformed inputs m first
+fills_join inputs old new (Err e) refused = tt
+
+pub fill_size : (inputs : List (List ℕ)) (old new : List ℕ) (r : CoreResult AgreeingFill) → MatchResult r (FillsAgreeing inputs old new) (λ e. (InputsRefusal inputs e ⊎ RefusesMerge inputs e) × (new ≡ old)) → IfOk r (HasFillSize inputs)
+fill_size inputs old new (Ok (FilledBytes size)) (hold, agree, (bytes, (plan, is, writes), (size_is, fits))) = subst (IsResultSize inputs) (sym size_is) (size_of_merge inputs plan bytes is writes)
+fill_size inputs old new (Ok (Disagreeing found)) is = tt
+fill_size inputs old new (Ok (Misformed m)) is = tt
+fill_size inputs old new (Err e) refused = tt

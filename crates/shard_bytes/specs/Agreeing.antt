@@ -6,9 +6,12 @@ use Rattle.xet_core_structures.specs.Agreement.Agreement.{HoldShards, IsFirstMal
 use Rattle.xet_core_structures.specs.Joins.{IsJoinOf, AgreePairwise}
 use Rattle.xet_core_structures.specs.Records.ShardContents.{HasShard, HoldsShard}
 use Rattle.xet_core_structures.specs.Shard.{Shard}
+use Rattle.xet_core_structures.specs.Trees.Filling.{Fills}
 use Rattle.xet_core_structures.specs.TwoShards.ByteResults.{keyed_layout}
 use Rattle.xet_core_structures.specs.declared.set_operations.agreement.AgreeingMerge.{AgreeingMerge}
 use Rattle.xet_core_structures.specs.declared.set_operations.agreement.AgreeingMerge.TheVariants.{Bytes, Disagreements, Malformed}
+use Rattle.xet_core_structures.specs.declared.set_operations.agreement.AgreeingFill.{AgreeingFill}
+use Rattle.xet_core_structures.specs.declared.set_operations.agreement.AgreeingFill.TheVariants.{Bytes as FilledBytes, Disagreements as Disagreeing, Malformed as Misformed}
 use Rattle.shard_bytes.specs.Merging.{MergesBytes}
 
 -- what the merge gives: its bytes, if each input holds a well-formed shard and these agree
@@ -42,3 +45,21 @@ abbrev pub GivesJoin : List (List ℕ) → AgreeingMerge → Type 0
 GivesJoin inputs (Bytes bytes) = IsMergeOfAgreeing inputs bytes.items
 GivesJoin inputs (Disagreements found) = HoldNoneAgreeing inputs
 GivesJoin inputs (Malformed m) = HoldNoneAgreeing inputs
+
+-- the same of a merge whose bytes are put to the front of a slice, if they fit; if there are none
+-- it stays
+abbrev pub FillsAgreeing : List (List ℕ) → (old new : List ℕ) → AgreeingFill → Type 0
+FillsAgreeing inputs old new (FilledBytes size) =
+    HoldShards inputs × InputsAgree inputs
+    × ((bytes : List ℕ) × MergesBytes inputs bytes × Fills bytes old new size)
+FillsAgreeing inputs old new (Disagreeing found) =
+    HoldShards inputs × (0 < length found.items) × HasAllDisagreements inputs found.items
+    × (new ≡ old)
+FillsAgreeing inputs old new (Misformed m) = IsFirstMalformed inputs m × (new ≡ old)
+
+-- the bytes that are put there are those of the shards' join
+abbrev pub FillsJoin : List (List ℕ) → (old new : List ℕ) → AgreeingFill → Type 0
+FillsJoin inputs old new (FilledBytes size) =
+    (bytes : List ℕ) × IsMergeOfAgreeing inputs bytes × Fills bytes old new size
+FillsJoin inputs old new (Disagreeing found) = HoldNoneAgreeing inputs
+FillsJoin inputs old new (Misformed m) = HoldNoneAgreeing inputs

@@ -2,6 +2,8 @@
 use Rattle.std.specs.Prelude.{⊤, ℕ, ◌+◌, ◌*◌, ◌≤◌, List, [], ◌∷◌, length, sum_by}
 use Rattle.xet_core_structures.specs.declared.set_operations.agreement.AgreeingMerge.{AgreeingMerge}
 use Rattle.xet_core_structures.specs.declared.set_operations.agreement.AgreeingMerge.TheVariants.{Bytes, Disagreements, Malformed}
+use Rattle.xet_core_structures.specs.declared.set_operations.agreement.AgreeingFill.{AgreeingFill}
+use Rattle.xet_core_structures.specs.declared.set_operations.agreement.AgreeingFill.TheVariants.{Bytes as FilledBytes, Disagreements as Disagreeing, Malformed as Misformed}
 use Rattle.shard_bytes.specs.declared.combine.Operation.{Operation}
 use Rattle.shard_bytes.specs.declared.combine.Operation.TheVariants.{Union, Difference}
 
@@ -19,6 +21,12 @@ abbrev pub HasResultSize : List (List ℕ) → AgreeingMerge → Type 0
 HasResultSize inputs (Bytes bytes) = IsResultSize inputs (length bytes.items)
 HasResultSize inputs (Disagreements found) = ⊤
 HasResultSize inputs (Malformed m) = ⊤
+
+-- the same of one whose bytes are put to the front of a slice
+abbrev pub HasFillSize : List (List ℕ) → AgreeingFill → Type 0
+HasFillSize inputs (FilledBytes size) = IsResultSize inputs size
+HasFillSize inputs (Disagreeing found) = ⊤
+HasFillSize inputs (Misformed m) = ⊤
 
 -- what is written again of the records in a byte string, with lookup tables, has at most so many
 -- bytes: 344, and 4/3 of its
