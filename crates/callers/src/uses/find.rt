@@ -6,7 +6,7 @@ ghost use Rattle.xet_core_structures.specs.FileRecord.{file_records};
 ghost use Rattle.xet_core_structures.specs.Lookup.{FoundInShard, LookupFailsAmong};
 ghost use Rattle.xet_core_structures.specs.Shard.{Shard};
 ghost use Rattle.xet_core_structures.specs.WrittenShard.{IsBytesOf};
-ghost use Rattle.library_tests.specs.Callers.{FindsWithin};
+ghost use Rattle.callers.specs.Callers.{FindsWithin};
 
 use std::alloc::Global;
 use xet_core_structures::error::Result;

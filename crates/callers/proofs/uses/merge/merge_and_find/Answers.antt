@@ -1,8 +1,8 @@
 use Rattle.std.proofs.Common.{◌≡◌, sym, ap, ◌∙◌, subst}
 use Rattle.xet_core_structures.specs.Source.{Source}
 use Rattle.xet_core_structures.specs.WrittenShard.{IsBytesOf}
-use Rattle.library_tests.proofs.Callers.{without_expiry}
-use Rattle.library_tests.proofs.uses.merge.merge_and_find.Goals as goal
+use Rattle.callers.proofs.Callers.{without_expiry}
+use Rattle.callers.proofs.uses.merge.merge_and_find.Goals as goal
 
 pub returns : goal.returns
 returns c shards join merge =

@@ -1,8 +1,8 @@
 use Rattle.std.proofs.Common.{◌≡◌, ap, ◌∙◌}
 use Rattle.xet_core_structures.specs.ChunkLookup.{ShardWithLookup}
 use Rattle.xet_core_structures.specs.Shard.{add_file, add_xorb, empty_shard}
-use Rattle.library_tests.proofs.Callers.{written_alone}
-use Rattle.library_tests.proofs.uses.write.write_shard.Goals as goal
+use Rattle.callers.proofs.Callers.{written_alone}
+use Rattle.callers.proofs.uses.write.write_shard.Goals as goal
 
 pub returns-clause-written : goal.returns-clause-written
 returns-clause-written c =

@@ -27,7 +27,7 @@ use Rattle.xet_core_structures.specs.Shard.{Shard, IsShard}
 use Rattle.xet_core_structures.specs.Source.{Source, DeviceFailure}
 use Rattle.xet_core_structures.specs.WrittenShard.{IsBytesOf, IsBytesWithInfo, IsBytesWithoutExpiry}
 use Rattle.xet_core_structures.specs.View.{auxes_as_wanted}
-use Rattle.library_tests.specs.Callers.{FindsWithin, export_of, EqualButForTimes}
+use Rattle.callers.specs.Callers.{FindsWithin, export_of, EqualButForTimes}
 
 -- what a source in memory is
 abbrev pub in_memory : MemorySource → Source

@@ -7,7 +7,7 @@ ghost use Rattle.xet_core_structures.specs.KeyedExport.{ExpiresTooLate};
 ghost use Rattle.xet_core_structures.specs.Trees.MergeTrees.{HasUnion, leaves};
 ghost use Rattle.xet_core_structures.specs.Shard.{Shard};
 ghost use Rattle.xet_core_structures.specs.WrittenShard.{IsBytesOf};
-ghost use Rattle.library_tests.specs.Callers.{export_of, EqualButForTimes};
+ghost use Rattle.callers.specs.Callers.{export_of, EqualButForTimes};
 
 use std::alloc::Global;
 use xet_core_structures::error::{CoreError, Result};

@@ -1,8 +1,8 @@
 use Rattle.std.proofs.Common.{true, [], ◌∷◌, sym, subst}
 use Rattle.std.proofs.lemmas.Result.{MatchResult-weaker}
 use Rattle.xet_core_structures.specs.Trees.ExportTrees.{IsExportOf}
-use Rattle.library_tests.proofs.Callers.{both_exported, other_times}
-use Rattle.library_tests.proofs.uses.export.export_and_merge.Goals as goal
+use Rattle.callers.proofs.Callers.{both_exported, other_times}
+use Rattle.callers.proofs.uses.export.export_and_merge.Goals as goal
 
 pub returns-clause-merged : goal.returns-clause-merged
 returns-clause-merged c a b join one other agree is_join =

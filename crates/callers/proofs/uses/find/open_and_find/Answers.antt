@@ -1,6 +1,6 @@
 use Rattle.std.specs.FinMap as finite
-use Rattle.library_tests.proofs.Callers.{as_written, found_later, costs_of_both}
-use Rattle.library_tests.proofs.uses.find.open_and_find.Goals as goal
+use Rattle.callers.proofs.Callers.{as_written, found_later, costs_of_both}
+use Rattle.callers.proofs.uses.find.open_and_find.Goals as goal
 
 pub returns-clause-answer : goal.returns-clause-answer
 returns-clause-answer g c s is =

@@ -4,8 +4,8 @@ use Rattle.xet_core_structures.specs.KeyedHash.{no_key}
 use Rattle.xet_core_structures.specs.Source.{Source}
 use Rattle.xet_core_structures.specs.WrittenQueries.{RunAmong}
 use Rattle.xet_core_structures.specs.WrittenShard.{IsBytesOf}
-use Rattle.library_tests.proofs.Callers.{in_memory, as_written, ok_in_memory}
-use Rattle.library_tests.proofs.uses.query.stored_chunks.Goals as goal
+use Rattle.callers.proofs.Callers.{in_memory, as_written, ok_in_memory}
+use Rattle.callers.proofs.uses.query.stored_chunks.Goals as goal
 
 pub returns : goal.returns
 returns c s is =

@@ -5,8 +5,8 @@ use Rattle.xet_core_structures.specs.KeyedExport.{exported, export_options}
 use Rattle.xet_core_structures.specs.Source.{bytes_left}
 use Rattle.xet_core_structures.specs.View.{auxes_as_wanted}
 use Rattle.xet_core_structures.specs.WrittenShard.{IsBytesOf}
-use Rattle.library_tests.proofs.Callers.{in_memory, exported_of}
-use Rattle.library_tests.proofs.uses.export.export.Goals as goal
+use Rattle.callers.proofs.Callers.{in_memory, exported_of}
+use Rattle.callers.proofs.uses.export.export.Goals as goal
 
 pub returns-clause-made : goal.returns-clause-made
 returns-clause-made c s is =
