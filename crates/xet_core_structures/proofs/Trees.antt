@@ -7,6 +7,7 @@ pub mod MappedJoins
 pub mod TreeXorbs
 pub mod TreesOfExports
 pub mod Parts
+pub mod InVersions
 pub mod PlacedInputs
 pub mod PlacedMixes
 pub mod PlacedShards

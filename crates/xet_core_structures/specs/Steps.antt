@@ -4,6 +4,7 @@ pub mod Agreement
 pub mod ByteResults
 pub mod Differing
 pub mod Filling
+pub mod InVersions
 pub mod MergeJoin
 pub mod MixedFiles
 pub mod Parts

@@ -3,5 +3,6 @@
 pub mod MergeTrees
 pub mod RangeTrees
 pub mod ExportTrees
+pub mod InVersions
 pub mod Parts
 pub use Rattle.xet_shards.specs.Write.Filling

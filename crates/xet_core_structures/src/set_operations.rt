@@ -7,6 +7,7 @@ ghost use Rattle.xet_core_structures.specs.TwoShards.ByteResults.{key_of};
 ghost use Rattle.xet_core_structures.specs.Trees.Filling.{FillsWith};
 ghost use Rattle.xet_core_structures.specs.TwoShards.SetOutcomes.{Unites, Subtracts};
 ghost use Rattle.xet_core_structures.specs.TwoShards.Streams.{streams};
+ghost use Rattle.xet_core_structures.specs.Trees.InVersions.{MadeIn, RefusedIn, TreeWritesIn, TreeRefusalIn};
 ghost use Rattle.xet_core_structures.specs.Trees.MergeTrees.{TreeWrites, TreeRefusal, IsMerge, MergeRefused};
 
 mod agreement;
@@ -23,11 +24,13 @@ use bumpalo::Bump;
 pub use ranges::{HashRange, merge_range, merge_range_into};
 use std::alloc::Global;
 use std::io::Write;
-use trees::parts::{fill_with_part, part_bytes, place_tree};
+use trees::parts::place_tree;
+use trees::versions::{fill_with_part_in, part_bytes_in};
 use two_shards::record_operation::{OfDifference, OfUnion};
 use two_shards::results::operate;
 use xet_base::error::{CoreError, Result};
 use xet_base::source::ShardSource;
+pub use xet_records::record_reader::FormatVersion;
 use xet_shards::shard_format::MDBShardInfo;
 
 /// Writes the union of two shards, each of either version, in version 3: header, sections, lookup
@@ -117,38 +120,67 @@ pub fn shard_union_tree(alloc: Global, plan: &MergePlan, inputs: &[&[u8]]) -> Re
         → IsMerge (map (λ x. x.now) inputs.now) plan.now shards join
         → MatchResult result (λ bytes. IsBytesWithoutExpiry join bytes.items) (MergeRefused join) }
 {
-    merge(alloc, plan, inputs)
+    merge(alloc, plan, inputs, FormatVersion::V3)
 }
 
-/// Writes the bytes that [`shard_union_tree`] makes to the front of a slice, if they fit, and
+/// The same in a version of the format. What a leaf alone gives is copied, whatever its version.
+///
+/// `InvalidArguments` too if the union has an auxiliary row, and the version is 2, which has none.
+pub fn shard_union_tree_in(
+    alloc: Global,
+    plan: &MergePlan,
+    inputs: &[&[u8]],
+    version: FormatVersion,
+) -> Result<Vec<u8>>
+    ensures any_bytes { MatchResult result
+        (λ bytes. TreeWritesIn version (map (λ x. x.now) inputs.now) plan.now bytes.items)
+        (TreeRefusalIn version (map (λ x. x.now) inputs.now) plan.now) }
+    ensures one_byte_string { (shards : List Shard) → (join : Shard)
+        → IsMerge (map (λ x. x.now) inputs.now) plan.now shards join
+        → MatchResult result (λ bytes. MadeIn version (IsBytesWithoutExpiry join) bytes.items)
+        (RefusedIn version (IsBytesWithoutExpiry join) (MergeRefused join)) }
+{
+    merge(alloc, plan, inputs, version)
+}
+
+/// Writes the bytes that [`shard_union_tree_in`] makes to the front of a slice, if they fit, and
 /// returns their number. If they don't, or if the call fails, the slice stays as it is. The errors
 /// are the same.
 pub fn shard_union_tree_into(
     alloc: Global,
     plan: &MergePlan,
     inputs: &[&[u8]],
+    version: FormatVersion,
     out: &mut [u8],
 ) -> Result<usize>
-    ensures any_bytes { FillsWith (TreeWrites (map (λ x. x.now) inputs.now) plan.now)
-        (TreeRefusal (map (λ x. x.now) inputs.now) plan.now) out.old out.new result }
+    ensures any_bytes { FillsWith
+        (TreeWritesIn version (map (λ x. x.now) inputs.now) plan.now)
+        (TreeRefusalIn version (map (λ x. x.now) inputs.now) plan.now) out.old out.new result }
     ensures one_byte_string { (shards : List Shard) → (join : Shard)
         → IsMerge (map (λ x. x.now) inputs.now) plan.now shards join
-        → FillsWith (IsBytesWithoutExpiry join) (MergeRefused join) out.old out.new result }
+        → FillsWith (MadeIn version (IsBytesWithoutExpiry join))
+        (RefusedIn version (IsBytesWithoutExpiry join) (MergeRefused join)) out.old out.new
+        result }
 {
-    merge_into(alloc, plan, inputs, out)
+    merge_into(alloc, plan, inputs, version, out)
 }
 
 // The same, without the clause on inputs that agree. No byte is written before the tree is done.
 // The list and its slices share one lifetime: the borrow checker finds no lifetime within both
 // theirs and the arena's.
-fn merge<'a>(alloc: Global, plan: &MergePlan, inputs: &'a [&'a [u8]]) -> Result<Vec<u8>>
+fn merge<'a>(
+    alloc: Global,
+    plan: &MergePlan,
+    inputs: &'a [&'a [u8]],
+    version: FormatVersion,
+) -> Result<Vec<u8>>
     ensures { MatchResult result
-        (λ bytes. TreeWrites (map (λ x. x.now) inputs.now) plan.now bytes.items)
-        (TreeRefusal (map (λ x. x.now) inputs.now) plan.now) }
+        (λ bytes. TreeWritesIn version (map (λ x. x.now) inputs.now) plan.now bytes.items)
+        (TreeRefusalIn version (map (λ x. x.now) inputs.now) plan.now) }
 {
     let arena = Bump::new(alloc);
     let part = place_tree(alloc, &arena, plan, inputs)?;
-    part_bytes(alloc, part)
+    part_bytes_in(alloc, part, version)
 }
 
 // The same to a slice.
@@ -156,12 +188,13 @@ fn merge_into<'a>(
     alloc: Global,
     plan: &MergePlan,
     inputs: &'a [&'a [u8]],
+    version: FormatVersion,
     out: &mut [u8],
 ) -> Result<usize>
-    ensures { FillsWith (TreeWrites (map (λ x. x.now) inputs.now) plan.now)
-        (TreeRefusal (map (λ x. x.now) inputs.now) plan.now) out.old out.new result }
+    ensures { FillsWith (TreeWritesIn version (map (λ x. x.now) inputs.now) plan.now)
+        (TreeRefusalIn version (map (λ x. x.now) inputs.now) plan.now) out.old out.new result }
 {
     let arena = Bump::new(alloc);
     let part = place_tree(alloc, &arena, plan, inputs)?;
-    fill_with_part(alloc, part, out)
+    fill_with_part_in(alloc, part, version, out)
 }

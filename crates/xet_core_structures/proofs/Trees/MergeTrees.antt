@@ -19,7 +19,6 @@ use Rattle.xet_shards.proofs.Content.AgreeingJoins.{joins_exist, lists_agree, un
 use Rattle.xet_core_structures.specs.declared.set_operations.MergePlan.{MergePlan}
 use Rattle.xet_core_structures.specs.declared.set_operations.MergePlan.TheVariants.{Leaf, Both'}
 use Rattle.xet_core_structures.specs.TwoShards.ByteResults.{keyed_layout, UnitesBytes, BytesRefusal}
-use Rattle.xet_core_structures.specs.Trees.Filling.{FillsWith}
 use Rattle.xet_core_structures.specs.Records.ShardContents.{HoldsShard}
 use Rattle.xet_core_structures.specs.Trees.MergeTrees.{leaves, HasUnion, TreeWrites, TreeRefusal, InputIs, IsMergeUnder, IsMerge, IsMergeOfWritten, MergeRefused}
 use Rattle.xet_core_structures.proofs.Records.ByteUnions.{held_union, refused_union, written_held}
@@ -144,13 +143,10 @@ module _ (inputs : List (List ℕ)) (plan : MergePlan) (shards : List Shard) (c 
       let found = keyed_tree inputs no_key plan shards c out merge writes in
       record { shard = found.1.shard; bytes_are = found.0 }
 
+  pub one_refusal : (e : CoreError) → TreeRefusal inputs plan e → MergeRefused c e
+  one_refusal e refusal = tree_refused inputs no_key plan shards c e merge.inputs_are merge.agree merge.is_join refusal
+
   pub one_string : {Z : Type 0} (result : Result (Vec ℕ Z) CoreError) → MatchResult result (λ bytes. TreeWrites inputs plan bytes.items) (TreeRefusal inputs plan)
       → MatchResult result (λ bytes. IsBytesWithoutExpiry c bytes.items) (MergeRefused c)
   one_string (Ok bytes) writes = one_layout bytes.items writes
-  one_string (Err e) refusal = tree_refused inputs no_key plan shards c e merge.inputs_are merge.agree merge.is_join refusal
-
-  -- the same of bytes that were put into a slice
-  pub one_string_filled : (old new : List ℕ) (result : Result ℕ CoreError) → FillsWith (TreeWrites inputs plan) (TreeRefusal inputs plan) old new result
-      → FillsWith (IsBytesWithoutExpiry c) (MergeRefused c) old new result
-  one_string_filled old new (Ok size) (bytes, writes, fills) = (bytes, one_layout bytes writes, fills)
-  one_string_filled old new (Err e) (refusal, stays) = (tree_refused inputs no_key plan shards c e merge.inputs_are merge.agree merge.is_join refusal, stays)
+  one_string (Err e) refusal = one_refusal e refusal

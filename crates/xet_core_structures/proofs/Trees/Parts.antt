@@ -29,6 +29,7 @@ use Rattle.xet_core_structures.specs.declared.set_operations.MergePlan.{MergePla
 use Rattle.xet_core_structures.specs.declared.set_operations.MergePlan.TheVariants.{Leaf, Both'}
 use Rattle.xet_core_structures.specs.declared.set_operations.trees.parts.PlacedShard.{PlacedShard}
 use Rattle.xet_core_structures.specs.declared.set_operations.trees.parts.Part.{Part}
+use Rattle.xet_core_structures.specs.declared.set_operations.trees.parts.Part.TheVariants.{Input, Placed, United}
 use Rattle.xet_core_structures.specs.Records.ByteUnion.{IsEitherFile, IsEitherXorb, IsByteUnion}
 use Rattle.xet_core_structures.specs.TwoShards.ByteResults.{keyed_layout, keyed_info, key_of, HaveResult, HaveNoUnionOf, HaveNoUnion, InputRefusal, UnitesBytes, BytesRefusal}
 use Rattle.xet_core_structures.specs.Steps.ByteResults.{Records, HaveInputs, AreCombined}
@@ -38,7 +39,7 @@ use Rattle.xet_core_structures.specs.Records.ShardContents.{IsSectionOf, HasFile
 use Rattle.xet_core_structures.specs.Steps.ShardContents.{IsListOf, HoldsLists}
 use Rattle.xet_core_structures.specs.Trees.MergeTrees.{TreeWrites, TreeRefusal}
 use Rattle.xet_core_structures.specs.Trees.Parts.{SectionsRefusal}
-use Rattle.xet_core_structures.specs.Steps.Parts.{PlacesRecords, MayBeUnited, MayBeWritten, PlacesShard, HaveNoRecordUnion, IsUnited, IsPart}
+use Rattle.xet_core_structures.specs.Steps.Parts.{PlacesRecords, MayBeUnited, MayBeWritten, PlacesShard, HaveNoRecordUnion, IsUnited, IsPart, IsUnionPart, IsPartOf}
 use Rattle.xet_core_structures.specs.Steps.Placed.{HaveNoListUnion}
 use Rattle.xet_core_structures.specs.Steps.Placed.{PlacesAll}
 use Rattle.xet_core_structures.specs.Steps.MergeJoin.{SectionRefusal}
@@ -217,18 +218,38 @@ pub lists_refused : (x : List ℕ) (i : MDBShardInfo) (y : List ℕ) (j : MDBSha
 lists_refused x i y j one other e first second (inl no_memory) = inl (inl no_memory)
 lists_refused x i y j one other e first second (inr (invalid, none)) = inr (invalid, no_shard_union x i y j one other first second none)
 
+-- a union is a part
+pub part_of_union : (bytes : List ℕ) (part : Part) → IsUnionPart bytes part → IsPart bytes part
+part_of_union bytes (Input x) is = absurd is
+part_of_union bytes (Placed x lists) is = absurd is
+part_of_union bytes (United shard) is = is
+
+-- so is what a tree gives
+pub part_of_tree : (plan : MergePlan) (bytes : List ℕ) (part : Part) → IsPartOf plan bytes part → IsPart bytes part
+part_of_tree (Leaf i) bytes (Input x) is = is
+part_of_tree (Leaf i) bytes (Placed x lists) is = absurd is
+part_of_tree (Leaf i) bytes (United shard) is = absurd is
+part_of_tree (Both' p left q right) bytes part is = part_of_union bytes part is
+
 -- both sides of a tree give a part, and so does their union, or it is refused
-pub both_parts : (inputs : List (List ℕ)) (left right : MergePlan) (x y : List ℕ) (r : Result Part CoreError) → TreeWrites inputs left x → TreeWrites inputs right y
+module _ (Is : List ℕ → Part → Type 0) where
+  pub both_parts : (inputs : List (List ℕ)) (left right : MergePlan) (x y : List ℕ) (r : Result Part CoreError) → TreeWrites inputs left x → TreeWrites inputs right y
+      → MatchResult r (λ part. (bytes : List ℕ) × UnitesBytes x y bytes × Is bytes part) (BytesRefusal x y)
+      → MatchResult r
+      (λ part. (bytes : List ℕ) × ((x y : List ℕ) × TreeWrites inputs left x × TreeWrites inputs right y × UnitesBytes x y bytes) × Is bytes part)
+      (λ e. TreeRefusal inputs left e
+      ⊎ ((x : List ℕ) × TreeWrites inputs left x × (TreeRefusal inputs right e ⊎ ((y : List ℕ) × TreeWrites inputs right y × BytesRefusal x y e))))
+  both_parts inputs left right x y (Ok part) x_written y_written (bytes, unites, is) = (bytes, (x, y, x_written, y_written, unites), is)
+  both_parts inputs left right x y (Err e) x_written y_written refusal = inr (x, x_written, inr (y, y_written, refusal))
+
+-- a union as a part
+pub union_as_part : (x y : List ℕ) (r : Result Part CoreError) → MatchResult r (λ part. (bytes : List ℕ) × UnitesBytes x y bytes × IsUnionPart bytes part) (BytesRefusal x y)
     → MatchResult r (λ part. (bytes : List ℕ) × UnitesBytes x y bytes × IsPart bytes part) (BytesRefusal x y)
-    → MatchResult r
-    (λ part. (bytes : List ℕ) × ((x y : List ℕ) × TreeWrites inputs left x × TreeWrites inputs right y × UnitesBytes x y bytes) × IsPart bytes part)
-    (λ e. TreeRefusal inputs left e
-    ⊎ ((x : List ℕ) × TreeWrites inputs left x × (TreeRefusal inputs right e ⊎ ((y : List ℕ) × TreeWrites inputs right y × BytesRefusal x y e))))
-both_parts inputs left right x y (Ok part) x_written y_written (bytes, unites, is) = (bytes, (x, y, x_written, y_written, unites), is)
-both_parts inputs left right x y (Err e) x_written y_written refusal = inr (x, x_written, inr (y, y_written, refusal))
+union_as_part x y (Ok part) (bytes, unites, is) = (bytes, unites, part_of_union bytes part is)
+union_as_part x y (Err e) refusal = refusal
 
 -- an allocation may fail after a tree is done
-no_memory_after : (inputs : List (List ℕ)) (plan : MergePlan) (bytes : List ℕ) → TreeWrites inputs plan bytes → TreeRefusal inputs plan OutOfMemory
+pub no_memory_after : (inputs : List (List ℕ)) (plan : MergePlan) (bytes : List ℕ) → TreeWrites inputs plan bytes → TreeRefusal inputs plan OutOfMemory
 no_memory_after inputs (Leaf i) bytes is = inr (refl, slice_get_within inputs i bytes is)
 no_memory_after inputs (Both' p left q right) bytes (x, y, x_written, y_written, (i, j, c, x_ends, y_ends, have, is)) =
     inr (x, x_written, inr (y, y_written, inr (inr (i, j, x_ends, y_ends, inr (have.same_key, inl (inl refl))))))

@@ -4,7 +4,6 @@ use Rattle.std.proofs.Common.{◌≡◌, ◌⊎◌, inl, inr, ℕ, zero, suc, �
 use Rattle.std.specs.List.{AllZip}
 use Rattle.std.specs.Prelude.{Contains, MatchResult, slice_get}
 use Rattle.std.specs.declared.result.Result.{Result}
-use Rattle.std.specs.declared.vec.Vec.{Vec}
 use Rattle.std.proofs.lemmas.Option.{same_Some, none-some, slice_get_past}
 use Rattle.xet_base.specs.declared.error.CoreError.{CoreError}
 use Rattle.xet_base.specs.declared.error.CoreError.TheVariants.{OutOfMemory}
@@ -18,10 +17,9 @@ use Rattle.xet_core_structures.specs.declared.set_operations.MergePlan.{MergePla
 use Rattle.xet_core_structures.specs.declared.set_operations.MergePlan.TheVariants.{Leaf, Both'}
 use Rattle.xet_core_structures.specs.declared.set_operations.trees.parts.Part.{Part}
 use Rattle.xet_core_structures.specs.declared.set_operations.ranges.HashRange.{HashRange}
-use Rattle.xet_core_structures.specs.Steps.Parts.{IsPart}
+use Rattle.xet_core_structures.specs.Steps.Parts.{IsUnionPart}
 use Rattle.xet_core_structures.specs.TwoShards.ByteResults.{keyed_options, keyed_layout, key_of, UnitesBytes, BytesRefusal}
 use Rattle.xet_core_structures.specs.Trees.ExportTrees.{FitsOptions}
-use Rattle.xet_core_structures.specs.Trees.Filling.{FillsWith}
 use Rattle.xet_core_structures.specs.Records.Ranges.{IsPartOf, is_within}
 use Rattle.xet_core_structures.specs.Records.ShardContents.{HoldsShard, IsTruncated, IsMalformed}
 use Rattle.xet_core_structures.specs.Trees.MergeTrees.{leaves, InputIs, MergeRefused}
@@ -147,21 +145,11 @@ module _ (range : HashRange) (inputs : List (List ℕ)) (key : DataHash) where
     is_join = subst (IsJoinOf (Contains (map cut shards))) (one_part (is_within range) join (cut join) part (part_of_is (is_within range) join) merge.is_part)
         ((part_of-preserves (is_within range)).join shards join merge.is_join)
 
-    one_layout : (out : List ℕ) → RangeWrites range inputs plan out → IsHeldLayout key part out
+    pub one_layout : (out : List ℕ) → RangeWrites range inputs plan out → IsHeldLayout key part out
     one_layout out writes = let found = range_written plan (map cut shards) part out are_whole agree is_join writes in record { bytes_are = found.1; holds = found.0 }
 
-    one_refusal : (e : CoreError) → RangeRefusal range inputs plan e → MergeRefused part e
+    pub one_refusal : (e : CoreError) → RangeRefusal range inputs plan e → MergeRefused part e
     one_refusal e = range_refused plan (map cut shards) part e are_whole agree is_join
-
-    pub one_string : {Z : Type 0} (result : Result (Vec ℕ Z) CoreError) → MatchResult result (λ bytes. RangeWrites range inputs plan bytes.items) (RangeRefusal range inputs plan)
-        → MatchResult result (λ bytes. IsHeldLayout key part bytes.items) (MergeRefused part)
-    one_string (Ok bytes) writes = one_layout bytes.items writes
-    one_string (Err e) refusal = one_refusal e refusal
-
-    pub one_string_filled : (old new : List ℕ) (result : Result ℕ CoreError) → FillsWith (RangeWrites range inputs plan) (RangeRefusal range inputs plan) old new result
-        → FillsWith (IsHeldLayout key part) (MergeRefused part) old new result
-    one_string_filled old new (Ok size) (bytes, writes, fills) = (bytes, one_layout bytes writes, fills)
-    one_string_filled old new (Err e) (refusal, stays) = (one_refusal e refusal, stays)
 
 -- the bytes that a reference to an input refers to
 pub at_input : (xs : List (Bor (List ℕ))) (i : ℕ) (d : Bor (List ℕ)) → i < length xs → slice_get (map (λ x. x.now) xs) i ≡ Some (get_or xs i d).now
@@ -171,34 +159,23 @@ at_input (x ∷ xs) (suc i) d low = at_input xs i d (omega (arith, low))
 
 module _ (range : HashRange) (inputs : List (List ℕ)) where
   -- an input gives a part, or is refused
-  pub leaf_part : (i : ℕ) (x : List ℕ) (r : Result Part CoreError) → slice_get inputs i ≡ Some x → MatchResult r (λ part. (out : List ℕ) × IsRangeOf range x out × IsPart out part) (ReadRefusal x)
-      → MatchResult r (λ part. (bytes : List ℕ) × RangeWrites range inputs (Leaf i) bytes × IsPart bytes part) (RangeRefusal range inputs (Leaf i))
+  pub leaf_part : (i : ℕ) (x : List ℕ) (r : Result Part CoreError) → slice_get inputs i ≡ Some x → MatchResult r (λ part. (out : List ℕ) × IsRangeOf range x out × IsUnionPart out part) (ReadRefusal x)
+      → MatchResult r (λ part. (bytes : List ℕ) × RangeWrites range inputs (Leaf i) bytes × IsUnionPart bytes part) (RangeRefusal range inputs (Leaf i))
   leaf_part i x (Ok part) at (out, is, of_part) = (out, (x, at, is), of_part)
   leaf_part i x (Err e) at refusal = inr (x, at, refusal)
 
   -- both sides of a tree give a part, and so does their union, or it is refused
   pub both_parts : (left right : MergePlan) (x y : List ℕ) (r : Result Part CoreError) → RangeWrites range inputs left x → RangeWrites range inputs right y
-      → MatchResult r (λ part. (bytes : List ℕ) × UnitesBytes x y bytes × IsPart bytes part) (BytesRefusal x y)
+      → MatchResult r (λ part. (bytes : List ℕ) × UnitesBytes x y bytes × IsUnionPart bytes part) (BytesRefusal x y)
       → MatchResult r
-      (λ part. (bytes : List ℕ) × ((x y : List ℕ) × RangeWrites range inputs left x × RangeWrites range inputs right y × UnitesBytes x y bytes) × IsPart bytes part)
+      (λ part. (bytes : List ℕ) × ((x y : List ℕ) × RangeWrites range inputs left x × RangeWrites range inputs right y × UnitesBytes x y bytes) × IsUnionPart bytes part)
       (λ e. RangeRefusal range inputs left e
       ⊎ ((x : List ℕ) × RangeWrites range inputs left x × (RangeRefusal range inputs right e ⊎ ((y : List ℕ) × RangeWrites range inputs right y × BytesRefusal x y e))))
   both_parts left right x y (Ok part) x_written y_written (bytes, unites, is) = (bytes, (x, y, x_written, y_written, unites), is)
   both_parts left right x y (Err e) x_written y_written refusal = inr (x, x_written, inr (y, y_written, refusal))
 
   -- an allocation may fail after a tree is done
-  no_memory_after : (plan : MergePlan) (bytes : List ℕ) → RangeWrites range inputs plan bytes → RangeRefusal range inputs plan OutOfMemory
+  pub no_memory_after : (plan : MergePlan) (bytes : List ℕ) → RangeWrites range inputs plan bytes → RangeRefusal range inputs plan OutOfMemory
   no_memory_after (Leaf i) bytes (x, at, is) = inr (x, at, inr (is.has.info, is.has.ends, inl refl))
   no_memory_after (Both' p left q right) bytes (x, y, x_written, y_written, (i, j, c, x_ends, y_ends, have, is)) =
       inr (x, x_written, inr (y, y_written, inr (inr (i, j, x_ends, y_ends, inr (have.same_key, inl (inl refl))))))
-
-  pub written : {Z : Type 0} (plan : MergePlan) (bytes : List ℕ) (r : Result (Vec ℕ Z) CoreError) → RangeWrites range inputs plan bytes → MatchResult r (λ written. written.items ≡ bytes) (λ e. e ≡ OutOfMemory)
-      → MatchResult r (λ written. RangeWrites range inputs plan written.items) (RangeRefusal range inputs plan)
-  written plan bytes (Ok made) writes is = subst (RangeWrites range inputs plan) (sym is) writes
-  written plan bytes (Err e) writes is = subst (RangeRefusal range inputs plan) (sym is) (no_memory_after plan bytes writes)
-
-  -- the same of bytes that are put into a slice
-  pub filled : (plan : MergePlan) (bytes old new : List ℕ) (r : Result ℕ CoreError) → RangeWrites range inputs plan bytes → FillsWith (λ made. made ≡ bytes) (λ e. e ≡ OutOfMemory) old new r
-      → FillsWith (RangeWrites range inputs plan) (RangeRefusal range inputs plan) old new r
-  filled plan bytes old new (Ok size) writes (made, same, fills) = (made, subst (RangeWrites range inputs plan) (sym same) writes, fills)
-  filled plan bytes old new (Err e) writes (is, stays) = (subst (RangeRefusal range inputs plan) (sym is) (no_memory_after plan bytes writes), stays)

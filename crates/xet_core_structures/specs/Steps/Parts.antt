@@ -10,6 +10,8 @@ use Rattle.xet_shards.specs.declared.shard_format.ends.info.MDBShardInfo.{MDBSha
 use Rattle.xet_shards.specs.Ends.Ends.{HasHeaderAndFooter}
 use Rattle.xet_shards.specs.Write.WithOptions.{Ascends, FitsSection}
 use Rattle.xet_shards.specs.Content.Shard.{Shard}
+use Rattle.xet_core_structures.specs.declared.set_operations.MergePlan.{MergePlan}
+use Rattle.xet_core_structures.specs.declared.set_operations.MergePlan.TheVariants.{Leaf, Both'}
 use Rattle.xet_core_structures.specs.declared.set_operations.trees.inputs.PlacedInputs.{PlacedInputs}
 use Rattle.xet_core_structures.specs.declared.set_operations.trees.parts.PlacedLists.{PlacedLists}
 use Rattle.xet_core_structures.specs.declared.set_operations.trees.parts.PlacedShard.{PlacedShard}
@@ -95,6 +97,19 @@ abbrev pub IsPart : List ℕ → Part → Type 0
 IsPart bytes (Input x) = x.now ≡ bytes
 IsPart bytes (Placed x lists) = (x.now ≡ bytes) × IsPlacedOf (shard_with lists) bytes
 IsPart bytes (United shard) = (info : MDBShardInfo) × IsUnited bytes info shard
+
+-- a part is a union that stands for these bytes
+abbrev pub IsUnionPart : List ℕ → Part → Type 0
+IsUnionPart bytes (Input x) = ⊥
+IsUnionPart bytes (Placed x lists) = ⊥
+IsUnionPart bytes (United shard) = IsPart bytes (United shard)
+
+-- a part that a tree gives stands for these bytes: that of a leaf is an input, any other a union
+abbrev pub IsPartOf : MergePlan → List ℕ → Part → Type 0
+IsPartOf (Leaf i) bytes (Input x) = x.now ≡ bytes
+IsPartOf (Leaf i) bytes (Placed x lists) = ⊥
+IsPartOf (Leaf i) bytes (United shard) = ⊥
+IsPartOf (Both' p left q right) bytes part = IsUnionPart bytes part
 
 -- a part stands for these bytes, in which these are the header and the footer
 abbrev pub IsOpened : List ℕ → MDBShardInfo → Opened → Type 0

@@ -7,17 +7,17 @@ ghost use Rattle.xet_base.specs.declared.error.CoreError.TheVariants.{OutOfMemor
 ghost use Rattle.xet_base.specs.declared.merklehash.DataHash.{DataHash};
 ghost use Rattle.xet_shards.specs.Content.Shard.{Shard};
 ghost use Rattle.xet_core_structures.specs.Records.Ranges.{is_from, is_before, is_within, records_passing};
-ghost use Rattle.xet_core_structures.specs.Steps.Parts.{IsPart};
+ghost use Rattle.xet_core_structures.specs.Steps.Parts.{IsUnionPart};
 ghost use Rattle.xet_core_structures.specs.Steps.Placed.{PlacesAll};
 ghost use Rattle.xet_core_structures.specs.Trees.Filling.{FillsWith};
+ghost use Rattle.xet_core_structures.specs.Trees.InVersions.{MadeIn, RefusedIn};
 ghost use Rattle.xet_core_structures.specs.Trees.MergeTrees.{MergeRefused};
 ghost use Rattle.xet_core_structures.specs.Trees.RangeTrees.{IsRangeOf, ReadRefusal, RangeWrites, RangeRefusal, IsRangeMerge, IsHeldLayout};
 
 use super::MergePlan;
-use super::trees::parts::{
-    Part, PlacedShard, fill_with_part, part_bytes, place_shard, unite_parts,
-};
+use super::trees::parts::{Part, PlacedShard, place_shard, unite_parts};
 use super::trees::placed::{PlacedRecord, copied};
+use super::trees::versions::{fill_with_part_in, part_bytes_in};
 use bumpalo::Bump;
 use std::alloc::Global;
 use std::cmp::Ordering;
@@ -25,7 +25,7 @@ use xet_base::error::{CoreError, Result};
 use xet_base::merklehash::MerkleHash;
 use xet_base::source::MemorySource;
 use xet_records::file_structs::MDBFileInfo;
-use xet_records::record_reader::SectionRecord;
+use xet_records::record_reader::{FormatVersion, SectionRecord};
 use xet_records::xorb_structs::MDBXorbInfo;
 use xet_shards::shard_format::MDBShardInfo;
 
@@ -69,8 +69,8 @@ fn is_before(to: &Option<MerkleHash>, hash: &MerkleHash) -> bool
 
 /// Unites the records in a range of the inputs at the leaves of a tree, as
 /// [`shard_union_tree`](super::shard_union_tree) unites all records. Files and xorbs are each taken
-/// by their own hash. The result has version 3, all tables, creation 0, no expiry and the key that
-/// the inputs at the leaves have; a tree of one leaf is written so too, and not copied.
+/// by their own hash. The result has this version, all tables, creation 0, no expiry and the key
+/// that the inputs at the leaves have; a tree of one leaf is written so too, and not copied.
 ///
 /// If the inputs hold well-formed shards under one key that agree pairwise, the result holds, under
 /// this key, the records of their join in the range, and may be merged again. So ranges that follow
@@ -80,21 +80,26 @@ fn is_before(to: &Option<MerkleHash>, hash: &MerkleHash) -> bool
 /// a leaf has no input, or the keys differ. `ShardVersion` or `UnexpectedEof` if the header or the
 /// footer of an input is unsupported or truncated. Errors of a section, also outside of the range,
 /// and of a union of the records in it, are those of [`shard_set_union`](super::shard_set_union).
+/// `InvalidArguments` too if the result has an auxiliary row, and the version is 2, which has none.
 /// `OutOfMemory` if an allocation fails.
 pub fn merge_range(
     alloc: Global,
     plan: &MergePlan,
     inputs: &[&[u8]],
     range: &HashRange,
+    version: FormatVersion,
 ) -> Result<Vec<u8>>
     ensures any_bytes { MatchResult result
-        (λ bytes. RangeWrites range.now (map (λ x. x.now) inputs.now) plan.now bytes.items)
-        (RangeRefusal range.now (map (λ x. x.now) inputs.now) plan.now) }
+        (λ bytes. MadeIn version
+        (RangeWrites range.now (map (λ x. x.now) inputs.now) plan.now) bytes.items)
+        (RefusedIn version (RangeWrites range.now (map (λ x. x.now) inputs.now) plan.now)
+        (RangeRefusal range.now (map (λ x. x.now) inputs.now) plan.now)) }
     ensures one_byte_string { (key : DataHash) → (shards : List Shard) → (join part : Shard)
         → IsRangeMerge range.now key (map (λ x. x.now) inputs.now) plan.now shards join part
-        → MatchResult result (λ bytes. IsHeldLayout key part bytes.items) (MergeRefused part) }
+        → MatchResult result (λ bytes. MadeIn version (IsHeldLayout key part) bytes.items)
+        (RefusedIn version (IsHeldLayout key part) (MergeRefused part)) }
 {
-    merge(alloc, plan, inputs, range)
+    merge(alloc, plan, inputs, range, version)
 }
 
 /// Writes the bytes that [`merge_range`] makes to the front of a slice, if they fit, and returns
@@ -105,15 +110,19 @@ pub fn merge_range_into(
     plan: &MergePlan,
     inputs: &[&[u8]],
     range: &HashRange,
+    version: FormatVersion,
     out: &mut [u8],
 ) -> Result<usize>
-    ensures any_bytes { FillsWith (RangeWrites range.now (map (λ x. x.now) inputs.now) plan.now)
-        (RangeRefusal range.now (map (λ x. x.now) inputs.now) plan.now) out.old out.new result }
+    ensures any_bytes { FillsWith
+        (MadeIn version (RangeWrites range.now (map (λ x. x.now) inputs.now) plan.now))
+        (RefusedIn version (RangeWrites range.now (map (λ x. x.now) inputs.now) plan.now)
+        (RangeRefusal range.now (map (λ x. x.now) inputs.now) plan.now)) out.old out.new result }
     ensures one_byte_string { (key : DataHash) → (shards : List Shard) → (join part : Shard)
         → IsRangeMerge range.now key (map (λ x. x.now) inputs.now) plan.now shards join part
-        → FillsWith (IsHeldLayout key part) (MergeRefused part) out.old out.new result }
+        → FillsWith (MadeIn version (IsHeldLayout key part))
+        (RefusedIn version (IsHeldLayout key part) (MergeRefused part)) out.old out.new result }
 {
-    merge_into(alloc, plan, inputs, range, out)
+    merge_into(alloc, plan, inputs, range, version, out)
 }
 
 // `merge_range` without its clause on inputs that agree.
@@ -122,14 +131,17 @@ fn merge<'a>(
     plan: &MergePlan,
     inputs: &'a [&'a [u8]],
     range: &HashRange,
+    version: FormatVersion,
 ) -> Result<Vec<u8>>
     ensures { MatchResult result
-        (λ bytes. RangeWrites range.now (map (λ x. x.now) inputs.now) plan.now bytes.items)
-        (RangeRefusal range.now (map (λ x. x.now) inputs.now) plan.now) }
+        (λ bytes. MadeIn version
+        (RangeWrites range.now (map (λ x. x.now) inputs.now) plan.now) bytes.items)
+        (RefusedIn version (RangeWrites range.now (map (λ x. x.now) inputs.now) plan.now)
+        (RangeRefusal range.now (map (λ x. x.now) inputs.now) plan.now)) }
 {
     let arena = Bump::new(alloc);
     let part = place_range(alloc, &arena, plan, inputs, *range)?;
-    part_bytes(alloc, part)
+    part_bytes_in(alloc, part, version)
 }
 
 // `merge_range_into` without its clause on inputs that agree.
@@ -138,14 +150,17 @@ fn merge_into<'a>(
     plan: &MergePlan,
     inputs: &'a [&'a [u8]],
     range: &HashRange,
+    version: FormatVersion,
     out: &mut [u8],
 ) -> Result<usize>
-    ensures { FillsWith (RangeWrites range.now (map (λ x. x.now) inputs.now) plan.now)
-        (RangeRefusal range.now (map (λ x. x.now) inputs.now) plan.now) out.old out.new result }
+    ensures { FillsWith
+        (MadeIn version (RangeWrites range.now (map (λ x. x.now) inputs.now) plan.now))
+        (RefusedIn version (RangeWrites range.now (map (λ x. x.now) inputs.now) plan.now)
+        (RangeRefusal range.now (map (λ x. x.now) inputs.now) plan.now)) out.old out.new result }
 {
     let arena = Bump::new(alloc);
     let part = place_range(alloc, &arena, plan, inputs, *range)?;
-    fill_with_part(alloc, part, out)
+    fill_with_part_in(alloc, part, version, out)
 }
 
 // The records in a range that a tree gives. Records that are in no input are placed in the arena.
@@ -158,7 +173,7 @@ fn place_range<'a>(
 ) -> Result<Part<'a>>
     ensures { MatchResult result
         (λ part. (bytes : List ℕ)
-        × RangeWrites range (map (λ x. x.now) inputs.now) plan.now bytes × IsPart bytes part)
+        × RangeWrites range (map (λ x. x.now) inputs.now) plan.now bytes × IsUnionPart bytes part)
         (RangeRefusal range (map (λ x. x.now) inputs.now) plan.now) }
 {
     match plan {
@@ -179,7 +194,7 @@ fn place_range<'a>(
 // The records of an input in a range, as a part of a tree.
 fn place_within<'a>(alloc: Global, bytes: &'a [u8], range: HashRange) -> Result<Part<'a>>
     ensures { MatchResult result
-        (λ part. (out : List ℕ) × IsRangeOf range bytes.now out × IsPart out part)
+        (λ part. (out : List ℕ) × IsRangeOf range bytes.now out × IsUnionPart out part)
         (ReadRefusal bytes.now) }
 {
     let mut source = MemorySource::new(bytes);

@@ -21,3 +21,4 @@ pub(super) mod filling;
 pub(super) mod inputs;
 pub(super) mod parts;
 pub(super) mod placed;
+pub(super) mod versions;

@@ -12,7 +12,7 @@ ghost use Rattle.xet_core_structures.specs.Steps.ByteResults.{Records, AreCombin
 ghost use Rattle.xet_core_structures.specs.Trees.Filling.{Fills, FillsWith};
 ghost use Rattle.xet_core_structures.specs.Trees.MergeTrees.{TreeWrites, TreeRefusal};
 ghost use Rattle.xet_core_structures.specs.Trees.Parts.{SectionsRefusal};
-ghost use Rattle.xet_core_structures.specs.Steps.Parts.{PlacesRecords, MayBeUnited, MayBeWritten, PlacesShard, HaveNoRecordUnion, ArePlaced, IsPart, IsOpened, AreListed, shard_in};
+ghost use Rattle.xet_core_structures.specs.Steps.Parts.{PlacesRecords, MayBeUnited, MayBeWritten, PlacesShard, HaveNoRecordUnion, ArePlaced, IsPart, IsUnionPart, IsPartOf, IsOpened, AreListed, shard_in};
 
 use super::filling::{frame_of, put_shard};
 use super::inputs::PlacedInputs;
@@ -108,7 +108,7 @@ pub fn place_tree<'a>(
 ) -> Result<Part<'a>>
     ensures { MatchResult result
         (λ part. (bytes : List ℕ) × TreeWrites (map (λ x. x.now) inputs.now) plan.now bytes
-        × IsPart bytes part)
+        × IsPartOf plan.now bytes part)
         (TreeRefusal (map (λ x. x.now) inputs.now) plan.now) }
 {
     match plan {
@@ -174,7 +174,7 @@ pub fn unite_parts<'a>(
     right: Part<'a>,
 ) -> Result<Part<'a>>
     ensures { (x y : List ℕ) → IsPart x left.entry → IsPart y right.entry → MatchResult result
-        (λ part. (bytes : List ℕ) × UnitesBytes x y bytes × IsPart bytes part)
+        (λ part. (bytes : List ℕ) × UnitesBytes x y bytes × IsUnionPart bytes part)
         (BytesRefusal x y) }
 {
     let (first, second) = list_both(alloc, left, right)?;
