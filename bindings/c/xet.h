@@ -200,8 +200,8 @@ uint32_t xet_union(const uint8_t *first, size_t first_length, const uint8_t *sec
  * same way, down to single shards; if only one is given it is united with itself. If the sections of the inputs hold
  * well-formed shards that agree pairwise, under one key, it is the bytes of their join, which has no order, or fails
  * for memory or for too many rows. xet_merge_agreeing finds out whether they do. It is written to `out` itself, when
- * all that can fail is done, and so is what xet_merge_range writes; the other calls make their bytes first, and copy
- * them.
+ * all that can fail is done, and so is what xet_merge_range and xet_merge_agreeing write; other calls make their bytes
+ * first, and copy them, but for xet_concatenate.
  *
  * Where several inputs are refused, the error may be that of another than xet_union tells. A merge of each alone, with
  * no room for a result (`capacity` 0), finds the shard that is at fault: XET_SHORT if it is not. If none is, and the

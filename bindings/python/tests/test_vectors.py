@@ -938,6 +938,28 @@ def test_strict_merge():
     refused("Io", xet_shards.merge, [one, one[:199]], strict=True)
 
 
+def test_strict_merge_into():
+    one, other, again = shards_of(
+        ({"100": ["200:0:5:5"]}, {}), ({"100": ["200:0:6:5"]}, {}), ({"101": ["200:0:6:5"]}, {"10": ["21:5"]})
+    )
+    malformed = bytearray(one)
+    malformed[48 + 40] = 1
+    merged = xet_shards.merge([one, again])
+    out = bytearray(b"?" * (len(merged) + 1))
+    before = bytes(out)
+    refused("Disagree", xet_shards.merge_into, [one, again, other], out, strict=True)
+    refused("Malformed", xet_shards.merge_into, [one, again, malformed], out, strict=True)
+    refused("Io", xet_shards.merge_into, [one, again, one[:199]], out, strict=True)
+    keyed = xet_shards.export(again, "1" * 64, now=1, valid_seconds=1)
+    refused("InvalidArguments", xet_shards.merge_into, [one, keyed], out, strict=True)
+    assert out == before
+    short = memoryview(out)[: len(merged) - 1]
+    assert xet_shards.merge_into([one, again], short, strict=True) == len(merged)
+    assert out == before
+    assert xet_shards.merge_into([one, again], out, strict=True) == len(merged)
+    assert out == merged + b"?"
+
+
 def test_arguments():
     for text in ("", "0" * 63, "0" * 65, "g" + "0" * 63, "0" * 64 + "\n", " " + "0" * 63, "0x" + "0" * 62):
         raises(ValueError, xet_shards.find_file, ONE_FILE, text)

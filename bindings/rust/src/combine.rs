@@ -414,3 +414,33 @@ fn listed<T: AsRef<[u8]>>(shards: &[T]) -> Result<(Vec<Bytes<'_>>, usize)> {
     }
     Ok((list, length))
 }
+
+#[cfg(test)]
+mod tests {
+    use super::*;
+
+    #[test]
+    fn strict_merges_leave_their_output() {
+        let [a, b, c] = ["a", "b", "c"].map(|it| std::fs::read(format!("examples/{it}.mdb")).expect("a shard"));
+        let merged = merge(&[&a, &b]).expect("a merge");
+        let mut malformed = a.clone();
+        // The reserved word of the first file.
+        malformed[48 + 40] = 1;
+        let strict = |shards: &[&[u8]], out: &mut [u8]| {
+            let (mut written, mut count, mut found) = (7, 7, calls::Disagreement::default());
+            let (list, _) = listed(shards).expect("a list");
+            let number = calls::xet_merge_agreeing(&list, out, &mut written, &mut count, &mut found);
+            (number, written, count)
+        };
+        let mut out = vec![7; merged.len() + 1];
+        let before = out.clone();
+        assert_eq!(strict(&[&a, &b, &c], &mut out), (DISAGREE, 0, 1));
+        assert_eq!(strict(&[&a, &malformed], &mut out), (MALFORMED, 0, 0));
+        assert_eq!(strict(&[&a, &b[..199]], &mut out), (1, 0, 0));
+        assert_eq!(strict(&[], &mut out), (13, 0, 0));
+        assert_eq!(strict(&[&a, &b], &mut out[..merged.len() - 1]), (SHORT, merged.len(), 0));
+        assert_eq!(out, before);
+        assert_eq!(strict(&[&a, &b], &mut out), (0, merged.len(), 0));
+        assert_eq!((&out[..merged.len()], out[merged.len()]), (&merged[..], 7));
+    }
+}

@@ -10,7 +10,7 @@ use Rattle.xet_core_structures.specs.declared.xorb_structs.MDBXorbInfo.{MDBXorbI
 use Rattle.xet_core_structures.specs.Errors.{CoreResult, variant_number}
 use Rattle.xet_core_structures.specs.KeyedHash.{no_key}
 use Rattle.xet_core_structures.specs.Shard.{Shard}
-use Rattle.xet_core_structures.specs.Trees.Filling.{FillsWith}
+use Rattle.xet_core_structures.specs.Trees.Filling.{Fills, FillsWith}
 use Rattle.xet_core_structures.specs.WrittenQueries.{RunAmong, RunInXorb}
 use Rattle.xet_core_structures.specs.WrittenShard.{IsBytesOf}
 use Rattle.xet_core_structures.specs.XorbRecord.{xorb_records}
@@ -46,12 +46,15 @@ module _ (bytes old new : List ℕ) (room answer size : ℕ) (size_is : size ≡
   fitted (inr (large, same)) (inr (short, also)) = inr (short, omega (arith, large, size_is), same)
 
 -- bytes that were put into the output itself are delivered
+pub delivered : (bytes old new : List ℕ) (room written answer size : ℕ) → room ≡ length old → Fills bytes old new size → Answers room written answer size → Delivers bytes old new written answer
+delivered bytes old new room written answer size room_is (is, fits) (count, answers) = (count ∙ is, fitted bytes old new room answer size is room_is fits answers)
+
 pub filled : (IsMade : List ℕ → Type 0) (IsCause : CoreError → Type 0) (old new : List ℕ) (room written answer : ℕ) (r : Result ℕ CoreError) → room ≡ length old
     → FillsWith IsMade IsCause old new r
     → MatchResult r (Answers room written answer) (λ e. (answer ≡ variant_number e) × (written ≡ 0))
     → Outcome IsMade IsCause old new written answer
-filled IsMade IsCause old new room written answer (Ok size) room_is (bytes, made, (is, fits)) (count, answers) =
-    inl (bytes, made, (count ∙ is, fitted bytes old new room answer size is room_is fits answers))
+filled IsMade IsCause old new room written answer (Ok size) room_is (bytes, made, fills) answers =
+    inl (bytes, made, delivered bytes old new room written answer size room_is fills answers)
 filled IsMade IsCause old new room written answer (Err e) room_is (cause, stays) (answers, none) = inr (e, cause, (answers, none, stays))
 
 -- what holds if bytes were made is said of them

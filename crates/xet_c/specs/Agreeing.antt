@@ -1,18 +1,19 @@
 -- How disagreements of shards, and a merge of those that agree, are shown.
-use Rattle.std.specs.Prelude.{◌≡◌, ◌⊎◌, ℕ, Bool, true, false, List, [], ◌∷◌, length, map, Option, None, Some, Ok, Err, IfOk, MatchResult}
+use Rattle.std.specs.Prelude.{◌≡◌, ◌⊎◌, ℕ, ◌<◌, Bool, true, false, List, [], ◌∷◌, length, map, Option, None, Some, Ok, Err}
 use Rattle.xet_core_structures.specs.declared.set_operations.agreement.Disagreement.{Disagreement}
 use Rattle.xet_core_structures.specs.declared.set_operations.agreement.MalformedRecord.{MalformedRecord}
 use Rattle.xet_core_structures.specs.declared.set_operations.agreement.RecordHash.{RecordHash}
 use Rattle.xet_core_structures.specs.declared.set_operations.agreement.RecordHash.TheVariants.{File, Xorb}
-use Rattle.xet_core_structures.specs.Agreement.Agreement.{HasAllDisagreements, InputsRefusal}
-use Rattle.xet_core_structures.specs.Errors.{CoreResult}
+use Rattle.xet_core_structures.specs.declared.error.CoreError.{CoreError}
+use Rattle.xet_core_structures.specs.Agreement.Agreement.{HoldShards, IsFirstMalformed, InputsAgree, HasAllDisagreements, InputsRefusal}
+use Rattle.xet_core_structures.specs.Errors.{CoreResult, variant_number}
 use Rattle.xet_core_structures.specs.Hash.{words_of}
-use Rattle.xet_core_structures.specs.declared.set_operations.agreement.AgreeingMerge.{AgreeingMerge}
-use Rattle.xet_core_structures.specs.declared.set_operations.agreement.AgreeingMerge.TheVariants.{Bytes, Disagreements, Malformed}
-use Rattle.shard_bytes.specs.Agreeing.{MergesAgreeing, GivesJoin}
-use Rattle.shard_bytes.specs.Merging.{RefusesMerge}
+use Rattle.xet_core_structures.specs.declared.set_operations.agreement.AgreeingFill.{AgreeingFill}
+use Rattle.xet_core_structures.specs.declared.set_operations.agreement.AgreeingFill.TheVariants.{Bytes, Disagreements, Malformed}
+use Rattle.shard_bytes.specs.Agreeing.{IsMergeOfAgreeing, HoldNoneAgreeing}
+use Rattle.shard_bytes.specs.Merging.{MergesBytes, RefusesMerge}
 use Rattle.xet_c.specs.declared.agree.XetDisagreement.{XetDisagreement}
-use Rattle.xet_c.specs.Output.{Delivers, Refuses}
+use Rattle.xet_c.specs.Output.{Answers, Delivers, Refuses}
 
 -- a hash, whether it is that of a xorb, and the numbers of two shards
 abbrev pub c_record : RecordHash → ℕ → ℕ → XetDisagreement
@@ -46,22 +47,36 @@ abbrev pub ShowsFirst : List Disagreement → (old new : XetDisagreement) → �
 ShowsFirst [] old new count = (count ≡ 0) × (new ≡ old)
 ShowsFirst (d ∷ ds) old new count = (count ≡ length (d ∷ ds)) × (new ≡ c_disagreement d)
 
--- the result of a merge of byte strings whose shards have to agree: bytes or why there are none, and
--- the bytes are those of the shards' join
-pub record MergesIfAgreeing (inputs : List (List ℕ)) (merged : CoreResult AgreeingMerge) : Type 0
-  where
-    pub any_bytes : MatchResult merged (MergesAgreeing inputs)
-        (λ e. InputsRefusal inputs e ⊎ RefusesMerge inputs e)
-    pub one_byte_string : IfOk merged (GivesJoin inputs)
+-- the bytes of the join of the shards that byte strings hold, which agree
+abbrev pub AreMerged : List (List ℕ) → List ℕ → Type 0
+AreMerged inputs bytes =
+    HoldShards inputs × InputsAgree inputs × MergesBytes inputs bytes
+    × IsMergeOfAgreeing inputs bytes
 
--- how a merge of shards that have to agree is shown
-abbrev pub ShowsMerge : CoreResult AgreeingMerge → (before after : List ℕ) → ℕ
+-- a merge of byte strings whose shards have to agree: its bytes are delivered; or all that do not
+-- agree are counted, and the first is shown; or a record that no shard may have is shown; or there
+-- is an error
+abbrev pub MergesIfAgreeing : List (List ℕ) → (before after : List ℕ) → ℕ
     → (old new : XetDisagreement) → ℕ → ℕ → Type 0
-ShowsMerge (Ok (Bytes bytes)) before after written old new count result =
-    Delivers bytes.items before after written result × (count ≡ 0) × (new ≡ old)
-ShowsMerge (Ok (Disagreements all)) before after written old new count result =
-    (after ≡ before) × (written ≡ 0) × ShowsFirst all.items old new count × (result ≡ 20)
-ShowsMerge (Ok (Malformed m)) before after written old new count result =
-    (after ≡ before) × (written ≡ 0) × (count ≡ 0) × (new ≡ c_malformed m) × (result ≡ 21)
-ShowsMerge (Err e) before after written old new count result =
-    Refuses e before after written result × (count ≡ 0) × (new ≡ old)
+MergesIfAgreeing inputs before after written old new count result =
+    ((bytes : List ℕ) × AreMerged inputs bytes × Delivers bytes before after written result
+    × (count ≡ 0) × (new ≡ old))
+    ⊎ ((all : List Disagreement) × HoldShards inputs × HasAllDisagreements inputs all
+    × HoldNoneAgreeing inputs × ShowsFirst all old new count × (0 < count) × (result ≡ 20)
+    × (written ≡ 0) × (after ≡ before))
+    ⊎ ((m : MalformedRecord) × IsFirstMalformed inputs m × HoldNoneAgreeing inputs
+    × (new ≡ c_malformed m) × (count ≡ 0) × (result ≡ 21) × (written ≡ 0) × (after ≡ before))
+    ⊎ ((e : CoreError) × (InputsRefusal inputs e ⊎ RefusesMerge inputs e)
+    × Refuses e before after written result × (count ≡ 0) × (new ≡ old))
+
+-- how a merge to an output of so many bytes is shown
+abbrev pub ShowsFill : CoreResult AgreeingFill → ℕ → ℕ → (old new : XetDisagreement) → ℕ → ℕ
+    → Type 0
+ShowsFill (Ok (Bytes size)) room written old new count result =
+    Answers room written result size × (count ≡ 0) × (new ≡ old)
+ShowsFill (Ok (Disagreements all)) room written old new count result =
+    (written ≡ 0) × ShowsFirst all.items old new count × (result ≡ 20)
+ShowsFill (Ok (Malformed m)) room written old new count result =
+    (written ≡ 0) × (count ≡ 0) × (new ≡ c_malformed m) × (result ≡ 21)
+ShowsFill (Err e) room written old new count result =
+    (written ≡ 0) × (count ≡ 0) × (new ≡ old) × (result ≡ variant_number e)

@@ -5,14 +5,13 @@ ghost use Rattle.xet_core_structures.specs.declared.error.CoreError.{CoreError};
 ghost use Rattle.xet_core_structures.specs.declared.set_operations.agreement.Disagreement.{Disagreement};
 ghost use Rattle.xet_core_structures.specs.declared.set_operations.agreement.MalformedRecord.{MalformedRecord};
 ghost use Rattle.xet_core_structures.specs.Agreement.Agreement.{HasAllDisagreements, HoldShards, IsFirstMalformed, InputsRefusal};
-ghost use Rattle.xet_core_structures.specs.Errors.{CoreResult, variant_number};
-ghost use Rattle.xet_core_structures.specs.declared.set_operations.agreement.AgreeingMerge.{AgreeingMerge};
+ghost use Rattle.xet_core_structures.specs.Errors.{variant_number};
 ghost use Rattle.shard_bytes.specs.Sizes.{IsResultSize};
-ghost use Rattle.xet_c.specs.Agreeing.{c_record, c_disagreement, c_malformed, AreAllDisagreements, ShowsFirst, ShowsMalformed, MergesIfAgreeing, ShowsMerge};
+ghost use Rattle.xet_c.specs.Agreeing.{c_record, c_disagreement, c_malformed, AreAllDisagreements, ShowsFirst, ShowsMalformed, MergesIfAgreeing, ShowsFill};
 ghost use Rattle.xet_c.specs.Output.{Outcome};
 
-use crate::output::{XET_DISAGREE, XET_MALFORMED, deliver, error_number, give};
-use shard_bytes::agree::{AgreeingMerge, merge_agreeing_bytes};
+use crate::output::{XET_DISAGREE, XET_MALFORMED, answer, deliver, error_number};
+use shard_bytes::agree::{AgreeingFill, merge_agreeing_bytes_into};
 use std::alloc::Global;
 use xet_core_structures::error::{CoreError, Result};
 use xet_core_structures::set_operations::{
@@ -118,8 +117,9 @@ pub extern "C" fn xet_find_malformed(
     }
 }
 
-/// The union of one shard or more, as `xet_merge` makes it, to the front of `out`, if each of the
-/// byte strings holds a well-formed shard and each two of these agree. If the result is 21, one
+/// The union of one shard or more, as `xet_merge` makes it, to the front of `out`, to which it is
+/// written at once, if each of the byte strings holds a well-formed shard and each two of these
+/// agree. If the result is 21, one
 /// holds a record that no shard may have: `written` and `differing` are 0, `out` stays as it is,
 /// and `found` is as `xet_find_malformed` sets it. If it is 20, two of the shards do not agree:
 /// `written` is 0, `out` stays as it is, and `differing` and `found` are as `xet_find_disagreement`
@@ -133,38 +133,37 @@ pub extern "C" fn xet_merge_agreeing(
     differing: &mut usize,
     found: &mut XetDisagreement,
 ) -> u32
-    ensures merged { (merged : CoreResult AgreeingMerge)
-        × MergesIfAgreeing (map (λ x. x.now) shards.now) merged
-        × ShowsMerge merged out.old out.new written.new found.old found.new differing.new result }
+    ensures merged { MergesIfAgreeing (map (λ x. x.now) shards.now) out.old out.new written.new
+        found.old found.new differing.new result }
     ensures size { IsResultSize (map (λ x. x.now) shards.now) written.new }
 {
-    let merged = merge_agreeing_bytes(alloc, shards);
-    show_merge(&merged, out, written, differing, found)
+    let filled = merge_agreeing_bytes_into(alloc, shards, out);
+    show_fill(filled, out.len(), written, differing, found)
 }
 
-fn show_merge(
-    merged: &Result<AgreeingMerge>,
-    out: &mut [u8],
+// Shows a merge to an output of so many bytes.
+fn show_fill(
+    filled: Result<AgreeingFill>,
+    room: usize,
     written: &mut usize,
     differing: &mut usize,
     found: &mut XetDisagreement,
 ) -> u32
-    ensures { ShowsMerge merged.now out.old out.new written.new found.old found.new differing.new
-        result }
+    ensures { ShowsFill filled room written.new found.old found.new differing.new result }
 {
     *written = 0;
     *differing = 0;
-    match merged {
-        Ok(AgreeingMerge::Bytes(bytes)) => give(bytes.as_slice(), out, written),
-        Ok(AgreeingMerge::Disagreements(all)) => {
+    match filled {
+        Ok(AgreeingFill::Bytes(size)) => answer(Ok(size), room, written),
+        Ok(AgreeingFill::Disagreements(all)) => {
             show_first(all.as_slice(), differing, found);
             XET_DISAGREE
         }
-        Ok(AgreeingMerge::Malformed(one)) => {
-            *found = malformed_of(one);
+        Ok(AgreeingFill::Malformed(one)) => {
+            *found = malformed_of(&one);
             XET_MALFORMED
         }
-        Err(error) => error_number(error),
+        Err(error) => error_number(&error),
     }
 }
 
