@@ -13,6 +13,7 @@ pub mod Exporting
 pub mod Formats
 pub mod Fronts
 pub mod InARow
+pub mod InVersions
 pub mod Inserting
 pub mod InParts
 pub mod Keeping

@@ -2,6 +2,7 @@
 
 ghost use Rattle.std.specs.Prelude.{◌≡◌, ◌⊎◌, ◌+◌, ◌<◌, ◌^◌, List, map, length, IfOk, IfErr, MatchResult};
 ghost use Rattle.xet_core_structures.specs.Trees.Filling.{FillsWith};
+ghost use Rattle.xet_core_structures.specs.Trees.InVersions.{MadeIn, RefusedIn};
 ghost use Rattle.xet_core_structures.specs.Trees.MergeTrees.{MergeRefused};
 ghost use Rattle.xet_core_structures.specs.Trees.RangeTrees.{IsHeldLayout};
 ghost use Rattle.xet_core_structures.specs.declared.merklehash.DataHash.{DataHash};
@@ -13,22 +14,26 @@ ghost use Rattle.shard_bytes.specs.Sizes.{IsResultSize};
 use std::alloc::Global;
 use xet_core_structures::error::{CoreError, Result};
 use xet_core_structures::set_operations::{
-    HashRange, MergePlan, merge_range, merge_range_into, shard_union_tree, shard_union_tree_into,
+    FormatVersion, HashRange, MergePlan, merge_range, merge_range_into, shard_union_tree_in,
+    shard_union_tree_into,
 };
 
-/// The bytes of the union of one shard or more, from their bytes, by a balanced tree of unions:
-/// that of the first half of the list with that of the second. One shard is united with itself. Of
-/// shards that agree pairwise and have no key, any other tree with a union and any other order give
-/// the same bytes. They are at most 344 and 8/3 of the inputs' bytes.
+/// The bytes of the union of one shard or more, in a version of the format, from their bytes, by a
+/// balanced tree of unions: that of the first half of the list with that of the second. One shard is
+/// united with itself. Of shards that agree pairwise and have no key, any other tree with a union
+/// and any other order give the same bytes. They are at most 344 and 8/3 of the inputs' bytes.
 ///
-/// `InvalidArguments` if the list is empty. Else the errors are those of [`shard_union_tree`].
-pub fn merge_bytes(alloc: Global, shards: &[&[u8]]) -> Result<Vec<u8>>
+/// `InvalidArguments` if the list is empty. Else the errors are those of [`shard_union_tree_in`].
+#[tactic(auto, using(xet_core_structures::proofs::Trees::InVersions::early))]
+pub fn merge_bytes(alloc: Global, shards: &[&[u8]], version: FormatVersion) -> Result<Vec<u8>>
     ensures any_bytes { MatchResult result
-        (λ bytes. MergesBytes (map (λ x. x.now) shards.now) bytes.items)
-        (RefusesMerge (map (λ x. x.now) shards.now)) }
+        (λ bytes. MadeIn version (MergesBytes (map (λ x. x.now) shards.now)) bytes.items)
+        (RefusedIn version (MergesBytes (map (λ x. x.now) shards.now))
+        (RefusesMerge (map (λ x. x.now) shards.now))) }
     ensures one_byte_string { (all : List Shard) → (join : Shard)
         → IsMergeOfList (map (λ x. x.now) shards.now) all join
-        → MatchResult result (λ bytes. IsBytesWithoutExpiry join bytes.items) (MergeRefused join) }
+        → MatchResult result (λ bytes. MadeIn version (IsBytesWithoutExpiry join) bytes.items)
+        (RefusedIn version (IsBytesWithoutExpiry join) (MergeRefused join)) }
     ensures size { IfOk result
         (λ bytes. IsResultSize (map (λ x. x.now) shards.now) (length bytes.items)) }
 {
@@ -36,25 +41,34 @@ pub fn merge_bytes(alloc: Global, shards: &[&[u8]]) -> Result<Vec<u8>>
         return Err(CoreError::InvalidArguments);
     }
     let plan = merge_plan(alloc, shards.len())?;
-    shard_union_tree(alloc, &plan, shards)
+    shard_union_tree_in(alloc, &plan, shards, version)
 }
 
 /// Writes the bytes that [`merge_bytes`] makes to the front of a slice, if they fit, and returns
 /// their number. If they don't, or if the call fails, the slice stays as it is. The errors are the
 /// same.
-pub fn merge_into(alloc: Global, shards: &[&[u8]], out: &mut [u8]) -> Result<usize>
-    ensures any_bytes { FillsWith (MergesBytes (map (λ x. x.now) shards.now))
-        (RefusesMerge (map (λ x. x.now) shards.now)) out.old out.new result }
+#[tactic(auto, using(xet_core_structures::proofs::Trees::InVersions::early))]
+pub fn merge_into(
+    alloc: Global,
+    shards: &[&[u8]],
+    version: FormatVersion,
+    out: &mut [u8],
+) -> Result<usize>
+    ensures any_bytes { FillsWith (MadeIn version (MergesBytes (map (λ x. x.now) shards.now)))
+        (RefusedIn version (MergesBytes (map (λ x. x.now) shards.now))
+        (RefusesMerge (map (λ x. x.now) shards.now))) out.old out.new result }
     ensures one_byte_string { (all : List Shard) → (join : Shard)
         → IsMergeOfList (map (λ x. x.now) shards.now) all join
-        → FillsWith (IsBytesWithoutExpiry join) (MergeRefused join) out.old out.new result }
+        → FillsWith (MadeIn version (IsBytesWithoutExpiry join))
+        (RefusedIn version (IsBytesWithoutExpiry join) (MergeRefused join)) out.old out.new
+        result }
     ensures size { IfOk result (IsResultSize (map (λ x. x.now) shards.now)) }
 {
     if shards.is_empty() {
         return Err(CoreError::InvalidArguments);
     }
     let plan = merge_plan(alloc, shards.len())?;
-    shard_union_tree_into(alloc, &plan, shards, out)
+    shard_union_tree_into(alloc, &plan, shards, version, out)
 }
 
 /// The bytes of a shard with the records in a range of the union that [`merge_bytes`] makes, files
@@ -63,13 +77,21 @@ pub fn merge_into(alloc: Global, shards: &[&[u8]], out: &mut [u8]) -> Result<usi
 /// inputs'.
 ///
 /// `InvalidArguments` if the list is empty. Else the errors are those of [`merge_range`].
-pub fn merge_range_bytes(alloc: Global, shards: &[&[u8]], range: &HashRange) -> Result<Vec<u8>>
+#[tactic(auto, using(xet_core_structures::proofs::Trees::InVersions::early))]
+pub fn merge_range_bytes(
+    alloc: Global,
+    shards: &[&[u8]],
+    range: &HashRange,
+    version: FormatVersion,
+) -> Result<Vec<u8>>
     ensures any_bytes { MatchResult result
-        (λ bytes. MergesRange range.now (map (λ x. x.now) shards.now) bytes.items)
-        (RefusesRange range.now (map (λ x. x.now) shards.now)) }
+        (λ bytes. MadeIn version (MergesRange range.now (map (λ x. x.now) shards.now)) bytes.items)
+        (RefusedIn version (MergesRange range.now (map (λ x. x.now) shards.now))
+        (RefusesRange range.now (map (λ x. x.now) shards.now))) }
     ensures one_byte_string { (key : DataHash) → (all : List Shard) → (join part : Shard)
         → IsRangeMergeOfList range.now key (map (λ x. x.now) shards.now) all join part
-        → MatchResult result (λ bytes. IsHeldLayout key part bytes.items) (MergeRefused part) }
+        → MatchResult result (λ bytes. MadeIn version (IsHeldLayout key part) bytes.items)
+        (RefusedIn version (IsHeldLayout key part) (MergeRefused part)) }
     ensures size { IfOk result
         (λ bytes. IsResultSize (map (λ x. x.now) shards.now) (length bytes.items)) }
 {
@@ -77,30 +99,35 @@ pub fn merge_range_bytes(alloc: Global, shards: &[&[u8]], range: &HashRange) -> 
         return Err(CoreError::InvalidArguments);
     }
     let plan = merge_plan(alloc, shards.len())?;
-    merge_range(alloc, &plan, shards, range)
+    merge_range(alloc, &plan, shards, range, version)
 }
 
 /// Writes the bytes that [`merge_range_bytes`] makes to the front of a slice, if they fit, and
 /// returns their number. If they don't, or if the call fails, the slice stays as it is. The errors
 /// are the same.
+#[tactic(auto, using(xet_core_structures::proofs::Trees::InVersions::early))]
 pub fn merge_range_bytes_into(
     alloc: Global,
     shards: &[&[u8]],
     range: &HashRange,
+    version: FormatVersion,
     out: &mut [u8],
 ) -> Result<usize>
-    ensures any_bytes { FillsWith (MergesRange range.now (map (λ x. x.now) shards.now))
-        (RefusesRange range.now (map (λ x. x.now) shards.now)) out.old out.new result }
+    ensures any_bytes { FillsWith
+        (MadeIn version (MergesRange range.now (map (λ x. x.now) shards.now)))
+        (RefusedIn version (MergesRange range.now (map (λ x. x.now) shards.now))
+        (RefusesRange range.now (map (λ x. x.now) shards.now))) out.old out.new result }
     ensures one_byte_string { (key : DataHash) → (all : List Shard) → (join part : Shard)
         → IsRangeMergeOfList range.now key (map (λ x. x.now) shards.now) all join part
-        → FillsWith (IsHeldLayout key part) (MergeRefused part) out.old out.new result }
+        → FillsWith (MadeIn version (IsHeldLayout key part))
+        (RefusedIn version (IsHeldLayout key part) (MergeRefused part)) out.old out.new result }
     ensures size { IfOk result (IsResultSize (map (λ x. x.now) shards.now)) }
 {
     if shards.is_empty() {
         return Err(CoreError::InvalidArguments);
     }
     let plan = merge_plan(alloc, shards.len())?;
-    merge_range_into(alloc, &plan, shards, range, out)
+    merge_range_into(alloc, &plan, shards, range, version, out)
 }
 
 // The tree by which so many inputs are merged.

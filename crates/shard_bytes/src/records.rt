@@ -3,9 +3,9 @@
 ghost use Rattle.std.specs.Prelude.{◌≡◌, ◌⊎◌, ◌^◌, ◌<◌, ℕ, List, Option, IfOk, IfErr, IfSome, OnOk, MatchResult};
 ghost use Rattle.std.specs.FinMap as finite;
 ghost use Rattle.xet_core_structures.specs.declared.error.CoreError.{CoreError};
-ghost use Rattle.xet_core_structures.specs.Layout.{layout};
+ghost use Rattle.xet_core_structures.specs.Layout.{layout_in};
 ghost use Rattle.xet_core_structures.specs.Shard.{Shard, IsShard};
-ghost use Rattle.xet_core_structures.specs.WrittenShard.{IsBytesOf};
+ghost use Rattle.xet_core_structures.specs.WrittenShard.{HasFilesIn, IsBytesOf};
 ghost use Rattle.shard_bytes.specs.Recording.{with_files, with_xorbs, shard_of, CanAddFiles, CanAddXorbs, CanAddRecords, AdmitsAll, HasRecords, RefusesRecords};
 
 use std::alloc::Global;
@@ -24,29 +24,33 @@ pub struct Records {
     pub xorbs: Vec<MDBXorbInfo>,
 }
 
-/// The bytes of the shard that has these records, in version 3, with all tables, without a key,
-/// with creation 0 and with an expiry in seconds or none. The records may be in any order; of two
-/// files, or two xorbs, with one hash the later one counts.
+/// The bytes of the shard that has these records, in a version of the format, with all tables,
+/// without a key, with creation 0 and with an expiry in seconds or none. The records may be in any
+/// order; of two files, or two xorbs, with one hash the later one counts.
 ///
-/// `InvalidArguments` if a record is one that no shard may have, or if at some record the rows of
-/// the files so far, or those of the xorbs, pass 4294967295. `OutOfMemory` if an allocation fails.
+/// `InvalidArguments` if a record is one that no shard may have, if at some record the rows of the
+/// files so far, or those of the xorbs, pass 4294967295, or if a file has an auxiliary row, and the
+/// version is 2, which has none. `OutOfMemory` if an allocation fails.
 pub fn write_records(
     alloc: Global,
     files: Vec<MDBFileInfo>,
     xorbs: Vec<MDBXorbInfo>,
+    version: FormatVersion,
     expiry: Option<u64>,
 ) -> Result<Vec<u8>>
     ensures written { IfOk result
-        (λ bytes. bytes.items ≡ layout (shard_of files.items xorbs.items) expiry) }
+        (λ bytes. bytes.items ≡ layout_in version (shard_of files.items xorbs.items) expiry) }
     ensures shard { IfOk result (λ _. IsShard (shard_of files.items xorbs.items)) }
     ensures readable { IfOk result
         (λ bytes. IsBytesOf (shard_of files.items xorbs.items) bytes.items) }
-    ensures admitted { AdmitsAll (CanAddRecords files.items xorbs.items) result }
+    ensures admitted { AdmitsAll
+        (CanAddRecords files.items xorbs.items
+        × HasFilesIn version (shard_of files.items xorbs.items)) result }
 {
     let mut shard = UnindexedShard::new(alloc);
     add_files(alloc, &mut shard, files)?;
     add_xorbs(&mut shard, xorbs)?;
-    bytes_of(alloc, &shard, expiry)
+    bytes_of(alloc, &shard, version, expiry)
 }
 
 // Adds files to a shard in memory, one after another.
@@ -72,13 +76,18 @@ fn add_xorbs(shard: &mut UnindexedShard, xorbs: Vec<MDBXorbInfo>) -> Result<()>
 }
 
 // The bytes of a shard in memory.
-fn bytes_of(alloc: Global, shard: &UnindexedShard, expiry: Option<u64>) -> Result<Vec<u8>>
-    ensures ok { IfOk result (λ bytes. bytes.items ≡ layout shard.now expiry) }
+fn bytes_of(
+    alloc: Global,
+    shard: &UnindexedShard,
+    version: FormatVersion,
+    expiry: Option<u64>,
+) -> Result<Vec<u8>>
+    ensures ok { IfOk result (λ bytes. bytes.items ≡ layout_in version shard.now expiry) }
     ensures shard { IfOk result (λ _. IsShard shard.now) }
     ensures width { IfOk result (λ _. IfSome expiry (λ e. e < 2 ^ 64)) }
-    ensures causes { IfErr result (λ e. e ≡ CoreError.OutOfMemory) }
+    ensures admitted { AdmitsAll (HasFilesIn version shard.now) result }
 {
-    shard.to_bytes(alloc, FormatVersion::V3, expiry)
+    shard.to_bytes(alloc, version, expiry)
 }
 
 /// The records of the sections at the offsets in the footer of a shard's bytes, in their order. No

@@ -15,7 +15,7 @@ use xet_core_structures::error::{CoreError, Result};
 use xet_core_structures::file_structs::MDBFileInfo;
 use xet_core_structures::shard_format::MDBShardInfo;
 use xet_core_structures::source::MemorySource;
-use xet_records::record_reader::FormatVersion;
+pub use xet_records::record_reader::FormatVersion;
 use xet_shards::shard_writer::{LayoutOptions, write_again};
 
 /// The bytes of the same shard in version 2, from its bytes in either version: its records, in

@@ -1,10 +1,20 @@
 use Rattle.std.proofs.Common.{ℕ, List, length, map, Bor, sym, subst}
 use Rattle.std.proofs.lemmas.List.{length-map}
 use Rattle.xet_core_structures.specs.KeyedHash.{no_key}
-use Rattle.shard_bytes.specs.Merging.{IsMergePlan}
+use Rattle.xet_core_structures.proofs.Trees.InVersions.{if_filled}
+use Rattle.shard_bytes.specs.Merging.{IsMergePlan, MergesBytes}
+use Rattle.shard_bytes.specs.Sizes.{IsResultSize}
+use Rattle.shard_bytes.proofs.InVersions.{merge_made, merge_refused, size_in}
 use Rattle.shard_bytes.proofs.Merging.{plan_covers, at_leaves, merges}
 use Rattle.shard_bytes.proofs.Sizes.{size_of_merge, size_returned}
 use Rattle.shard_bytes.proofs.merge.merge_into.Goals as goal
+
+pub returns-clause-any_bytes : goal.returns-clause-any_bytes
+returns-clause-any_bytes c =
+    let inputs = map (λ (x : Bor (List ℕ)). x.now) c.args.shards.now in
+    let is_plan = subst (λ n. IsMergePlan n c.in_ok-plan.plan) (sym (length-map c.args.shards.now (λ (x : Bor (List ℕ)). x.now))) c.in_ok-plan.ensures.ok in
+    if_filled _ _ _ _ c.args.out.now c.shard_union_tree_into.new.out c.shard_union_tree_into.result (merge_made inputs c.in_ok-plan.plan is_plan c.args.version) (merge_refused inputs c.in_ok-plan.plan is_plan c.args.version)
+    c.shard_union_tree_into.ensures.any_bytes
 
 pub returns-clause-one_byte_string : goal.returns-clause-one_byte_string
 returns-clause-one_byte_string c = λ all join have.
@@ -16,5 +26,5 @@ returns-clause-one_byte_string c = λ all join have.
 pub returns-clause-size : goal.returns-clause-size
 returns-clause-size c =
     let inputs = map (λ (x : Bor (List ℕ)). x.now) c.args.shards.now in
-    let is_plan = subst (λ n. IsMergePlan n c.in_ok-plan.plan) (sym (length-map c.args.shards.now (λ (x : Bor (List ℕ)). x.now))) c.in_ok-plan.ensures.ok in
-    size_returned _ _ inputs _ _ c.shard_union_tree_into.result (λ bytes writes. size_of_merge inputs c.in_ok-plan.plan bytes is_plan writes) c.shard_union_tree_into.ensures.any_bytes
+    let says = λ (bytes : List ℕ) (merges : MergesBytes inputs bytes). size_of_merge inputs merges.0 bytes merges.1 merges.2 in
+    size_returned _ _ inputs _ _ c.shard_union_tree_into.result (λ bytes. size_in c.args.version (MergesBytes inputs) (IsResultSize inputs) bytes says) (returns-clause-any_bytes c)
