@@ -86,6 +86,13 @@ static uint32_t call_merge(const struct input *input, void *out, size_t capacity
     return within_room(error, bytes_of(list, input->count), *written);
 }
 
+static uint32_t call_merge_in(const struct input *input, void *out, size_t capacity, size_t *written) {
+    xet_bytes list[SHARDS];
+    list_shards(input, list);
+    uint32_t error = xet_merge_in(list, input->count, 2, out, capacity, written);
+    return within_room(error, bytes_of(list, input->count), *written);
+}
+
 /* The range is from the file's hash on, below it, or both, which has no hash; or it has all. */
 static uint32_t call_merge_range(const struct input *input, void *out, size_t capacity, size_t *written) {
     xet_bytes list[SHARDS];
@@ -94,6 +101,14 @@ static uint32_t call_merge_range(const struct input *input, void *out, size_t ca
     memcpy(range.from, input->file.words, sizeof range.from);
     memcpy(range.to, input->file.words, sizeof range.to);
     uint32_t error = xet_merge_range(list, input->count, &range, out, capacity, written);
+    return within_room(error, bytes_of(list, input->count), *written);
+}
+
+static uint32_t call_merge_range_in(const struct input *input, void *out, size_t capacity, size_t *written) {
+    xet_bytes list[SHARDS];
+    list_shards(input, list);
+    xet_range all = {.has_from = false, .has_to = false};
+    uint32_t error = xet_merge_range_in(list, input->count, &all, 2, out, capacity, written);
     return within_room(error, bytes_of(list, input->count), *written);
 }
 
@@ -309,8 +324,11 @@ static uint32_t call_write(const struct input *input, void *out, size_t capacity
     require(error == XET_OK && !memcmp(&again, &counted, sizeof again), "the room is too little");
     const void *files = lists.files.bytes, *segments = lists.segments.bytes, *xorbs = lists.xorbs.bytes;
     const void *chunks = lists.chunks.bytes;
-    error = xet_write(files, counted.files, segments, counted.segments, xorbs, counted.xorbs, chunks, counted.chunks,
-                      UINT64_MAX, out, capacity, written);
+    error = input->verification
+                ? xet_write(files, counted.files, segments, counted.segments, xorbs, counted.xorbs, chunks,
+                            counted.chunks, UINT64_MAX, out, capacity, written)
+                : xet_write_in(files, counted.files, segments, counted.segments, xorbs, counted.xorbs, chunks,
+                               counted.chunks, 3, UINT64_MAX, out, capacity, written);
     free_lists(&lists);
     return within(xet_write_room(counted), error, *written);
 }
@@ -350,6 +368,8 @@ static const struct filling fillings[] = {
     {"xet_difference", 1, OF_MERGING, call_difference, 3},
     {"xet_merge", 1, OF_MERGING, call_merge, 3},
     {"xet_merge_range", 1, OF_MERGING, call_merge_range, 3},
+    {"xet_merge_in", 1, OF_MERGING, call_merge_in, 2},
+    {"xet_merge_range_in", 1, OF_MERGING, call_merge_range_in, 2},
     {"xet_concatenate", 1, OF_MERGING, call_concatenate, 3},
     {"xet_merge_agreeing", 1, OF_MERGING | BIT(XET_DISAGREE) | BIT(XET_MALFORMED), call_merge_agreeing, 3},
     {"xet_find_disagreements", sizeof(xet_disagreement), OF_SECTIONS, call_find_disagreements, 0},

@@ -2,7 +2,7 @@
  *
  * Each call takes the bytes of shards, or a hash or its text, and writes to memory of the caller. Nothing is kept
  * between calls: there is no handle, and nothing to free. Shards of versions 2 and 3 of the format are read, and
- * version 3 is written, but by xet_write_v2. Any number of threads may call at once. This file is C99, and C++11.
+ * version 3 is written, but where a call names another. Any number of threads may call at once. This file is C99, and C++11.
  *
  * xet_export, xet_write_v2, xet_minimal, xet_subset, xet_eligible and xet_check find the two sections behind the
  * header; all other calls that read a shard's records go by the offsets in the footer. So of bytes with a wrong footer
@@ -211,6 +211,13 @@ uint32_t xet_union(const uint8_t *first, size_t first_length, const uint8_t *sec
  * The other errors are those of xet_union. */
 uint32_t xet_merge(const xet_bytes *shards, size_t count, uint8_t *out, size_t capacity, size_t *written);
 
+/* The same in a version of the format, 2 or 3. In version 2 it is the bytes that xet_write_v2 makes of those of
+ * xet_merge, without a second pass.
+ *
+ * XET_INVALID_ARGUMENTS: also if it is another version, or 2, and a file of the union has an auxiliary row. */
+uint32_t xet_merge_in(const xet_bytes *shards, size_t count, uint64_t version, uint8_t *out, size_t capacity,
+                      size_t *written);
+
 /* A range of hashes: each that is not below `from`, if `has_from` is set, and is below `to`, if `has_to` is set. Hashes
  * are ordered by their first word, then by the second, the third and the fourth, each as a number. A bound that is not
  * set is not looked at. */
@@ -235,6 +242,10 @@ typedef struct xet_range {
  * The errors are those of xet_merge, but that records outside of the range are asked for no union. */
 uint32_t xet_merge_range(const xet_bytes *shards, size_t count, const xet_range *range, uint8_t *out, size_t capacity,
                          size_t *written);
+
+/* The same in a version of the format, as xet_merge_in. */
+uint32_t xet_merge_range_in(const xet_bytes *shards, size_t count, const xet_range *range, uint64_t version,
+                            uint8_t *out, size_t capacity, size_t *written);
 
 /* Writes the shard that has the records of one shard or more, in their order, with all tables, under the key of all, in
  * version 3 and without timestamps. The hashes of files have to ascend from each shard to the next, and so have those
@@ -602,6 +613,14 @@ uint32_t xet_records(const uint8_t *shard, size_t length, xet_listed_file *files
 uint32_t xet_write(const xet_listed_file *files, size_t file_count, const xet_file_segment *segments,
                    size_t segment_count, const xet_listed_xorb *xorbs, size_t xorb_count, const xet_chunk *chunks,
                    size_t chunk_count, uint64_t expiry, uint8_t *out, size_t capacity, size_t *written);
+
+/* The same in a version of the format, 2 or 3.
+ *
+ * XET_INVALID_ARGUMENTS: also if it is another version, or 2, and a file has an auxiliary row. */
+uint32_t xet_write_in(const xet_listed_file *files, size_t file_count, const xet_file_segment *segments,
+                      size_t segment_count, const xet_listed_xorb *xorbs, size_t xorb_count, const xet_chunk *chunks,
+                      size_t chunk_count, uint64_t version, uint64_t expiry, uint8_t *out, size_t capacity,
+                      size_t *written);
 
 /* The room that is enough for xet_write of so many records: 344 bytes, 156 for a file, 96 for a segment, 60 for a xorb
  * and 64 for a chunk. */

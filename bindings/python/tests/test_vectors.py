@@ -841,6 +841,34 @@ def test_complete():
         assert xet_shards.complete(minimal) == old.written()
 
 
+def test_version_2():
+    shard, other = Shard(), Shard()
+    for it, name in ((shard, "100"), (other, "102")):
+        it.add_file(name, "v=365", "s=9364", "200:0:5:5")
+        it.add_xorb("10", "21:5")
+    shards = [shard.written(), other.written(version=2)]
+    old = xet_shards.write_v2(xet_shards.merge(shards))
+    assert old[32:40] == b"\2" + bytes(7)
+    assert xet_shards.merge(shards, version=2) == xet_shards.merge(shards, version=2, threads=2) == old
+    assert xet_shards.merge(shards, strict=True, version=2) == old
+    middle = hash_text("101")
+    assert xet_shards.merge(shards, start=middle, version=2) == xet_shards.write_v2(xet_shards.merge(shards, start=middle))
+    assert xet_shards.merge(shards, start=middle, strict=True, version=2)[32] == 2
+    files, xorbs = list(xet_shards.files(shards[0])), list(xet_shards.xorbs(shards[0]))
+    assert xet_shards.write(files, xorbs, version=2) == shard.written(version=2)
+    assert xet_shards.write(files, xorbs, 7, 2) == shard.written(expiry=7, version=2)
+    other.add_file("101", "x=777", "200:0:5:5")
+    shards[1] = other.written()
+    room = bytearray(xet_shards.merge_room(shards))
+    for version in (2, 4):
+        refused("InvalidArguments", xet_shards.merge, shards, version=version)
+        refused("InvalidArguments", xet_shards.merge_into, shards, room, version=version)
+    assert room == bytes(len(room))
+    refused("InvalidArguments", xet_shards.merge, shards, start=middle, version=2)
+    assert xet_shards.merge(shards, start=hash_text("102"), version=2)[32] == 2
+    refused("InvalidArguments", xet_shards.write, list(xet_shards.files(shards[1])), xorbs, version=2)
+
+
 def test_merge():
     # These scripts print one byte string of three trees over three shards, and merge gives it, in any order. The shards
     # of merge_02 don't agree.

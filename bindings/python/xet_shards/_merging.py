@@ -4,7 +4,7 @@ from __future__ import annotations
 from ctypes import byref, c_bool, c_char, c_size_t
 from typing import Any, Callable, Iterable, List, Optional, Sequence
 
-from ._arguments import _text, _words
+from ._arguments import _number, _text, _words
 from ._calls import _library
 from ._errors import (
     _DISAGREE, _INVALID_ARGUMENTS, _MALFORMED, _OTHER_KEYS, _SHORT, Disagreement, DisagreementError, MalformedError,
@@ -40,6 +40,7 @@ def merge(
     start: Optional[str] = None,
     stop: Optional[str] = None,
     threads: Optional[int] = None,
+    version: int = 3,
 ) -> bytes:
     """Returns the union of one shard or more, by a balanced tree of unions; a single one is united with itself.
 
@@ -51,6 +52,9 @@ def merge(
     With `threads` so many threads at most merge a range each, and `concatenate` puts the results together. Bytes and
     errors are the same, whatever is given; the bytes of the output are in memory twice.
 
+    It is in version 3 of the format, or in `version` 2, which no file with an auxiliary row may have. In version 2 one
+    thread merges.
+
     If the sections of the inputs hold well-formed shards that agree pairwise, under one key, it is the bytes of their
     join, which has no order, and any other tree of unions gives the same. Shards agree if files with one hash have
     equal segments, and an equal optional part wherever both have it, and xorbs with one hash are equal. They are
@@ -60,7 +64,7 @@ def merge(
     shards = list(shards)
     # With this room no merge is made twice.
     return _written_bytes(
-        merge_room(shards), lambda out: merge_into(shards, memoryview(out), strict, start, stop, threads)
+        merge_room(shards), lambda out: merge_into(shards, memoryview(out), strict, start, stop, threads, version)
     )
 
 
@@ -78,6 +82,7 @@ def merge_into(
     start: Optional[str] = None,
     stop: Optional[str] = None,
     threads: Optional[int] = None,
+    version: int = 3,
 ) -> int:
     """Writes what `merge` returns to the front of a buffer that can be written, and returns the number of its bytes.
 
@@ -92,18 +97,22 @@ def merge_into(
         raise ValueError("no shard is given")
     if threads is not None and threads < 1:
         raise ValueError("there is one thread at least")
-    if threads is not None and threads > 1:
+    if threads is not None and threads > 1 and version == 3:
         length = _merge_in_threads_to(shards, out, threads, strict, start, stop)
         if length is not None:
             return length
     try:
         if start is not None or stop is not None:
-            return _merge_range_to(shards, out, strict, start, stop)
-        return _merge_strictly_to(shards, out) if strict else _merge_to(_library.xet_merge, shards, out)
+            return _merge_range_to(shards, out, strict, start, stop, version)
+        if strict and version == 3:
+            return _merge_strictly_to(shards, out)
+        return _merge_in_to(shards, out, strict, version)
     except (DisagreementError, MalformedError):
         raise
     except XetError as error:
-        raise XetError(error.number, _to_blame(shards, error.number), _OTHER_KEYS) from None
+        blamed = _to_blame(shards, error.number)
+        reason = _OTHER_KEYS if version == 3 or blamed is not None else "a file has a row that the version does not have"
+        raise XetError(error.number, blamed, reason) from None
 
 
 def _to_blame(shards: Sequence[Buffer], number: int) -> Optional[int]:
@@ -158,20 +167,36 @@ def _merge_strictly_to(shards: Sequence[Buffer], out: WritableBuffer) -> int:
         raise
 
 
+def _merge_in_to(shards: Sequence[Buffer], out: WritableBuffer, strict: bool, version: int) -> int:
+    if strict:
+        _check_agreement(shards)
+    return _merge_to(
+        lambda listed, count, *output: _library.xet_merge_in(listed, count, _number(version), *output), shards, out
+    )
+
+
 def _merge_range_to(
-    shards: Sequence[Buffer], out: WritableBuffer, strict: bool, start: Optional[str], stop: Optional[str]
+    shards: Sequence[Buffer], out: WritableBuffer, strict: bool, start: Optional[str], stop: Optional[str], version: int
 ) -> int:
     asked = _range(*(None if it is None else tuple(_words(it)) for it in (start, stop)))
     if strict:
-        malformed = find_malformed(shards)
-        if malformed:
-            raise MalformedError(malformed)
-        differing = find_disagreement(shards)
-        if differing:
-            raise DisagreementError(differing)
+        _check_agreement(shards)
     return _merge_to(
-        lambda listed, count, *output: _library.xet_merge_range(listed, count, byref(asked), *output), shards, out
+        lambda listed, count, *output: _library.xet_merge_range_in(
+            listed, count, byref(asked), _number(version), *output
+        ),
+        shards,
+        out,
     )
+
+
+def _check_agreement(shards: Sequence[Buffer]) -> None:
+    malformed = find_malformed(shards)
+    if malformed:
+        raise MalformedError(malformed)
+    differing = find_disagreement(shards)
+    if differing:
+        raise DisagreementError(differing)
 
 
 def _range(start: Optional[Sequence[int]], stop: Optional[Sequence[int]]) -> _Range:

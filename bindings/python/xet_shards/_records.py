@@ -204,18 +204,21 @@ def _flags(has_verification: bool, file: File) -> int:
     )
 
 
-def write(files: Iterable[ListedFile], xorbs: Iterable[Xorb], expiry: Optional[int] = None) -> bytes:
+def write(
+    files: Iterable[ListedFile], xorbs: Iterable[Xorb], expiry: Optional[int] = None, version: int = 3
+) -> bytes:
     """Returns the shard that has these files and xorbs, with all tables, and without a key.
 
     They may be in any order; of two files, or two xorbs, with one hash the later one counts. A file whose flags are not
-    those of its parts is a `ValueError`; `ListedFile.of` sets them. The shard expires at `expiry`, in seconds.
+    those of its parts is a `ValueError`; `ListedFile.of` sets them. The shard expires at `expiry`, in seconds. It is in
+    version 3 of the format, or in `version` 2, which no file with an auxiliary row may have.
 
     So `write(files(shard), xorbs(shard))` is the same bytes, if this library wrote them in version 3, with all tables,
     without a key, with creation 0 and without expiry, and reserved words of files are zeros. The library refuses
     records that no shard has (`InvalidArguments`): with a hash of all ones, flags of no known part, or a xorb whose
     chunks have 2^32 bytes or more in all.
     """
-    return _written([*_file_lists(files), *_xorb_lists(xorbs)], expiry)
+    return _written([*_file_lists(files), *_xorb_lists(xorbs)], expiry, version)
 
 
 def _file_lists(files: Iterable[ListedFile]) -> List[Any]:
@@ -256,7 +259,7 @@ def _xorb_lists(xorbs: Iterable[Xorb]) -> List[Any]:
     return [*_array_of(_ListedXorb, listed), *_array_of(_Chunk, chunks)]
 
 
-def _written(lists: Sequence[Any], expiry: Optional[int]) -> bytes:
+def _written(lists: Sequence[Any], expiry: Optional[int], version: int) -> bytes:
     """Returns the shard of four lists of records, each with its length behind it."""
     files, segments, xorbs, chunks = lists[1::2]
     time = NO_EXPIRY if expiry is None else _seconds(expiry)
@@ -264,6 +267,8 @@ def _written(lists: Sequence[Any], expiry: Optional[int]) -> bytes:
     room = 156 * files + 96 * segments + 60 * xorbs + 64 * chunks
     return _made(
         room,
-        lambda out, room, written: _library.xet_write(*lists, time, out, room, byref(written)),
-        "no shard has these records, or their counts do not add up",
+        lambda out, room, written: _library.xet_write_in(
+            *lists, _number(version), time, out, room, byref(written)
+        ),
+        "no shard of the version has these records, or their counts do not add up",
     )

@@ -113,7 +113,7 @@ def _addresses(arrays: Sequence[Any]) -> List[int]:
     return [it for array in arrays for it in (array.ctypes.data, len(array))]
 
 
-def from_table(table: Table, expiry: Optional[int] = None) -> bytes:
+def from_table(table: Table, expiry: Optional[int] = None, version: int = 3) -> bytes:
     """Returns the shard that has these records, as `write` does. It needs numpy.
 
     Each of the four may be anything that gives its columns by name, as a `pandas.DataFrame` does, too. Columns of
@@ -125,7 +125,7 @@ def from_table(table: Table, expiry: Optional[int] = None) -> bytes:
         _as_type(it, wanted)
         for it, wanted in zip((table.files, table.segments, table.xorbs, table.chunks), _types())
     ]
-    return _written(_addresses(arrays), expiry)
+    return _written(_addresses(arrays), expiry, version)
 
 
 def _as_type(columns: Any, wanted: Any) -> Any:

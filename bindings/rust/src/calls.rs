@@ -47,7 +47,11 @@ library! {
     fn xet_load(shard: &[u8], info: &mut Info) -> u32;
     fn xet_union(first: &[u8], second: &[u8], out: &mut [u8], written: &mut usize) -> u32;
     fn xet_merge(shards: &[Bytes], out: &mut [u8], written: &mut usize) -> u32;
+    fn xet_merge_in(shards: &[Bytes], version: u64, out: &mut [u8], written: &mut usize) -> u32;
     fn xet_merge_range(shards: &[Bytes], range: &Range, out: &mut [u8], written: &mut usize) -> u32;
+    fn xet_merge_range_in(
+        shards: &[Bytes], range: &Range, version: u64, out: &mut [u8], written: &mut usize,
+    ) -> u32;
     fn xet_concatenate(shards: &[Bytes], out: &mut [u8], written: &mut usize) -> u32;
     fn xet_find_disagreement(shards: &[Bytes], differing: &mut usize, found: &mut Disagreement) -> u32;
     fn xet_find_disagreements(shards: &[Bytes], out: &mut [Disagreement], written: &mut usize) -> u32;
@@ -87,6 +91,10 @@ library! {
     fn xet_write(
         files: &[ListedFile], segments: &[FileSegment], xorbs: &[ListedXorb], chunks: &[Chunk], expiry: u64,
         out: &mut [u8], written: &mut usize,
+    ) -> u32;
+    fn xet_write_in(
+        files: &[ListedFile], segments: &[FileSegment], xorbs: &[ListedXorb], chunks: &[Chunk], version: u64,
+        expiry: u64, out: &mut [u8], written: &mut usize,
     ) -> u32;
     fn xet_check(shard: &[u8], findings: &mut [Finding], written: &mut usize) -> u32;
     fn xet_version() -> u32;

@@ -163,6 +163,28 @@ pub fn merge<T: AsRef<[u8]>>(shards: &[T]) -> Result<Vec<u8>> {
     bytes_of(length, |out, written| calls::xet_merge(&list, out, written))
 }
 
+/// What [`merge`] makes, in a version of the format, 2 or 3: in version 2 the bytes that [`write_v2`](crate::write_v2)
+/// makes of it, without a second pass.
+///
+/// # Errors
+///
+/// Those of [`merge`]; `InvalidArguments` also if it is another version, or 2, and a file of the union has an auxiliary
+/// row.
+///
+/// ```
+/// # fn main() -> Result<(), Box<dyn std::error::Error>> {
+/// let shards = [std::fs::read("examples/a.mdb")?, std::fs::read("examples/b.mdb")?];
+/// let merged = xet_shards::merge(&shards)?;
+/// assert_eq!(xet_shards::merge_in(&shards, 3)?, merged);
+/// assert_eq!(xet_shards::merge_in(&shards, 2)?, xet_shards::write_v2(&merged)?);
+/// # Ok(())
+/// # }
+/// ```
+pub fn merge_in<T: AsRef<[u8]>>(shards: &[T], version: u64) -> Result<Vec<u8>> {
+    let (list, length) = listed(shards)?;
+    bytes_of(length, |out, written| calls::xet_merge_in(&list, version, out, written))
+}
+
 /// The records in a range of hashes of the union that [`merge`] makes, files and xorbs each by their own hash, as a
 /// shard. Of well-formed shards that agree pairwise, under one key, it is the same bytes in any order. Ranges that
 /// follow one another then have together each record of the join once, so each may be made by a thread or a machine of
@@ -186,12 +208,42 @@ pub fn merge<T: AsRef<[u8]>>(shards: &[T]) -> Result<Vec<u8>> {
 /// # }
 /// ```
 pub fn merge_range<T: AsRef<[u8]>>(shards: &[T], range: impl RangeBounds<Hash>) -> Result<Vec<u8>> {
+    let range = range_of(range);
+    let (list, length) = listed(shards)?;
+    bytes_of(length, |out, written| calls::xet_merge_range(&list, &range, out, written))
+}
+
+/// What [`merge_range`] makes, in a version of the format, 2 or 3, as [`merge_in`].
+///
+/// # Errors
+///
+/// Those of [`merge_range`] and of [`merge_in`].
+///
+/// ```
+/// # fn main() -> Result<(), Box<dyn std::error::Error>> {
+/// let shards = [std::fs::read("examples/a.mdb")?, std::fs::read("examples/b.mdb")?];
+/// assert_eq!(xet_shards::merge_range_in(&shards, .., 2)?, xet_shards::merge_in(&shards, 2)?);
+/// # Ok(())
+/// # }
+/// ```
+pub fn merge_range_in<T: AsRef<[u8]>>(
+    shards: &[T],
+    range: impl RangeBounds<Hash>,
+    version: u64,
+) -> Result<Vec<u8>> {
+    let range = range_of(range);
+    let (list, length) = listed(shards)?;
+    bytes_of(length, |out, written| calls::xet_merge_range_in(&list, &range, version, out, written))
+}
+
+/// A range of hashes, as the library takes it.
+fn range_of(range: impl RangeBounds<Hash>) -> calls::Range {
     let from = match range.start_bound() {
         Bound::Included(from) => Some(*from),
         // Above the last hash there is none: no hash is below the first.
         Bound::Excluded(below) => match next(*below) {
             Some(from) => Some(from),
-            None => return merge_range(shards, Hash::default()..Hash::default()),
+            None => return range_of(Hash::default()..Hash::default()),
         },
         Bound::Unbounded => None,
     };
@@ -200,14 +252,12 @@ pub fn merge_range<T: AsRef<[u8]>>(shards: &[T], range: impl RangeBounds<Hash>) 
         Bound::Excluded(to) => Some(*to),
         Bound::Unbounded => None,
     };
-    let range = calls::Range {
+    calls::Range {
         from: from.unwrap_or_default(),
         to: to.unwrap_or_default(),
         has_from: from.is_some(),
         has_to: to.is_some(),
-    };
-    let (list, length) = listed(shards)?;
-    bytes_of(length, |out, written| calls::xet_merge_range(&list, &range, out, written))
+    }
 }
 
 /// The hash after this one, if it is not the last.

@@ -36,7 +36,7 @@ mod write;
 
 pub use combine::{
     concatenate, concatenate_into, difference, find_disagreement, find_disagreements, find_malformed, merge,
-    merge_agreeing, merge_range, union, Disagreement, MalformedRecord, RecordHash,
+    merge_agreeing, merge_in, merge_range, merge_range_in, union, Disagreement, MalformedRecord, RecordHash,
 };
 pub use error::Error;
 pub use finding::{check, Finding, Part};
@@ -45,7 +45,7 @@ pub use index::Index;
 pub use lookup::{chunk_rows, eligible, find_file, load, query_at, query_chunks, ChunkRow, File, Info, Run, Segment};
 pub use name::{hash_bytes, hash_of_name, hmac, shard_name};
 pub use parts::{file_in, find_places, find_rows, xorb_in, ChunkPlace};
-pub use records::{records, write_records, Records, WITH_AUX, WITH_SHA256, WITH_VERIFICATION};
+pub use records::{records, write_records, write_records_in, Records, WITH_AUX, WITH_SHA256, WITH_VERIFICATION};
 pub use threads::{merge_agreeing_in_threads, merge_in_threads};
 pub use walk::{file_at, files, xorb_at, xorbs, Chunk, FileIter, ListedFile, Xorb, XorbIter};
 pub use write::{complete, export, minimal, subset, write_v2, Export, Minimal, Subset, Xorbs};

@@ -136,12 +136,38 @@ fn file_with(it: &calls::ListedFile, segments: &[calls::FileSegment]) -> ListedF
 /// # }
 /// ```
 pub fn write_records(files: &[ListedFile], xorbs: &[Xorb], expiry: Option<u64>) -> Result<Vec<u8>> {
+    write_records_in(files, xorbs, 3, expiry)
+}
+
+/// What [`write_records`] makes, in a version of the format, 2 or 3.
+///
+/// # Errors
+///
+/// Those of [`write_records`]; `InvalidArguments` also if it is another version, or 2, and a file has an auxiliary row.
+///
+/// ```
+/// # fn main() -> Result<(), Box<dyn std::error::Error>> {
+/// let shard = std::fs::read("examples/a.mdb")?;
+/// let records = xet_shards::records(&shard)?;
+/// let old = xet_shards::write_records_in(&records.files, &records.xorbs, 2, None)?;
+/// assert_eq!(old, xet_shards::write_v2(&shard)?);
+/// # Ok(())
+/// # }
+/// ```
+pub fn write_records_in(
+    files: &[ListedFile],
+    xorbs: &[Xorb],
+    version: u64,
+    expiry: Option<u64>,
+) -> Result<Vec<u8>> {
     let (files, segments) = file_lists(files)?;
     let (xorbs, chunks) = xorb_lists(xorbs)?;
     // As xet_write_room of xet.h.
     let room = 344 + 156 * files.len() + 96 * segments.len() + 60 * xorbs.len() + 64 * chunks.len();
     let expiry = expiry.unwrap_or(NO_EXPIRY);
-    filled(room, |out, written| calls::xet_write(&files, &segments, &xorbs, &chunks, expiry, out, written))
+    filled(room, |out, written| {
+        calls::xet_write_in(&files, &segments, &xorbs, &chunks, version, expiry, out, written)
+    })
 }
 
 /// The files as the library takes a list of them, and their segments.

@@ -190,6 +190,13 @@ fn version_2_without_auxiliary_rows() {
     shard.add_xorb(&["10", "21:5"]);
     assert_eq!(xet_shards::write_v2(&shard.written(7, 3)), Ok(shard.written(7, 2)));
     assert_eq!(xet_shards::write_v2(&shard.written(7, 2)), Ok(shard.written(7, 2)));
+    let (new, old) = (shard.written(NO_EXPIRY, 3), shard.written(NO_EXPIRY, 2));
+    let records = xet_shards::records(&new).expect("records");
+    assert_eq!(xet_shards::write_records_in(&records.files, &records.xorbs, 2, None), Ok(old.clone()));
+    assert_eq!(xet_shards::merge_in(&[&new, &old], 2), Ok(old.clone()));
+    assert_eq!(xet_shards::merge_in(&[&new, &old], 3), Ok(new.clone()));
+    assert_eq!(xet_shards::merge_in(&[&new, &old], 4), Err(Error::InvalidArguments));
+    assert_eq!(xet_shards::merge_range_in(&[&new], .., 2), Ok(old));
     shard.add_file(&["101", "x=777", "200:0:5:5"]);
     assert_eq!(xet_shards::write_v2(&shard.written(7, 3)), Err(Error::InvalidArguments));
 }

@@ -34,6 +34,7 @@ use std::random::RandomSource;
 use std::rt::{Clock, Files};
 use xet_core_structures::error::CoreError;
 use xet_core_structures::merklehash::HMACKey;
+use xet_records::record_reader::FormatVersion;
 
 /// Writes the merge of the shards in some files to a target. With `by_key` it writes a merge of
 /// those under each key to the folder at the target's path, by the digits of the key; with `memory`
@@ -338,7 +339,7 @@ fn united_leniently<'a, R: Eprint + AllocGlobal>(
     let alloc = rt.alloc();
     let oddity = malformed(alloc, files, inputs)?;
     let choice = disagreement(alloc, files, inputs)?;
-    match merge_bytes(alloc, inputs) {
+    match merge_bytes(alloc, inputs, FormatVersion::V3) {
         Ok(bytes) => {
             if let Some(malformed) = &oddity {
                 progress.clear(rt);

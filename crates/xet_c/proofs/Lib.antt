@@ -4,3 +4,4 @@ pub mod Outcomes
 pub mod Places
 pub mod Segments
 pub mod Texts
+pub mod Versions

@@ -6,4 +6,5 @@ pub mod Output
 pub mod Parts
 pub mod Recording
 pub mod Text
+pub mod Versions
 pub mod Walking

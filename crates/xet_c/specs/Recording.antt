@@ -8,7 +8,9 @@ use Rattle.xet_core_structures.specs.declared.xorb_structs.MDBXorbInfo.{MDBXorbI
 use Rattle.xet_core_structures.specs.Errors.{CoreResult, variant_number}
 use Rattle.xet_core_structures.specs.FileRecord.{has_verification, has_metadata_ext, has_aux_ext}
 use Rattle.xet_core_structures.specs.Hash.{words_of}
-use Rattle.xet_core_structures.specs.Layout.{layout}
+use Rattle.xet_core_structures.specs.declared.set_operations.FormatVersion.{FormatVersion}
+use Rattle.xet_core_structures.specs.Layout.{layout_in}
+use Rattle.xet_core_structures.specs.WrittenShard.{HasFilesIn}
 use Rattle.shard_bytes.specs.declared.records.Records.{Records}
 use Rattle.shard_bytes.specs.Recording.{shard_of, CanAddRecords}
 use Rattle.xet_c.specs.declared.listed.XetListedFile.{XetListedFile}
@@ -96,26 +98,28 @@ AreListedXorbs = AreListed (λ x. x.chunks) IsListedXorb
 abbrev pub AddUp : {L I : Type 0} → (L → ℕ) → List L → List I → Type 0
 AddUp count ls items = sum_by count ls ≡ length items
 
--- these bytes are the shard of the records in the lists, with this expiry
+-- these bytes are the shard of the records in the lists, in this version and with this expiry
 pub record WritesListed (fs : List XetListedFile) (segments : List XetFileSegment) (xs : List XetListedXorb)
-    (chunks : List XetChunk) (expiry : ℕ) (bytes : List ℕ) : Type 0 where
+    (chunks : List XetChunk) (expiry : ℕ) (version : FormatVersion) (bytes : List ℕ) : Type 0 where
   pub files : List MDBFileInfo
   pub xorbs : List MDBXorbInfo
   pub files_are : AreListedFiles fs segments files
   pub xorbs_are : AreListedXorbs xs chunks xorbs
   pub can : CanAddRecords files xorbs
-  pub bytes_are : bytes ≡ layout (shard_of files xorbs) (Some expiry)
+  pub has_files : HasFilesIn version (shard_of files xorbs)
+  pub bytes_are : bytes ≡ layout_in version (shard_of files xorbs) (Some expiry)
 
 -- why lists are not written: an allocation failed, counts do not add up, or no shard has the records
--- in them
+-- in them, or none of this version
 abbrev pub RefusesListed : List XetListedFile → List XetFileSegment → List XetListedXorb → List XetChunk
-    → CoreError → Type 0
-RefusesListed fs segments xs chunks e =
+    → FormatVersion → CoreError → Type 0
+RefusesListed fs segments xs chunks version e =
     (e ≡ OutOfMemory)
     ⊎ ((e ≡ InvalidArguments)
     × ((¬ AddUp (λ f. f.segments) fs segments) ⊎ (¬ AddUp (λ x. x.chunks) xs chunks)
     ⊎ ((files : List MDBFileInfo) × (xorbs : List MDBXorbInfo) × AreListedFiles fs segments files
-    × AreListedXorbs xs chunks xorbs × (¬ CanAddRecords files xorbs))))
+    × AreListedXorbs xs chunks xorbs
+    × (¬ (CanAddRecords files xorbs × HasFilesIn version (shard_of files xorbs))))))
 
 -- items were written to the front of an output that has room for them, and what is behind stays
 abbrev pub IsPut : {X : Type 0} → List X → (old new : List X) → Type 0

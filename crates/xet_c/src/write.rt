@@ -4,8 +4,10 @@ ghost use Rattle.std.specs.Prelude.{◌≡◌, ◌⊎◌, ◌≤◌, [], ◌∷�
 ghost use Rattle.xet_core_structures.specs.FileRecord.{has_metadata_ext, has_aux_ext};
 ghost use Rattle.xet_c.specs.Arguments.{c_segment};
 ghost use Rattle.xet_c.specs.Walking.{c_chunk};
+ghost use Rattle.xet_core_structures.specs.declared.set_operations.FormatVersion.TheVariants.{V3};
 ghost use Rattle.xet_c.specs.Output.{Outcome};
 ghost use Rattle.xet_c.specs.Recording.{AreHashRows, if_flagged, IsListedFile, IsListedXorb, AreListedFiles, AreListedXorbs, AddUp, WritesListed, RefusesListed};
+ghost use Rattle.xet_c.specs.Versions.{InNumber, NotInNumber};
 
 use crate::listed::{
     XetListedFile, XetListedXorb, chunk_row_of, entry_of, file_header_of, verification_row_of,
@@ -22,6 +24,7 @@ use xet_core_structures::file_structs::{
 };
 use xet_core_structures::merklehash::MerkleHash;
 use xet_core_structures::rows::Rows;
+use xet_core_structures::set_operations::FormatVersion;
 use xet_core_structures::xorb_structs::{MDBXorbInfo, XorbChunkSequenceEntry};
 
 /// The shard that has these files and xorbs, to the front of `out`. The first file has the first
@@ -38,12 +41,62 @@ pub extern "C" fn xet_write(
     out: &mut [u8],
     written: &mut usize,
 ) -> u32
-    ensures { Outcome (WritesListed files.now segments.now xorbs.now chunks.now expiry)
-        (RefusesListed files.now segments.now xorbs.now chunks.now) out.old out.new written.new
-        result }
+    ensures { Outcome (WritesListed files.now segments.now xorbs.now chunks.now expiry V3)
+        (RefusesListed files.now segments.now xorbs.now chunks.now V3) out.old out.new
+        written.new result }
 {
-    let bytes = bytes_of(alloc, files, segments, xorbs, chunks, expiry);
+    let bytes = bytes_of(
+        alloc,
+        files,
+        segments,
+        xorbs,
+        chunks,
+        FormatVersion::V3,
+        expiry,
+    );
     deliver(bytes, out, written)
+}
+
+/// The same in a version of the format, by its number.
+#[unsafe(no_mangle)]
+pub extern "C" fn xet_write_in(
+    alloc: Global,
+    files: &[XetListedFile],
+    segments: &[XetFileSegment],
+    xorbs: &[XetListedXorb],
+    chunks: &[XetChunk],
+    version: u64,
+    expiry: u64,
+    out: &mut [u8],
+    written: &mut usize,
+) -> u32
+    ensures { Outcome
+        (InNumber version (WritesListed files.now segments.now xorbs.now chunks.now expiry))
+        (NotInNumber version (RefusesListed files.now segments.now xorbs.now chunks.now))
+        out.old out.new written.new result }
+{
+    let bytes = bytes_in(alloc, files, segments, xorbs, chunks, version, expiry);
+    deliver(bytes, out, written)
+}
+
+fn bytes_in(
+    alloc: Global,
+    files: &[XetListedFile],
+    segments: &[XetFileSegment],
+    xorbs: &[XetListedXorb],
+    chunks: &[XetChunk],
+    version: u64,
+    expiry: u64,
+) -> Result<Vec<u8>>
+    ensures { MatchResult result
+        (λ bytes. InNumber version
+        (WritesListed files.now segments.now xorbs.now chunks.now expiry) bytes.items)
+        (NotInNumber version (RefusesListed files.now segments.now xorbs.now chunks.now)) }
+{
+    match FormatVersion::of_number(version) {
+        Some(version) => bytes_of(alloc, files, segments, xorbs, chunks, version, expiry),
+        None => Err(CoreError::InvalidArguments),
+    }
 }
 
 fn bytes_of(
@@ -52,15 +105,17 @@ fn bytes_of(
     segments: &[XetFileSegment],
     xorbs: &[XetListedXorb],
     chunks: &[XetChunk],
+    version: FormatVersion,
     expiry: u64,
 ) -> Result<Vec<u8>>
     ensures { MatchResult result
-        (λ bytes. WritesListed files.now segments.now xorbs.now chunks.now expiry bytes.items)
-        (RefusesListed files.now segments.now xorbs.now chunks.now) }
+        (λ bytes. WritesListed files.now segments.now xorbs.now chunks.now expiry version
+        bytes.items)
+        (RefusesListed files.now segments.now xorbs.now chunks.now version) }
 {
     let files = files_of(alloc, files, segments)?;
     let xorbs = xorbs_of(alloc, xorbs, chunks)?;
-    write_records(alloc, files, xorbs, Some(expiry))
+    write_records(alloc, files, xorbs, version, Some(expiry))
 }
 
 // The files of a list, with the segments of another. `InvalidArguments` if the counts of segments

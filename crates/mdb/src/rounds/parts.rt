@@ -19,6 +19,7 @@ use std::io::{Read, Seek, Write};
 use std::rt::{Clock, Files};
 use xet_core_structures::error::CoreError;
 use xet_core_structures::merklehash::MerkleHash;
+use xet_records::record_reader::FormatVersion;
 
 /// A round reads a quarter of the memory for a merge: the union, and the places of the records, take
 /// the rest.
@@ -155,7 +156,7 @@ impl<'a, F: Read + Write + Seek + Drop> Rounds<'a, F> {
         if !self.has_one_key || (strict && !self.findings.is_empty()) {
             return Ok(());
         }
-        let bytes = match merge_bytes(alloc, inputs) {
+        let bytes = match merge_bytes(alloc, inputs, FormatVersion::V3) {
             Ok(bytes) => bytes,
             Err(error) => return Err(self.read_failure(rt, inputs, error)),
         };
