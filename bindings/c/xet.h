@@ -2,7 +2,8 @@
  *
  * Each call takes the bytes of shards, or a hash or its text, and writes to memory of the caller. Nothing is kept
  * between calls: there is no handle, and nothing to free. Shards of versions 2 and 3 of the format are read, and
- * version 3 is written, but where a call names another. Any number of threads may call at once. This file is C99, and C++11.
+ * version 3 is written, but where a call names another. Any number of threads may call at once. This file is C99, and
+ * C++11.
  *
  * xet_export, xet_write_v2, xet_minimal, xet_subset, xet_eligible and xet_check find the two sections behind the
  * header; all other calls that read a shard's records go by the offsets in the footer. So of bytes with a wrong footer

@@ -852,7 +852,8 @@ def test_version_2():
     assert xet_shards.merge(shards, version=2) == xet_shards.merge(shards, version=2, threads=2) == old
     assert xet_shards.merge(shards, strict=True, version=2) == old
     middle = hash_text("101")
-    assert xet_shards.merge(shards, start=middle, version=2) == xet_shards.write_v2(xet_shards.merge(shards, start=middle))
+    part = xet_shards.merge(shards, start=middle)
+    assert xet_shards.merge(shards, start=middle, version=2) == xet_shards.write_v2(part)
     assert xet_shards.merge(shards, start=middle, strict=True, version=2)[32] == 2
     files, xorbs = list(xet_shards.files(shards[0])), list(xet_shards.xorbs(shards[0]))
     assert xet_shards.write(files, xorbs, version=2) == shard.written(version=2)

@@ -111,7 +111,8 @@ def merge_into(
         raise
     except XetError as error:
         blamed = _to_blame(shards, error.number)
-        reason = _OTHER_KEYS if version == 3 or blamed is not None else "a file has a row that the version does not have"
+        new = version != 3 and blamed is None
+        reason = "a file has a row that the version does not have" if new else _OTHER_KEYS
         raise XetError(error.number, blamed, reason) from None
 
 
