@@ -1,7 +1,7 @@
 /* Preloaded into shardtool by .ci/vectors: makes a stream fail, or an allocation.
 
-   STREAM is three numbers: a descriptor, 0 or 1, how many bytes are moved through it, two at a time, and the error of the
-   next call: of each from then on, but of one alone if the error is EINTR.
+   STREAM is three numbers: a descriptor, 0 or 1, how many bytes are moved through it, two at a time, and the error of
+   the next call: of each from then on, but of one alone if the error is EINTR.
    REFUSED is the number of the allocation that is refused, from 1. Then a byte is written to descriptor 2. */
 extern void *__libc_malloc(unsigned long), *__libc_realloc(void *, unsigned long);
 extern long __read(int, void *, unsigned long), __write(int, const void *, unsigned long);

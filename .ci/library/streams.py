@@ -1,4 +1,4 @@
-"""What no script of shardtool shows: inputs and outputs that fail, and allocations that are refused. Used by .ci/vectors."""
+"""What no script of shardtool shows, for .ci/vectors: inputs and outputs that fail, and refused allocations."""
 import os
 import subprocess
 import tempfile
@@ -22,8 +22,8 @@ INPUTS = (
     *((UNREADABLE, left, EINTR, "line 2: unreadable\n", 2) for left in range(13)),
 )
 
-# The output fails after so many bytes: what is printed up to then, and the status. An output that is out of memory can't
-# print the line that says so either.
+# The output fails after so many bytes: what is printed up to then, and the status. An output that is out of memory
+# can't print the line that says so either.
 OUTPUTS = (
     (SIZES, 8, EIO, "344\n344\n", 0),
     (SIZES, 7, EIO, "344\n344", 3),

@@ -170,7 +170,7 @@ static inline size_t xet_union_room(size_t bytes) {
     return bytes / 3 > (SIZE_MAX - 352) / 8 ? SIZE_MAX : 352 + bytes / 3 * 8;
 }
 
-/* The room that is enough for xet_export, xet_write_v2 and xet_complete of so many bytes: 344 bytes, and 4/3 of these. */
+/* The room that is enough for xet_export, xet_write_v2 and xet_complete of so many bytes: 344, and 4/3 of these. */
 static inline size_t xet_export_room(size_t bytes) {
     return bytes / 3 > (SIZE_MAX - 348) / 4 ? SIZE_MAX : 348 + bytes / 3 * 4;
 }
