@@ -270,5 +270,5 @@ def _written(lists: Sequence[Any], expiry: Optional[int], version: int) -> bytes
         lambda out, room, written: _library.xet_write_in(
             *lists, _number(version), time, out, room, byref(written)
         ),
-        "no shard of the version has these records, or their counts do not add up",
+        "no shard has these records, or their counts do not add up",
     )
