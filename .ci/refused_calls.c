@@ -94,7 +94,7 @@ static uint32_t call(int number, size_t *count) {
     size_t differing = 0;
     const char *name = "0000000000000001000000000000000200000000000000030000000000000004.mdb";
     /* These write no count. */
-    if (number == 6 || (number > 25 && number < 33) || number > 35)
+    if (number == 6 || (number > 25 && number < 30) || number > 32)
         *count = 0;
     switch (number) {
     case 0:
@@ -170,18 +170,18 @@ static uint32_t call(int number, size_t *count) {
         return xet_xorb_in(first + info.xorb_section, info.file_table - info.xorb_section, &out.listed.place,
                            &out.listed.xorb, out.listed.chunks, 100);
     case 30:
-        return xet_hash_from_hex((const uint8_t *)name, 64, out.hashes);
-    case 31:
-        return xet_parse_shard_name((const uint8_t *)name, 68, out.hashes);
-    case 32:
-        return xet_hash_bytes(&file, first, first_length, out.hashes) | xet_hmac(&file, chunks, out.hashes);
-    case 33:
         return xet_merge_in(both, 2, 3, out.bytes, ROOM, count);
-    case 34:
+    case 31:
         return xet_merge_range_in(both, 2, &all, 3, out.bytes, ROOM, count);
-    case 35:
+    case 32:
         return xet_write_in(files, counts.files, segments, counts.segments, xorbs, counts.xorbs, chunks_of_xorbs,
                             counts.chunks, 3, UINT64_MAX, out.bytes, ROOM, count);
+    case 33:
+        return xet_hash_from_hex((const uint8_t *)name, 64, out.hashes);
+    case 34:
+        return xet_parse_shard_name((const uint8_t *)name, 68, out.hashes);
+    case 35:
+        return xet_hash_bytes(&file, first, first_length, out.hashes) | xet_hmac(&file, chunks, out.hashes);
     default:
         return xet_version() == XET_VERSION_NUMBER ? xet_load(first, first_length, &out.info) : XET_OTHER;
     }

@@ -226,11 +226,7 @@ pub fn merge_range<T: AsRef<[u8]>>(shards: &[T], range: impl RangeBounds<Hash>) 
 /// # Ok(())
 /// # }
 /// ```
-pub fn merge_range_in<T: AsRef<[u8]>>(
-    shards: &[T],
-    range: impl RangeBounds<Hash>,
-    version: u64,
-) -> Result<Vec<u8>> {
+pub fn merge_range_in<T: AsRef<[u8]>>(shards: &[T], range: impl RangeBounds<Hash>, version: u64) -> Result<Vec<u8>> {
     let range = range_of(range);
     let (list, length) = listed(shards)?;
     bytes_of(length, |out, written| calls::xet_merge_range_in(&list, &range, version, out, written))

@@ -136,7 +136,10 @@ fn file_with(it: &calls::ListedFile, segments: &[calls::FileSegment]) -> ListedF
 /// # }
 /// ```
 pub fn write_records(files: &[ListedFile], xorbs: &[Xorb], expiry: Option<u64>) -> Result<Vec<u8>> {
-    write_records_in(files, xorbs, 3, expiry)
+    let expiry = expiry.unwrap_or(NO_EXPIRY);
+    written(files, xorbs, |files, segments, xorbs, chunks, out, written| {
+        calls::xet_write(files, segments, xorbs, chunks, expiry, out, written)
+    })
 }
 
 /// What [`write_records`] makes, in a version of the format, 2 or 3.
@@ -154,20 +157,31 @@ pub fn write_records(files: &[ListedFile], xorbs: &[Xorb], expiry: Option<u64>) 
 /// # Ok(())
 /// # }
 /// ```
-pub fn write_records_in(
+pub fn write_records_in(files: &[ListedFile], xorbs: &[Xorb], version: u64, expiry: Option<u64>) -> Result<Vec<u8>> {
+    let expiry = expiry.unwrap_or(NO_EXPIRY);
+    written(files, xorbs, |files, segments, xorbs, chunks, out, written| {
+        calls::xet_write_in(files, segments, xorbs, chunks, version, expiry, out, written)
+    })
+}
+
+/// What a call writes of these records, given as four lists.
+fn written(
     files: &[ListedFile],
     xorbs: &[Xorb],
-    version: u64,
-    expiry: Option<u64>,
+    call: impl Fn(
+        &[calls::ListedFile],
+        &[calls::FileSegment],
+        &[calls::ListedXorb],
+        &[Chunk],
+        &mut [u8],
+        &mut usize,
+    ) -> u32,
 ) -> Result<Vec<u8>> {
     let (files, segments) = file_lists(files)?;
     let (xorbs, chunks) = xorb_lists(xorbs)?;
     // As xet_write_room of xet.h.
     let room = 344 + 156 * files.len() + 96 * segments.len() + 60 * xorbs.len() + 64 * chunks.len();
-    let expiry = expiry.unwrap_or(NO_EXPIRY);
-    filled(room, |out, written| {
-        calls::xet_write_in(&files, &segments, &xorbs, &chunks, version, expiry, out, written)
-    })
+    filled(room, |out, written| call(&files, &segments, &xorbs, &chunks, out, written))
 }
 
 /// The files as the library takes a list of them, and their segments.
