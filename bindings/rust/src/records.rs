@@ -168,14 +168,7 @@ pub fn write_records_in(files: &[ListedFile], xorbs: &[Xorb], version: u64, expi
 fn written(
     files: &[ListedFile],
     xorbs: &[Xorb],
-    call: impl Fn(
-        &[calls::ListedFile],
-        &[calls::FileSegment],
-        &[calls::ListedXorb],
-        &[Chunk],
-        &mut [u8],
-        &mut usize,
-    ) -> u32,
+    call: impl Fn(&[calls::ListedFile], &[calls::FileSegment], &[calls::ListedXorb], &[Chunk], &mut [u8], &mut usize) -> u32,
 ) -> Result<Vec<u8>> {
     let (files, segments) = file_lists(files)?;
     let (xorbs, chunks) = xorb_lists(xorbs)?;
