@@ -106,7 +106,7 @@ def check_example(room, flags, wanted):
     with open(f"{room}/cut.mdb", "wb") as file:
         file.write(wanted[:100])
     printed = ran(program, "first.mdb", "cut.mdb", "c_union.mdb", cwd=room)[0]
-    return None if "cut.mdb: Io\n" in printed else f"example.c prints of a shard that is cut short: {printed}"
+    return None if "cut.mdb: the bytes end too early" in printed else f"example.c prints of a shard that is cut short: {printed}"
 
 
 # The results that calls on corrupted shards must have shown for a run to have tried anything.
