@@ -1,0 +1,11 @@
+pub mod Additions
+pub mod Collecting
+pub mod Emptied
+pub mod FileSegments
+pub mod Filtered
+pub mod Limits
+pub mod Ordered
+pub mod Runs
+pub mod Searching
+pub mod Seen
+pub mod Starts

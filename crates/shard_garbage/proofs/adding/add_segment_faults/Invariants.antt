@@ -1,0 +1,12 @@
+use Rattle.std.proofs.Common.{length, ◌-◌}
+use Rattle.shard_garbage.specs.Garbage.{IsOfSegment}
+use Rattle.shard_garbage.specs.Steps.{Adds}
+use Rattle.shard_garbage.proofs.Additions.{IsUpTo}
+use Rattle.shard_garbage.proofs.adding.add_segment_faults.Given as goal
+
+abbrev pub invariant-loop-index : goal.invariant-loop-index
+invariant-loop-index l =
+    Adds (IsUpTo (λ s. l.xorb.metadata.xorb_hash) (λ s. IsOfSegment s l.xorb) l.segments l.index) l.fn.found.items l.found.items
+
+abbrev pub decreases-loop-index : goal.decreases-loop-index
+decreases-loop-index l = length l.segments - l.index

@@ -1,0 +1,38 @@
+-- The orders of segments and of findings: both first that of the hashes of xorbs.
+use Rattle.std.specs.Prelude.{Bool, not, List}
+use Rattle.std.specs.List.Sorted.{IsStrictlySortedBy}
+use Rattle.std.specs.Ordering.{is_lt, nat_cmp, ordering_then}
+use Rattle.std.specs.declared.cmp.Ordering.{Ordering}
+use Rattle.xet_base.specs.declared.merklehash.DataHash.{DataHash}
+use Rattle.xet_base.specs.Hash.{hash_cmp}
+use Rattle.shard_garbage.specs.declared.finding.Fault.{Fault}
+use Rattle.shard_garbage.specs.declared.finding.Finding.{Finding}
+use Rattle.shard_garbage.specs.declared.finding.Segment.{Segment}
+use Rattle.shard_garbage.specs.contracts.finding.FaultOrd as fault_order
+
+-- segments in the order of their fields
+abbrev pub segment_cmp : Segment → Segment → Ordering
+segment_cmp s t =
+    ordering_then (hash_cmp s.xorb t.xorb) (ordering_then (hash_cmp s.file t.file)
+    (ordering_then (nat_cmp s.index t.index) (ordering_then (nat_cmp s.start t.start)
+    (ordering_then (nat_cmp s.end t.end) (nat_cmp s.bytes t.bytes)))))
+
+-- whether a segment names a hash below one
+abbrev pub is_before : DataHash → Segment → Bool
+is_before hash s = is_lt (hash_cmp s.xorb hash)
+
+-- whether a segment names a hash that is not above one
+abbrev pub is_up_to : DataHash → Segment → Bool
+is_up_to hash s = not (is_lt (hash_cmp hash s.xorb))
+
+-- faults in the order of the variants, and then of their fields
+abbrev pub fault_cmp : Fault → Fault → Ordering
+fault_cmp = (fault_order.TheImpl.ghosts).cmp
+
+-- findings in the order of their hashes, and then of their faults
+abbrev pub finding_cmp : Finding → Finding → Ordering
+finding_cmp f g = ordering_then (hash_cmp f.xorb g.xorb) (fault_cmp f.fault g.fault)
+
+-- each finding is above the one before it
+abbrev pub Ascend : List Finding → Type 0
+Ascend found = IsStrictlySortedBy finding_cmp found
