@@ -14,7 +14,12 @@ use xet_core_structures::serialization_utils::{
 pub fn write_number<W: Write>(kind: &str, word: &str, output: &mut W) -> Result<usize, Stop> {
     match kind {
         "hash" => write_hash(output, &parse_hash(word)?)?,
-        "u8" => write_u8(output, parse_u32(word)? as u8)?,
+        "u8" => {
+            let Ok(number) = u8::try_from(parse_u32(word)?) else {
+                return Err(Stop::Unreadable);
+            };
+            write_u8(output, number)?;
+        }
         "u32" => write_u32(output, parse_u32(word)?)?,
         "u64" => write_u64(output, parse_u64(word)?)?,
         "u32s" => write_u32s(output, &[parse_u32(word)?; 3])?,
