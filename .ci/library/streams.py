@@ -56,7 +56,7 @@ sha 0000000000000003000000000000000100000000000000000000000000000000
 4846
 """
 # It makes more than so many, so that a refusal that nothing shows does not end the runs unseen.
-LEAST_ALLOCATIONS = 50
+LEAST_ALLOCATIONS = 40
 OUT_OF_MEMORY = "refused: OutOfMemory\n"
 
 
