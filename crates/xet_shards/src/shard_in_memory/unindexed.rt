@@ -129,7 +129,7 @@ impl UnindexedShard {
             version,
             ..LayoutOptions::plain(expiry)
         };
-        let mut bytes = Vec::new(alloc);
+        let mut bytes = Vec::with_capacity(alloc, self.size_in_bytes())?;
         match write_maps(
             alloc,
             &mut bytes,
@@ -141,6 +141,18 @@ impl UnindexedShard {
             // Writing to a vector fails only if it is out of memory.
             Err(_) => Err(CoreError::OutOfMemory),
         }
+    }
+
+    // The size of the shard in bytes: memory is reserved for it before it is written.
+    fn size_in_bytes(&self) -> usize {
+        let xorbs = self.xorbs.len() as u64;
+        let chunks = self.xorb_rows.saturating_sub(xorbs);
+        let xorb_bytes = self.xorb_rows.saturating_mul(48);
+        let table_bytes = chunks
+            .saturating_mul(16)
+            .saturating_add(xorbs.saturating_mul(12));
+        let size = self.files.shard_file_size();
+        size.saturating_add(xorb_bytes).saturating_add(table_bytes) as usize
     }
 
     // Does nothing. Its contract says that the records make a shard.

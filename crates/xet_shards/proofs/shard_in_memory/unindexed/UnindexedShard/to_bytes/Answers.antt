@@ -33,5 +33,5 @@ returns-in-Ok-clause-bytes c =
     let xorbs = map-id (values_of c.self.inside.xorbs.entries) ∙ sym (ap values_of (entries-from_sorted hash_cmp _ c.self.invariant.sorted)) ∙ ap (λ (s : Shard). values s.xorbs) c.self.view_is in
     let options : record c.plain.result { version = version } ≡ _ = ap (λ (o : LayoutOptions). record o { version = version }) c.plain.ensures in (
       c.has_files_in.ensures.0 c.if-not-has_files_in.false,
-      c.in-Ok.ensures.bytes ∙ (λ i. c.new-bytes.ensures.items i ++ layout_of (files i) (xorbs i) (options i)),
+      c.in-Ok.ensures.bytes ∙ (λ i. c.in_ok-bytes.ensures.items i ++ layout_of (files i) (xorbs i) (options i)),
     )
