@@ -12,6 +12,9 @@
 //! the next. Then `write_rows` and `write_tables` copy, and `write_merged_rows` merges the chunk
 //! tables by a heap. It compares each row with the one before, so the rows that it writes ascend,
 //! whatever the tables.
+//!
+//! `filling` concatenates to a slice, which stays as it is after an error. So it tests all tables
+//! first, each by one pass, and merges once.
 
 pub(super) mod chunk_merging;
 pub(crate) mod filling;

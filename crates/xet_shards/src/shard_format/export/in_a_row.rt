@@ -183,9 +183,9 @@ pub(super) fn write_gathered_parts<W: Write>(
     Ok(MDBShardInfo { header, metadata })
 }
 
-// The footer of the shard that has the records of all parts, from the sums over the parts and the
-// number of all chunks.
-fn footer_of_parts(totals: &Totals, chunks: u32, key: HMACKey) -> MDBShardFileFooter
+/// The footer of the shard that has the records of all parts, from the sums over the parts and the
+/// number of all chunks.
+pub(super) fn footer_of_parts(totals: &Totals, chunks: u32, key: HMACKey) -> MDBShardFileFooter
     ensures value { (files : List MDBFileInfo) → (xorbs : List MDBXorbInfo) → All FitsRecord files
         → HasTotals totals.now files xorbs → chunks + totals.now.xorbs ≡ totals.now.xorb_rows
         → result ≡ footer_value files xorbs (options_under key) }
