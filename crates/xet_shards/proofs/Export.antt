@@ -6,6 +6,7 @@ pub mod Permutations
 pub mod PartSplit
 pub mod Rewriting
 pub mod ChunkMerging
+pub mod TableMerge
 pub mod ChunkChecking
 pub mod Filling
 pub mod Gathering

@@ -2,9 +2,10 @@
 use Rattle.std.specs.Prelude.{◌≡◌, ℕ, List, ◌++◌, All, None, map, flat_map, take}
 use Rattle.xet_shards.specs.declared.shard_format.ends.info.MDBShardInfo.{MDBShardInfo}
 use Rattle.xet_shards.specs.declared.shard_format.export.chunk_merging.Cursor.{Cursor}
-use Rattle.xet_shards.specs.declared.shard_format.export.chunk_merging.MergedRows.{MergedRows}
 use Rattle.xet_shards.specs.declared.shard_format.export.filling.EndBytes.{EndBytes}
-use Rattle.xet_shards.specs.Steps.ChunkMerging.{HoldsRows, rows_held, HaveLeft}
+use Rattle.xet_shards.specs.declared.shard_format.export.table_merge.TableMerge.{TableMerge}
+use Rattle.xet_shards.specs.declared.shard_format.export.table_merge.TableMerge.TheVariants.{Few, Many}
+use Rattle.xet_shards.specs.Steps.ChunkMerging.{HoldsRows, rows_held, HoldFew, HaveLeft}
 use Rattle.xet_shards.specs.Write.Layout.{shard_header_bytes, shard_footer_bytes}
 use Rattle.xet_shards.specs.Write.Tables.{ChunkTableRow}
 
@@ -17,7 +18,10 @@ pub record HasBothEnds (info : MDBShardInfo) (ends : EndBytes) : Type 0 where
   pub header : ends.header.items ≡ shard_header_bytes info.header
   pub footer : ends.footer.items ≡ shard_footer_bytes info.metadata
 
--- no row was taken yet, and where tables have whole rows that ascend, these rows are left
-pub record HoldAll (cursors : List Cursor) (merged : MergedRows) : Type 0 where
-  pub last : merged.last ≡ None
-  pub left : (held : List (Cursor × List ChunkTableRow)) → map (λ h. h.0) held ≡ cursors → All HoldsRows held → HaveLeft (flat_map rows_held held) merged
+-- where tables have whole rows that ascend, these rows are left
+abbrev pub HoldAll : List Cursor → TableMerge → Type 0
+HoldAll cursors (Few heads) =
+    (held : List (Cursor × List ChunkTableRow)) → map (λ h. h.0) held ≡ cursors → All HoldsRows held → HoldFew (flat_map rows_held held) heads.items
+HoldAll cursors (Many merged) =
+    (merged.last ≡ None)
+    × ((held : List (Cursor × List ChunkTableRow)) → map (λ h. h.0) held ≡ cursors → All HoldsRows held → HaveLeft (flat_map rows_held held) merged)

@@ -14,7 +14,8 @@
 //! whatever the tables.
 //!
 //! `filling` concatenates to a slice, which stays as it is after an error. So it tests all tables
-//! first, each by one pass, and merges once.
+//! first, each by one pass, and `put_merged_tables` merges them: a few by a scan of their next rows,
+//! more by the heap.
 
 pub(super) mod chunk_merging;
 pub(crate) mod filling;
@@ -26,3 +27,4 @@ pub(super) mod part_order;
 pub(super) mod part_split;
 pub(crate) mod rewriting;
 pub(super) mod section_parts;
+pub(super) mod table_merge;

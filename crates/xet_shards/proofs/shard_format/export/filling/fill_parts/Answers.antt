@@ -29,17 +29,17 @@ returns-in_err-info-clause-causes c =
     let p = err_from_is_err_and c.from_residual-in_err-info.result c.from_residual-in_err-info.ensures.1 in
     rw (p.1) (subst (RefusesShardsInARow (map (λ (x : Bor (List ℕ)). x.now) c.args.shards.now)) (sym p.2) (inr (inr c.in_err-info.ensures.causes)), refl)
 
-pub returns-in_err-merged-clause-succeeds : goal.returns-in_err-merged-clause-succeeds
-returns-in_err-merged-clause-succeeds c = λ key parts row are.
+pub returns-in_err-merge-clause-succeeds : goal.returns-in_err-merge-clause-succeeds
+returns-in_err-merge-clause-succeeds c = λ key parts row are.
     let tables = (c.in_ok-gathered.ensures.gathered key parts row.fit are).1.tables_held in
-    let lacks = c.in_err-merged.ensures.held tables.held (tables.cursors_are ∙ sym c.as_slice.ensures.value) tables.hold in
-    let p = err_from_is_err_and c.from_residual-in_err-merged.result c.from_residual-in_err-merged.ensures.1 in
+    let lacks = c.in_err-merge.ensures.succeeds tables.held (tables.cursors_are ∙ sym c.as_slice.ensures.value) tables.hold in
+    let p = err_from_is_err_and c.from_residual-in_err-merge.result c.from_residual-in_err-merge.ensures.1 in
     rw (p.1) (p.2 ∙ lacks)
 
-pub returns-in_err-merged-clause-causes : goal.returns-in_err-merged-clause-causes
-returns-in_err-merged-clause-causes c =
-    let p = err_from_is_err_and c.from_residual-in_err-merged.result c.from_residual-in_err-merged.ensures.1 in
-    rw (p.1) (subst (RefusesShardsInARow (map (λ (x : Bor (List ℕ)). x.now) c.args.shards.now)) (sym p.2) (inr (inr c.in_err-merged.ensures.causes)), refl)
+pub returns-in_err-merge-clause-causes : goal.returns-in_err-merge-clause-causes
+returns-in_err-merge-clause-causes c =
+    let p = err_from_is_err_and c.from_residual-in_err-merge.result c.from_residual-in_err-merge.ensures.1 in
+    rw (p.1) (subst (RefusesShardsInARow (map (λ (x : Bor (List ℕ)). x.now) c.args.shards.now)) (sym p.2) (inr (inr c.in_err-merge.ensures.causes)), refl)
 
 pub returns-clause-order : goal.returns-clause-order
 returns-clause-order c = λ key parts fit are each. c.in_ok-gathered.ensures.order key parts fit are each
@@ -55,6 +55,6 @@ pub returns-clause-parts : goal.returns-clause-parts
 returns-clause-parts c = λ key parts fit are.
     let (same, held) = c.in_ok-gathered.ensures.gathered key parts fit are in
     let widths = parts_fit key parts fit in
-    let holds : HoldAll c.in_ok-gathered.gathered.cursors.items c.in_ok-merged.merged = record { last = c.in_ok-merged.ensures.last; left = λ tables tables_are hold. c.in_ok-merged.ensures.held tables (tables_are ∙ sym c.as_slice.ensures.value) hold } in
+    let holds : HoldAll c.in_ok-gathered.gathered.cursors.items c.in_ok-merge.merge = subst (λ cs. HoldAll cs c.in_ok-merge.merge) c.as_slice.ensures.value c.in_ok-merge.ensures.held in
     subst (λ k. Fills (layout_of (files_in parts) (xorbs_in parts) (options_under k)) c.args.out.now c.put_at_front-size.new.out c.put_at_front-size.result) same
     (c.put_at_front-size.ensures.parts parts held widths (returns-clause-rows c key parts fit are) (c.in_ok-info.ensures.info parts held widths) holds)
