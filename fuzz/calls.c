@@ -139,13 +139,17 @@ static void check_disagreement(const struct input *input, const struct block *fo
     require(differing == 0 || is_of_two(input, &first), "the disagreement is not of two shards");
 }
 
-static uint32_t call_merge_agreeing(const struct input *input, void *out, size_t capacity, size_t *written) {
+/* In version 3 by the call that takes none. */
+static uint32_t merge_agreeing(const struct input *input, uint64_t version, void *out, size_t capacity,
+                               size_t *written) {
     xet_bytes list[SHARDS];
     list_shards(input, list);
     struct block found = new_struct(input, sizeof(xet_disagreement));
     size_t differing = 12345;
     void *first = found.bytes;
-    uint32_t error = xet_merge_agreeing(list, input->count, out, capacity, written, &differing, first);
+    uint32_t error =
+        version == 3 ? xet_merge_agreeing(list, input->count, out, capacity, written, &differing, first)
+                     : xet_merge_agreeing_in(list, input->count, version, out, capacity, written, &differing, first);
     if (error == XET_MALFORMED) {
         require(differing == 0, "the count of disagreements is another");
         check_malformed(input, &found, true);
@@ -154,6 +158,14 @@ static uint32_t call_merge_agreeing(const struct input *input, void *out, size_t
     }
     free_block(&found);
     return within_room(error, bytes_of(list, input->count), *written);
+}
+
+static uint32_t call_merge_agreeing(const struct input *input, void *out, size_t capacity, size_t *written) {
+    return merge_agreeing(input, 3, out, capacity, written);
+}
+
+static uint32_t call_merge_agreeing_in(const struct input *input, void *out, size_t capacity, size_t *written) {
+    return merge_agreeing(input, 2, out, capacity, written);
 }
 
 /* The order of disagreements: those of files first, then by the hash. */
@@ -372,6 +384,7 @@ static const struct filling fillings[] = {
     {"xet_merge_range_in", 1, OF_MERGING, call_merge_range_in, 2},
     {"xet_concatenate", 1, OF_MERGING, call_concatenate, 3},
     {"xet_merge_agreeing", 1, OF_MERGING | BIT(XET_DISAGREE) | BIT(XET_MALFORMED), call_merge_agreeing, 3},
+    {"xet_merge_agreeing_in", 1, OF_MERGING | BIT(XET_DISAGREE) | BIT(XET_MALFORMED), call_merge_agreeing_in, 2},
     {"xet_find_disagreements", sizeof(xet_disagreement), OF_SECTIONS, call_find_disagreements, 0},
     {"xet_export", 1, OF_MERGING, call_export, 3},
     {"xet_minimal", 1, OF_SECTIONS, call_minimal, 3},

@@ -324,6 +324,13 @@ uint32_t xet_find_malformed(const xet_bytes *shards, size_t count, bool *malform
 uint32_t xet_merge_agreeing(const xet_bytes *shards, size_t count, uint8_t *out, size_t capacity, size_t *written,
                             size_t *differing, xet_disagreement *found);
 
+/* The same in a version of the format, 2 or 3.
+ *
+ * XET_INVALID_ARGUMENTS: first of all if it is another version; if it is 2, and a file of the merge has an auxiliary
+ *     row, with the other errors of xet_merge. */
+uint32_t xet_merge_agreeing_in(const xet_bytes *shards, size_t count, uint64_t version, uint8_t *out, size_t capacity,
+                               size_t *written, size_t *differing, xet_disagreement *found);
+
 /* Writes the difference of two shards of one key: the second's records whose hashes the first does not have.
  *
  * The errors are those of xet_union, without that of files that have to be combined. */

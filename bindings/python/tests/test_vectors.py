@@ -870,6 +870,30 @@ def test_version_2():
     refused("InvalidArguments", xet_shards.write, list(xet_shards.files(shards[1])), xorbs, version=2)
 
 
+def in_version_2(shard):
+    """Returns the bytes of a shard without auxiliary rows in version 2: the number in its header is another."""
+    return shard[:32] + bytes([2, 0, 0, 0, 0, 0, 0, 0]) + shard[40:]
+
+
+def test_strict_merges_in_version_2():
+    shards = [Shard() for _ in range(3)]
+    for it in shards:
+        it.add_file("100", "200:0:5:5")
+    shards[1].add_file("101", "x=777", "200:0:5:5")
+    shards[2].add_file("101", "200:0:6:5")
+    one, new, unlike = (it.written() for it in shards)
+    assert xet_shards.merge([one, in_version_2(one)], strict=True, version=2) == in_version_2(one)
+    assert xet_shards.merge([one, new], strict=True) == new
+    room = bytearray(b"7" * 1000)
+    for version in (2, 4):
+        refused("InvalidArguments", xet_shards.merge_into, [one, new], room, strict=True, version=version)
+    # What is not well-formed, or does not agree, comes before rows that the version does not have, and the number of
+    # no version before all.
+    raises(xet_shards.DisagreementError, xet_shards.merge_into, [new, unlike], room, strict=True, version=2)
+    refused("InvalidArguments", xet_shards.merge_into, [new, unlike], room, strict=True, version=4)
+    assert room == b"7" * 1000
+
+
 def test_merge():
     # These scripts print one byte string of three trees over three shards, and merge gives it, in any order. The shards
     # of merge_02 don't agree.

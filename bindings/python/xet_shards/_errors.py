@@ -19,6 +19,7 @@ _DISAGREE = 20
 _MALFORMED = 21
 # Why calls do not admit their arguments.
 _OTHER_KEYS = "the keys of the shards differ"
+_NEW_ROWS = "a file has a row that the version does not have"
 _NO_WHOLE_ROWS = "the bytes are no whole rows of a table"
 # Of the errors that calls raise.
 _SENTENCES = {

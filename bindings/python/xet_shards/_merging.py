@@ -7,8 +7,8 @@ from typing import Any, Callable, Iterable, List, Optional, Sequence
 from ._arguments import _number, _text, _words
 from ._calls import _library
 from ._errors import (
-    _DISAGREE, _INVALID_ARGUMENTS, _MALFORMED, _OTHER_KEYS, _SHORT, Disagreement, DisagreementError, MalformedError,
-    MalformedRecord, XetError, _check,
+    _DISAGREE, _INVALID_ARGUMENTS, _MALFORMED, _NEW_ROWS, _OTHER_KEYS, _SHORT, Disagreement, DisagreementError,
+    MalformedError, MalformedRecord, XetError, _check,
 )
 from ._lookups import load
 from ._memory import Buffer, WritableBuffer, _Addresses, _filled, _list, _made, _output_apart, _written_bytes
@@ -104,16 +104,15 @@ def merge_into(
     try:
         if start is not None or stop is not None:
             return _merge_range_to(shards, out, strict, start, stop, version)
-        if strict and version == 3:
-            return _merge_strictly_to(shards, out)
-        return _merge_in_to(shards, out, strict, version)
+        if strict:
+            return _merge_strictly_to(shards, out, version)
+        return _merge_in_to(_library.xet_merge_in, shards, out, version)
     except (DisagreementError, MalformedError):
         raise
     except XetError as error:
         blamed = _to_blame(shards, error.number)
         new = version != 3 and blamed is None
-        reason = "a file has a row that the version does not have" if new else _OTHER_KEYS
-        raise XetError(error.number, blamed, reason) from None
+        raise XetError(error.number, blamed, _NEW_ROWS if new else _OTHER_KEYS) from None
 
 
 def _to_blame(shards: Sequence[Buffer], number: int) -> Optional[int]:
@@ -154,11 +153,18 @@ def _merge_to(call: Callable[..., Any], shards: Sequence[Buffer], out: WritableB
     return written.value
 
 
-def _merge_strictly_to(shards: Sequence[Buffer], out: WritableBuffer) -> int:
+def _merge_in_to(call: Callable[..., Any], shards: Sequence[Buffer], out: WritableBuffer, version: int) -> int:
+    return _merge_to(lambda listed, count, *output: call(listed, count, _number(version), *output), shards, out)
+
+
+def _merge_strictly_to(shards: Sequence[Buffer], out: WritableBuffer, version: int) -> int:
     differing, found = c_size_t(), _Disagreement()
     try:
-        return _merge_to(
-            lambda *arguments: _library.xet_merge_agreeing(*arguments, byref(differing), byref(found)), shards, out
+        return _merge_in_to(
+            lambda *arguments: _library.xet_merge_agreeing_in(*arguments, byref(differing), byref(found)),
+            shards,
+            out,
+            version,
         )
     except XetError as error:
         if error.number == _MALFORMED:
@@ -166,14 +172,6 @@ def _merge_strictly_to(shards: Sequence[Buffer], out: WritableBuffer) -> int:
         if error.number == _DISAGREE:
             raise DisagreementError(_disagreement(found, differing.value)) from None
         raise
-
-
-def _merge_in_to(shards: Sequence[Buffer], out: WritableBuffer, strict: bool, version: int) -> int:
-    if strict:
-        _check_agreement(shards)
-    return _merge_to(
-        lambda listed, count, *output: _library.xet_merge_in(listed, count, _number(version), *output), shards, out
-    )
 
 
 def _merge_range_to(

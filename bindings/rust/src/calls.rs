@@ -59,6 +59,10 @@ library! {
     fn xet_merge_agreeing(
         shards: &[Bytes], out: &mut [u8], written: &mut usize, differing: &mut usize, found: &mut Disagreement,
     ) -> u32;
+    fn xet_merge_agreeing_in(
+        shards: &[Bytes], version: u64, out: &mut [u8], written: &mut usize, differing: &mut usize,
+        found: &mut Disagreement,
+    ) -> u32;
     fn xet_difference(first: &[u8], second: &[u8], out: &mut [u8], written: &mut usize) -> u32;
     fn xet_export(shard: &[u8], options: &Export, out: &mut [u8], written: &mut usize) -> u32;
     fn xet_minimal(

@@ -357,11 +357,39 @@ pub fn concatenate_into<T: AsRef<[u8]>>(shards: &[T], out: &mut [u8]) -> Result<
 /// # }
 /// ```
 pub fn merge_agreeing<T: AsRef<[u8]>>(shards: &[T]) -> Result<Vec<u8>> {
+    merge_if_agreeing(shards, calls::xet_merge_agreeing)
+}
+
+/// What [`merge_agreeing`] makes, in a version of the format, 2 or 3.
+///
+/// # Errors
+///
+/// `InvalidArguments` if it is another version. Else those of [`merge_agreeing`], with `InvalidArguments` also if it is
+/// 2, and a file of the merge has an auxiliary row.
+///
+/// ```
+/// # fn main() -> Result<(), Box<dyn std::error::Error>> {
+/// let shards = [std::fs::read("examples/a.mdb")?, std::fs::read("examples/b.mdb")?];
+/// assert_eq!(xet_shards::merge_agreeing_in(&shards, 2)?, xet_shards::merge_in(&shards, 2)?);
+/// # Ok(())
+/// # }
+/// ```
+pub fn merge_agreeing_in<T: AsRef<[u8]>>(shards: &[T], version: u64) -> Result<Vec<u8>> {
+    merge_if_agreeing(shards, |list, out, written, count, first| {
+        calls::xet_merge_agreeing_in(list, version, out, written, count, first)
+    })
+}
+
+/// What a call of the library makes that looks for what is malformed or does not agree.
+fn merge_if_agreeing<T: AsRef<[u8]>>(
+    shards: &[T],
+    call: impl Fn(&[Bytes<'_>], &mut [u8], &mut usize, &mut usize, &mut calls::Disagreement) -> u32,
+) -> Result<Vec<u8>> {
     let (list, length) = listed(shards)?;
     let mut found = None;
     let merged = bytes_of(length, |out, written| {
         let (mut count, mut first) = (0, calls::Disagreement::default());
-        let number = calls::xet_merge_agreeing(&list, out, written, &mut count, &mut first);
+        let number = call(&list, out, written, &mut count, &mut first);
         found = match number {
             DISAGREE => Some(Error::Disagree(Disagreement::of(&first, count))),
             MALFORMED => Some(Error::Malformed(MalformedRecord::of(&first))),

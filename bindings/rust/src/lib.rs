@@ -36,7 +36,8 @@ mod write;
 
 pub use combine::{
     concatenate, concatenate_into, difference, find_disagreement, find_disagreements, find_malformed, merge,
-    merge_agreeing, merge_in, merge_range, merge_range_in, union, Disagreement, MalformedRecord, RecordHash,
+    merge_agreeing, merge_agreeing_in, merge_in, merge_range, merge_range_in, union, Disagreement, MalformedRecord,
+    RecordHash,
 };
 pub use error::Error;
 pub use finding::{check, Finding, Part};

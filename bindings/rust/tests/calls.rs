@@ -196,9 +196,14 @@ fn version_2_without_auxiliary_rows() {
     assert_eq!(xet_shards::merge_in(&[&new, &old], 2), Ok(old.clone()));
     assert_eq!(xet_shards::merge_in(&[&new, &old], 3), Ok(new.clone()));
     assert_eq!(xet_shards::merge_in(&[&new, &old], 4), Err(Error::InvalidArguments));
-    assert_eq!(xet_shards::merge_range_in(&[&new], .., 2), Ok(old));
+    assert_eq!(xet_shards::merge_range_in(&[&new], .., 2).as_ref(), Ok(&old));
+    assert_eq!(xet_shards::merge_agreeing_in(&[&old, &new], 2).as_ref(), Ok(&old));
     shard.add_file(&["101", "x=777", "200:0:5:5"]);
     assert_eq!(xet_shards::write_v2(&shard.written(7, 3)), Err(Error::InvalidArguments));
+    let aux = shard.written(NO_EXPIRY, 3);
+    for (shard, version) in [(&aux, 2), (&new, 4)] {
+        assert_eq!(xet_shards::merge_agreeing_in(&[shard], version), Err(Error::InvalidArguments));
+    }
 }
 
 #[test]

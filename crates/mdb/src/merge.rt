@@ -315,7 +315,7 @@ fn united_agreeing<'a>(
         (λ bytes. UnitesTo Strictness.Strict (map (λ x. x.now) inputs.now) bytes.items)
         (RefusesUnion Strictness.Strict files.now (map (λ x. x.now) inputs.now)) }
 {
-    match merge_agreeing_bytes(alloc, inputs) {
+    match merge_agreeing_bytes(alloc, inputs, FormatVersion::V3) {
         Ok(AgreeingMerge::Bytes(bytes)) => Ok(bytes),
         Ok(AgreeingMerge::Disagreements(found)) => {
             Err(disagreement_under(files, &found[0], found.len()))

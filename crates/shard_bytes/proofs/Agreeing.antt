@@ -22,18 +22,22 @@ use Rattle.xet_core_structures.specs.Records.ShardContents.{HasShard, HoldsShard
 use Rattle.xet_core_structures.specs.Joins.{AgreePairwise}
 use Rattle.xet_core_structures.specs.Shard.{Shard, IsShard}
 use Rattle.xet_core_structures.specs.Errors.{CoreResult}
-use Rattle.xet_core_structures.specs.Trees.MergeTrees.{leaves, TreeRefusal}
+use Rattle.xet_core_structures.specs.Trees.InVersions.{MadeIn, TreeRefusalIn}
+use Rattle.xet_core_structures.specs.Trees.MergeTrees.{leaves}
+use Rattle.xet_core_structures.specs.declared.set_operations.FormatVersion.{FormatVersion}
 use Rattle.xet_core_structures.proofs.Agreement.AgreeingTrees.{of_hash, held_agree, agreeing_tree}
 use Rattle.xet_core_structures.proofs.Agreement.Malformed.{held_formed}
 use Rattle.xet_core_structures.proofs.Records.ShardContents.{only_shard}
 use Rattle.xet_core_structures.proofs.Records.Items.{has_at, at_of}
 use Rattle.xet_core_structures.proofs.Records.Zipped.{zip_at, zip_back, zipped_member}
+use Rattle.xet_core_structures.proofs.Trees.InVersions.{made_as}
 use Rattle.xet_core_structures.proofs.Trees.SameTrees.{join_of_same}
 use Rattle.xet_shards.proofs.Content.AgreeingJoins.{joins_exist}
 use Rattle.xet_shards.proofs.ShardInMemory.FileUnions.{holds_in_map}
-use Rattle.shard_bytes.specs.Agreeing.{MergesAgreeing, FillsAgreeing, IsMergeOfAgreeing, HoldNoneAgreeing, GivesJoin, FillsJoin}
+use Rattle.shard_bytes.specs.Agreeing.{MergesAgreeing, RefusesAgreeing, FillsAgreeing, IsMergeOfAgreeing, HoldNoneAgreeing, GivesJoin, FillsJoin}
 use Rattle.shard_bytes.specs.Merging.{IsMergePlan, MergesBytes, RefusesMerge}
 use Rattle.shard_bytes.specs.Sizes.{IsResultSize, HasResultSize, HasFillSize}
+use Rattle.shard_bytes.proofs.InVersions.{merge_made, merge_refused, size_in}
 use Rattle.shard_bytes.proofs.Merging.{plan_covers}
 use Rattle.shard_bytes.proofs.Sizes.{size_of_merge}
 
@@ -122,44 +126,53 @@ module _ (inputs : List (List ℕ)) (out : List ℕ) (hold : HoldShards inputs) 
       }
 
 -- a merge by the plan of the list is one of the list
-pub merges_agreeing : (inputs : List (List ℕ)) (plan : MergePlan) → IsMergePlan (length inputs) plan → (r : CoreResult AgreeingMerge) → MatchResult r (MergesOrFinds inputs plan) (λ e. InputsRefusal inputs e ⊎ TreeRefusal inputs plan e)
-    → MatchResult r (MergesAgreeing inputs) (λ e. InputsRefusal inputs e ⊎ RefusesMerge inputs e)
-merges_agreeing inputs plan is (Ok (Bytes bytes)) (hold, agree, writes) = (hold, agree, (plan, is, writes))
-merges_agreeing inputs plan is (Ok (Disagreements found)) holds = holds
-merges_agreeing inputs plan is (Ok (Malformed m)) holds = holds
-merges_agreeing inputs plan is (Err e) (inl refused) = inl refused
-merges_agreeing inputs plan is (Err e) (inr refused) = inr (inr (inr (plan, is, refused)))
+module _ (version : FormatVersion) (inputs : List (List ℕ)) where
+  pub merges_agreeing : (plan : MergePlan) → IsMergePlan (length inputs) plan → (r : CoreResult AgreeingMerge) → MatchResult r (MergesOrFinds version inputs plan) (λ e. InputsRefusal inputs e ⊎ TreeRefusalIn version inputs plan e)
+      → MatchResult r (MergesAgreeing version inputs) (RefusesAgreeing version inputs)
+  merges_agreeing plan is (Ok (Bytes bytes)) (hold, agree, writes) = (hold, agree, merge_made inputs plan is version bytes.items writes)
+  merges_agreeing plan is (Ok (Disagreements found)) holds = holds
+  merges_agreeing plan is (Ok (Malformed m)) holds = holds
+  merges_agreeing plan is (Err e) (inl refused) = inl refused
+  merges_agreeing plan is (Err e) (inr refused) = inr (merge_refused inputs plan is version e refused)
 
--- what is made is the join, or there is none
-pub gives_join : (inputs : List (List ℕ)) (r : CoreResult AgreeingMerge) → MatchResult r (MergesAgreeing inputs) (λ e. InputsRefusal inputs e ⊎ RefusesMerge inputs e) → IfOk r (GivesJoin inputs)
-gives_join inputs (Ok (Bytes bytes)) (hold, agree, merges) = merge_of_agreeing inputs bytes.items hold agree merges
-gives_join inputs (Ok (Disagreements found)) (hold, some, all) = some_disagree inputs found.items some all
-gives_join inputs (Ok (Malformed m)) holds = one_malformed inputs m holds
-gives_join inputs (Err e) refused = tt
+  -- what is made is the join, or there is none
+  pub join_made : (out : List ℕ) → HoldShards inputs → InputsAgree inputs → MadeIn version (MergesBytes inputs) out → MadeIn version (IsMergeOfAgreeing inputs) out
+  join_made out hold agree =
+      made_as (MergesBytes inputs) (IsMergeOfAgreeing inputs) (RefusesMerge inputs) (RefusesMerge inputs) (λ bytes merges. merge_of_agreeing inputs bytes hold agree merges) (λ e cause. cause) version out
 
-pub result_size : (inputs : List (List ℕ)) (r : CoreResult AgreeingMerge) → MatchResult r (MergesAgreeing inputs) (λ e. InputsRefusal inputs e ⊎ RefusesMerge inputs e) → IfOk r (HasResultSize inputs)
-result_size inputs (Ok (Bytes bytes)) (hold, agree, (plan, is, writes)) = size_of_merge inputs plan bytes.items is writes
-result_size inputs (Ok (Disagreements found)) is = tt
-result_size inputs (Ok (Malformed m)) is = tt
-result_size inputs (Err e) refused = tt
+  pub gives_join : (r : CoreResult AgreeingMerge) → MatchResult r (MergesAgreeing version inputs) (RefusesAgreeing version inputs) → IfOk r (GivesJoin version inputs)
+  gives_join (Ok (Bytes bytes)) (hold, agree, merges) = join_made bytes.items hold agree merges
+  gives_join (Ok (Disagreements found)) (hold, some, all) = some_disagree inputs found.items some all
+  gives_join (Ok (Malformed m)) holds = one_malformed inputs m holds
+  gives_join (Err e) refused = tt
 
--- the same of a merge whose bytes are put to the front of a slice
-pub fills_agreeing : (inputs : List (List ℕ)) (plan : MergePlan) → IsMergePlan (length inputs) plan → (old new : List ℕ) (r : CoreResult AgreeingFill) → MatchResult r (FillsOrFinds inputs plan old new) (λ e. (InputsRefusal inputs e ⊎ TreeRefusal inputs plan e) × (new ≡ old))
-    → MatchResult r (FillsAgreeing inputs old new) (λ e. (InputsRefusal inputs e ⊎ RefusesMerge inputs e) × (new ≡ old))
-fills_agreeing inputs plan is old new (Ok (FilledBytes size)) (hold, agree, (bytes, writes, fills)) = (hold, agree, (bytes, (plan, is, writes), fills))
-fills_agreeing inputs plan is old new (Ok (Disagreeing found)) holds = holds
-fills_agreeing inputs plan is old new (Ok (Misformed m)) holds = holds
-fills_agreeing inputs plan is old new (Err e) (inl refused, stays) = (inl refused, stays)
-fills_agreeing inputs plan is old new (Err e) (inr refused, stays) = (inr (inr (inr (plan, is, refused))), stays)
+  size_made : (out : List ℕ) → MadeIn version (MergesBytes inputs) out → IsResultSize inputs (length out)
+  size_made out = size_in version (MergesBytes inputs) (IsResultSize inputs) out (λ bytes merges. size_of_merge inputs merges.0 bytes merges.1 merges.2)
 
-pub fills_join : (inputs : List (List ℕ)) (old new : List ℕ) (r : CoreResult AgreeingFill) → MatchResult r (FillsAgreeing inputs old new) (λ e. (InputsRefusal inputs e ⊎ RefusesMerge inputs e) × (new ≡ old)) → IfOk r (FillsJoin inputs old new)
-fills_join inputs old new (Ok (FilledBytes size)) (hold, agree, (bytes, merges, fills)) = (bytes, merge_of_agreeing inputs bytes hold agree merges, fills)
-fills_join inputs old new (Ok (Disagreeing found)) (hold, some, all, stays) = some_disagree inputs found.items some all
-fills_join inputs old new (Ok (Misformed m)) (first, stays) = one_malformed inputs m first
-fills_join inputs old new (Err e) refused = tt
+  pub result_size : (r : CoreResult AgreeingMerge) → MatchResult r (MergesAgreeing version inputs) (RefusesAgreeing version inputs) → IfOk r (HasResultSize inputs)
+  result_size (Ok (Bytes bytes)) (hold, agree, merges) = size_made bytes.items merges
+  result_size (Ok (Disagreements found)) is = tt
+  result_size (Ok (Malformed m)) is = tt
+  result_size (Err e) refused = tt
 
-pub fill_size : (inputs : List (List ℕ)) (old new : List ℕ) (r : CoreResult AgreeingFill) → MatchResult r (FillsAgreeing inputs old new) (λ e. (InputsRefusal inputs e ⊎ RefusesMerge inputs e) × (new ≡ old)) → IfOk r (HasFillSize inputs)
-fill_size inputs old new (Ok (FilledBytes size)) (hold, agree, (bytes, (plan, is, writes), (size_is, fits))) = subst (IsResultSize inputs) (sym size_is) (size_of_merge inputs plan bytes is writes)
-fill_size inputs old new (Ok (Disagreeing found)) is = tt
-fill_size inputs old new (Ok (Misformed m)) is = tt
-fill_size inputs old new (Err e) refused = tt
+  -- the same of a merge whose bytes are put to the front of a slice
+  module _ (old new : List ℕ) where
+    pub fills_agreeing : (plan : MergePlan) → IsMergePlan (length inputs) plan → (r : CoreResult AgreeingFill) → MatchResult r (FillsOrFinds version inputs plan old new) (λ e. (InputsRefusal inputs e ⊎ TreeRefusalIn version inputs plan e) × (new ≡ old))
+        → MatchResult r (FillsAgreeing version inputs old new) (λ e. RefusesAgreeing version inputs e × (new ≡ old))
+    fills_agreeing plan is (Ok (FilledBytes size)) (hold, agree, (bytes, writes, fills)) = (hold, agree, (bytes, merge_made inputs plan is version bytes writes, fills))
+    fills_agreeing plan is (Ok (Disagreeing found)) holds = holds
+    fills_agreeing plan is (Ok (Misformed m)) holds = holds
+    fills_agreeing plan is (Err e) (inl refused, stays) = (inl refused, stays)
+    fills_agreeing plan is (Err e) (inr refused, stays) = (inr (merge_refused inputs plan is version e refused), stays)
+
+    pub fills_join : (r : CoreResult AgreeingFill) → MatchResult r (FillsAgreeing version inputs old new) (λ e. RefusesAgreeing version inputs e × (new ≡ old)) → IfOk r (FillsJoin version inputs old new)
+    fills_join (Ok (FilledBytes size)) (hold, agree, (bytes, merges, fills)) = (bytes, join_made bytes hold agree merges, fills)
+    fills_join (Ok (Disagreeing found)) (hold, some, all, stays) = some_disagree inputs found.items some all
+    fills_join (Ok (Misformed m)) (first, stays) = one_malformed inputs m first
+    fills_join (Err e) refused = tt
+
+    pub fill_size : (r : CoreResult AgreeingFill) → MatchResult r (FillsAgreeing version inputs old new) (λ e. RefusesAgreeing version inputs e × (new ≡ old)) → IfOk r (HasFillSize inputs)
+    fill_size (Ok (FilledBytes size)) (hold, agree, (bytes, merges, (size_is, fits))) = subst (IsResultSize inputs) (sym size_is) (size_made bytes merges)
+    fill_size (Ok (Disagreeing found)) is = tt
+    fill_size (Ok (Misformed m)) is = tt
+    fill_size (Err e) refused = tt

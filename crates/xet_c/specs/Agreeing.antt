@@ -5,13 +5,17 @@ use Rattle.xet_core_structures.specs.declared.set_operations.agreement.Malformed
 use Rattle.xet_core_structures.specs.declared.set_operations.agreement.RecordHash.{RecordHash}
 use Rattle.xet_core_structures.specs.declared.set_operations.agreement.RecordHash.TheVariants.{File, Xorb}
 use Rattle.xet_core_structures.specs.declared.error.CoreError.{CoreError}
-use Rattle.xet_core_structures.specs.Agreement.Agreement.{HoldShards, IsFirstMalformed, InputsAgree, HasAllDisagreements, InputsRefusal}
+use Rattle.xet_core_structures.specs.declared.error.CoreError.TheVariants.{InvalidArguments}
+use Rattle.xet_core_structures.specs.declared.set_operations.FormatVersion.{FormatVersion}
+use Rattle.xet_core_structures.specs.Agreement.Agreement.{HoldShards, IsFirstMalformed, InputsAgree, HasAllDisagreements}
 use Rattle.xet_core_structures.specs.Errors.{CoreResult, variant_number}
 use Rattle.xet_core_structures.specs.Hash.{words_of}
 use Rattle.xet_core_structures.specs.declared.set_operations.agreement.AgreeingFill.{AgreeingFill}
 use Rattle.xet_core_structures.specs.declared.set_operations.agreement.AgreeingFill.TheVariants.{Bytes, Disagreements, Malformed}
-use Rattle.shard_bytes.specs.Agreeing.{IsMergeOfAgreeing, HoldNoneAgreeing}
-use Rattle.shard_bytes.specs.Merging.{MergesBytes, RefusesMerge}
+use Rattle.xet_core_structures.specs.Trees.InVersions.{MadeIn}
+use Rattle.xet_core_structures.specs.Version.{IsVersion, number_of}
+use Rattle.shard_bytes.specs.Agreeing.{IsMergeOfAgreeing, HoldNoneAgreeing, RefusesAgreeing}
+use Rattle.shard_bytes.specs.Merging.{MergesBytes}
 use Rattle.xet_c.specs.declared.agree.XetDisagreement.{XetDisagreement}
 use Rattle.xet_c.specs.Output.{Answers, Delivers, Refuses}
 
@@ -47,27 +51,36 @@ abbrev pub ShowsFirst : List Disagreement → (old new : XetDisagreement) → �
 ShowsFirst [] old new count = (count ≡ 0) × (new ≡ old)
 ShowsFirst (d ∷ ds) old new count = (count ≡ length (d ∷ ds)) × (new ≡ c_disagreement d)
 
--- the bytes of the join of the shards that byte strings hold, which agree
-abbrev pub AreMerged : List (List ℕ) → List ℕ → Type 0
-AreMerged inputs bytes =
-    HoldShards inputs × InputsAgree inputs × MergesBytes inputs bytes
-    × IsMergeOfAgreeing inputs bytes
+-- the bytes in a version of the join of the shards that byte strings hold, which agree
+abbrev pub AreMerged : FormatVersion → List (List ℕ) → List ℕ → Type 0
+AreMerged version inputs bytes =
+    HoldShards inputs × InputsAgree inputs × MadeIn version (MergesBytes inputs) bytes
+    × MadeIn version (IsMergeOfAgreeing inputs) bytes
 
--- a merge of byte strings whose shards have to agree: its bytes are delivered; or all that do not
--- agree are counted, and the first is shown; or a record that no shard may have is shown; or there
--- is an error
-abbrev pub MergesIfAgreeing : List (List ℕ) → (before after : List ℕ) → ℕ
+-- a merge in a version of byte strings whose shards have to agree: its bytes are delivered; or all
+-- that do not agree are counted, and the first is shown; or a record that no shard may have is
+-- shown; or there is an error
+abbrev pub MergesIfAgreeing : FormatVersion → List (List ℕ) → (before after : List ℕ) → ℕ
     → (old new : XetDisagreement) → ℕ → ℕ → Type 0
-MergesIfAgreeing inputs before after written old new count result =
-    ((bytes : List ℕ) × AreMerged inputs bytes × Delivers bytes before after written result
-    × (count ≡ 0) × (new ≡ old))
+MergesIfAgreeing version inputs before after written old new count result =
+    ((bytes : List ℕ) × AreMerged version inputs bytes
+    × Delivers bytes before after written result × (count ≡ 0) × (new ≡ old))
     ⊎ ((all : List Disagreement) × HoldShards inputs × HasAllDisagreements inputs all
     × HoldNoneAgreeing inputs × ShowsFirst all old new count × (0 < count) × (result ≡ 20)
     × (written ≡ 0) × (after ≡ before))
     ⊎ ((m : MalformedRecord) × IsFirstMalformed inputs m × HoldNoneAgreeing inputs
     × (new ≡ c_malformed m) × (count ≡ 0) × (result ≡ 21) × (written ≡ 0) × (after ≡ before))
-    ⊎ ((e : CoreError) × (InputsRefusal inputs e ⊎ RefusesMerge inputs e)
+    ⊎ ((e : CoreError) × RefusesAgreeing version inputs e
     × Refuses e before after written result × (count ≡ 0) × (new ≡ old))
+
+-- the same in the version with a number, or the number is that of no version
+abbrev pub MergesIfAgreeingIn : (number : ℕ) → List (List ℕ) → (before after : List ℕ) → ℕ
+    → (old new : XetDisagreement) → ℕ → ℕ → Type 0
+MergesIfAgreeingIn number inputs before after written old new count result =
+    ((version : FormatVersion) × (number ≡ number_of version)
+    × MergesIfAgreeing version inputs before after written old new count result)
+    ⊎ ((¬ IsVersion number) × Refuses InvalidArguments before after written result × (count ≡ 0)
+    × (new ≡ old))
 
 -- how a merge to an output of so many bytes is shown
 abbrev pub ShowsFill : CoreResult AgreeingFill → ℕ → ℕ → (old new : XetDisagreement) → ℕ → ℕ

@@ -2,12 +2,13 @@
 
 ghost use Rattle.std.specs.Prelude.{◌≡◌, ◌⊎◌, false, List, Option, map, IfOk, IfErr, MatchOption, MatchResult};
 ghost use Rattle.xet_core_structures.specs.declared.error.CoreError.{CoreError};
+ghost use Rattle.xet_core_structures.specs.declared.set_operations.FormatVersion.TheVariants.{V3};
 ghost use Rattle.xet_core_structures.specs.declared.set_operations.agreement.Disagreement.{Disagreement};
 ghost use Rattle.xet_core_structures.specs.declared.set_operations.agreement.MalformedRecord.{MalformedRecord};
 ghost use Rattle.xet_core_structures.specs.Agreement.Agreement.{HasAllDisagreements, HoldShards, IsFirstMalformed, InputsRefusal};
 ghost use Rattle.xet_core_structures.specs.Errors.{variant_number};
 ghost use Rattle.shard_bytes.specs.Sizes.{IsResultSize};
-ghost use Rattle.xet_c.specs.Agreeing.{c_record, c_disagreement, c_malformed, AreAllDisagreements, ShowsFirst, ShowsMalformed, MergesIfAgreeing, ShowsFill};
+ghost use Rattle.xet_c.specs.Agreeing.{c_record, c_disagreement, c_malformed, AreAllDisagreements, ShowsFirst, ShowsMalformed, MergesIfAgreeing, MergesIfAgreeingIn, ShowsFill};
 ghost use Rattle.xet_c.specs.Output.{Outcome};
 
 use crate::output::{XET_DISAGREE, XET_MALFORMED, answer, deliver, error_number};
@@ -15,7 +16,7 @@ use shard_bytes::agree::{AgreeingFill, merge_agreeing_bytes_into};
 use std::alloc::Global;
 use xet_core_structures::error::{CoreError, Result};
 use xet_core_structures::set_operations::{
-    Disagreement, MalformedRecord, RecordHash, find_disagreements, find_malformed,
+    Disagreement, FormatVersion, MalformedRecord, RecordHash, find_disagreements, find_malformed,
 };
 
 /// A hash under which two shards have records that do not agree, a xorb's or a file's, and the
@@ -119,11 +120,10 @@ pub extern "C" fn xet_find_malformed(
 
 /// The union of one shard or more, as `xet_merge` makes it, to the front of `out`, to which it is
 /// written at once, if each of the byte strings holds a well-formed shard and each two of these
-/// agree. If the result is 21, one
-/// holds a record that no shard may have: `written` and `differing` are 0, `out` stays as it is,
-/// and `found` is as `xet_find_malformed` sets it. If it is 20, two of the shards do not agree:
-/// `written` is 0, `out` stays as it is, and `differing` and `found` are as `xet_find_disagreement`
-/// sets them. Else `differing` is 0 and `found` stays as it is.
+/// agree. If the result is 21, one holds a record that no shard may have: `written` and `differing`
+/// are 0, `out` stays as it is, and `found` is as `xet_find_malformed` sets it. If it is 20, two of
+/// the shards do not agree: `written` is 0, `out` stays as it is, and `differing` and `found` are
+/// as `xet_find_disagreement` sets them. Else `differing` is 0 and `found` stays as it is.
 #[unsafe(no_mangle)]
 pub extern "C" fn xet_merge_agreeing(
     alloc: Global,
@@ -133,11 +133,60 @@ pub extern "C" fn xet_merge_agreeing(
     differing: &mut usize,
     found: &mut XetDisagreement,
 ) -> u32
-    ensures merged { MergesIfAgreeing (map (λ x. x.now) shards.now) out.old out.new written.new
+    ensures merged { MergesIfAgreeing V3 (map (λ x. x.now) shards.now) out.old out.new written.new
         found.old found.new differing.new result }
     ensures size { IsResultSize (map (λ x. x.now) shards.now) written.new }
 {
-    let filled = merge_agreeing_bytes_into(alloc, shards, out);
+    merge(
+        alloc,
+        shards,
+        FormatVersion::V3,
+        out,
+        written,
+        differing,
+        found,
+    )
+}
+
+/// The same in a version of the format, by its number.
+#[unsafe(no_mangle)]
+pub extern "C" fn xet_merge_agreeing_in(
+    alloc: Global,
+    shards: &[&[u8]],
+    version: u64,
+    out: &mut [u8],
+    written: &mut usize,
+    differing: &mut usize,
+    found: &mut XetDisagreement,
+) -> u32
+    ensures merged { MergesIfAgreeingIn version (map (λ x. x.now) shards.now) out.old out.new
+        written.new found.old found.new differing.new result }
+    ensures size { IsResultSize (map (λ x. x.now) shards.now) written.new }
+{
+    match FormatVersion::of_number(version) {
+        Some(version) => merge(alloc, shards, version, out, written, differing, found),
+        None => {
+            let refused = Err(CoreError::InvalidArguments);
+            show_fill(refused, out.len(), written, differing, found)
+        }
+    }
+}
+
+// Shows a merge in a version.
+fn merge(
+    alloc: Global,
+    shards: &[&[u8]],
+    version: FormatVersion,
+    out: &mut [u8],
+    written: &mut usize,
+    differing: &mut usize,
+    found: &mut XetDisagreement,
+) -> u32
+    ensures merged { MergesIfAgreeing version (map (λ x. x.now) shards.now) out.old out.new
+        written.new found.old found.new differing.new result }
+    ensures size { IsResultSize (map (λ x. x.now) shards.now) written.new }
+{
+    let filled = merge_agreeing_bytes_into(alloc, shards, version, out);
     show_fill(filled, out.len(), written, differing, found)
 }
 

@@ -35,7 +35,7 @@ use Rattle.xet_core_structures.specs.Trees.MergeTrees.{leaves, TreeWrites}
 use Rattle.xet_core_structures.specs.Steps.Agreement.{AreEqual, AgreeIfBoth, MadeIfAgreed, BytesAgree, WritesAgreeing}
 use Rattle.xet_core_structures.specs.Steps.ByteResults.{Records, AreCombined}
 use Rattle.xet_core_structures.specs.Steps.Differing.{Covers}
-use Rattle.xet_core_structures.specs.Steps.Parts.{PlacesShard, IsPart}
+use Rattle.xet_core_structures.specs.Steps.Parts.{PlacesShard}
 use Rattle.xet_core_structures.specs.Steps.Placed.{Places, MakesPlaced, MakesNothing}
 use Rattle.xet_core_structures.proofs.LawProofs.FileLookups.{union_under}
 use Rattle.xet_core_structures.proofs.Records.Equalities.{announces_more}
@@ -291,8 +291,8 @@ pub if_made : {T E : Type 0} (r : Result T E) (P : T → Type 0) (Q : E → Type
 if_made (Ok v) P Q is = is
 if_made (Err e) P Q is = tt
 
-pub both_agree : (inputs : List (List ℕ)) (left right : MergePlan) (x y : List ℕ) (r : Result Part CoreError) → WritesAgreeing inputs left x → WritesAgreeing inputs right y
-    → IfOk r (λ part. (bytes : List ℕ) × UnitesBytes x y bytes × BytesAgree x y × IsPart bytes part)
-    → IfOk r (λ part. (bytes : List ℕ) × ((x y : List ℕ) × WritesAgreeing inputs left x × WritesAgreeing inputs right y × UnitesBytes x y bytes × BytesAgree x y) × IsPart bytes part)
-both_agree inputs left right x y (Ok part) x_written y_written (bytes, unites, agree, is) = (bytes, (x, y, x_written, y_written, unites, agree), is)
-both_agree inputs left right x y (Err e) x_written y_written is = tt
+pub both_agree : (Is : List ℕ → Part → Type 0) (inputs : List (List ℕ)) (left right : MergePlan) (x y : List ℕ) (r : Result Part CoreError) → WritesAgreeing inputs left x → WritesAgreeing inputs right y
+    → IfOk r (λ part. (bytes : List ℕ) × UnitesBytes x y bytes × BytesAgree x y × Is bytes part)
+    → IfOk r (λ part. (bytes : List ℕ) × ((x y : List ℕ) × WritesAgreeing inputs left x × WritesAgreeing inputs right y × UnitesBytes x y bytes × BytesAgree x y) × Is bytes part)
+both_agree Is inputs left right x y (Ok part) x_written y_written (bytes, unites, agree, is) = (bytes, (x, y, x_written, y_written, unites, agree), is)
+both_agree Is inputs left right x y (Err e) x_written y_written is = tt

@@ -1,5 +1,5 @@
 -- What is made in a version: the number in the header is all that differs, unless a file has an auxiliary row.
-use Rattle.std.proofs.Common.{◌≡◌, inl, inr, ℕ, ◌+◌, ◌≤◌, Bool, true, false, List, [], ◌∷◌, ◌++◌, length, take, drop, Ok, Err, refl, sym, ap, ◌∙◌, ◌||◌, subst, arith, append_assoc, true≢false}
+use Rattle.std.proofs.Common.{◌≡◌, inl, inr, ℕ, ◌+◌, ◌≤◌, Bool, true, false, List, [], ◌∷◌, ◌++◌, length, take, drop, Ok, Err, refl, sym, ap, ◌∙◌, ◌||◌, ◌⊎◌, subst, arith, append_assoc, true≢false}
 use Rattle.std.specs.Prelude.{◌↔◌, ◌&&◌, MatchResult}
 use Rattle.std.specs.FinMap.{values}
 use Rattle.std.specs.List.{list_any}
@@ -180,7 +180,7 @@ module _ (inputs : List (List ℕ)) where
       → TreeWritesIn version inputs plan out
   made_of_tree V3 plan bytes part out writes is same = subst (TreeWrites inputs plan) (sym same) writes
   made_of_tree V2 (Leaf i) bytes (Input x) out writes is same = subst (TreeWrites inputs (Leaf i)) (sym same) writes
-  made_of_tree V2 (Leaf i) bytes (Placed x lists) out writes is same = absurd is
+  made_of_tree V2 (Leaf i) bytes (Placed x lists) out writes is same = subst (TreeWrites inputs (Leaf i)) (sym same) writes
   made_of_tree V2 (Leaf i) bytes (United shard) out writes is same = absurd is
   made_of_tree V2 (Both' p left q right) bytes part out writes is made =
       made_of_union (TreeWrites inputs (Both' p left q right)) (TreeRefusal inputs (Both' p left q right)) bytes writes (no_memory_after inputs (Both' p left q right) bytes writes) V2 part out is made
@@ -191,7 +191,7 @@ module _ (inputs : List (List ℕ)) where
   refused_of_tree V3 plan bytes part e writes is (inr (invalid, new)) = absurd new
   refused_of_tree V2 (Leaf i) bytes part e writes is (inl lacks) = subst (TreeRefusal inputs (Leaf i)) (sym lacks) (no_memory_after inputs (Leaf i) bytes writes)
   refused_of_tree V2 (Leaf i) bytes (Input x) e writes is (inr (invalid, new)) = absurd new
-  refused_of_tree V2 (Leaf i) bytes (Placed x lists) e writes is (inr (invalid, new)) = absurd is
+  refused_of_tree V2 (Leaf i) bytes (Placed x lists) e writes is (inr (invalid, new)) = absurd new
   refused_of_tree V2 (Leaf i) bytes (United shard) e writes is (inr (invalid, new)) = absurd is
   refused_of_tree V2 (Both' p left q right) bytes part e writes is refused =
       refused_of_union (TreeWrites inputs (Both' p left q right)) (TreeRefusal inputs (Both' p left q right)) bytes writes (no_memory_after inputs (Both' p left q right) bytes writes) V2 part e is refused
@@ -212,6 +212,10 @@ module _ (inputs : List (List ℕ)) where
   refused_early V3 plan e refused = refused
   refused_early V2 (Leaf i) e refused = refused
   refused_early V2 (Both' p left q right) e refused = inl refused
+
+  pub refused_first : (version : FormatVersion) (plan : MergePlan) (Other : CoreError → Type 0) (e : CoreError) → Other e ⊎ TreeRefusal inputs plan e → Other e ⊎ TreeRefusalIn version inputs plan e
+  refused_first version plan Other e (inl cause) = inl cause
+  refused_first version plan Other e (inr refused) = inr (refused_early version plan e refused)
 
 -- what holds of all that is made and of all refusals
 module _ (Makes As : List ℕ → Type 0) (Refuses For : CoreError → Type 0) (made : (bytes : List ℕ) → Makes bytes → As bytes) (refused : (e : CoreError) → Refuses e → For e) where

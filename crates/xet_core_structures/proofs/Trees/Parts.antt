@@ -227,7 +227,7 @@ part_of_union bytes (United shard) is = is
 -- so is what a tree gives
 pub part_of_tree : (plan : MergePlan) (bytes : List ℕ) (part : Part) → IsPartOf plan bytes part → IsPart bytes part
 part_of_tree (Leaf i) bytes (Input x) is = is
-part_of_tree (Leaf i) bytes (Placed x lists) is = absurd is
+part_of_tree (Leaf i) bytes (Placed x lists) is = is
 part_of_tree (Leaf i) bytes (United shard) is = absurd is
 part_of_tree (Both' p left q right) bytes part is = part_of_union bytes part is
 
@@ -241,12 +241,6 @@ module _ (Is : List ℕ → Part → Type 0) where
       ⊎ ((x : List ℕ) × TreeWrites inputs left x × (TreeRefusal inputs right e ⊎ ((y : List ℕ) × TreeWrites inputs right y × BytesRefusal x y e))))
   both_parts inputs left right x y (Ok part) x_written y_written (bytes, unites, is) = (bytes, (x, y, x_written, y_written, unites), is)
   both_parts inputs left right x y (Err e) x_written y_written refusal = inr (x, x_written, inr (y, y_written, refusal))
-
--- a union as a part
-pub union_as_part : (x y : List ℕ) (r : Result Part CoreError) → MatchResult r (λ part. (bytes : List ℕ) × UnitesBytes x y bytes × IsUnionPart bytes part) (BytesRefusal x y)
-    → MatchResult r (λ part. (bytes : List ℕ) × UnitesBytes x y bytes × IsPart bytes part) (BytesRefusal x y)
-union_as_part x y (Ok part) (bytes, unites, is) = (bytes, unites, part_of_union bytes part is)
-union_as_part x y (Err e) refusal = refusal
 
 -- an allocation may fail after a tree is done
 pub no_memory_after : (inputs : List (List ℕ)) (plan : MergePlan) (bytes : List ℕ) → TreeWrites inputs plan bytes → TreeRefusal inputs plan OutOfMemory

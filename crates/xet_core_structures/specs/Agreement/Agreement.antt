@@ -8,6 +8,7 @@ use Rattle.xet_base.specs.declared.merklehash.DataHash.{DataHash}
 use Rattle.xet_base.specs.Hash.{hash_cmp}
 use Rattle.xet_records.specs.declared.file_structs.MDBFileInfo.{MDBFileInfo}
 use Rattle.xet_records.specs.declared.xorb_structs.MDBXorbInfo.{MDBXorbInfo}
+use Rattle.xet_records.specs.declared.record_reader.FormatVersion.{FormatVersion}
 use Rattle.xet_records.specs.FileRecord.{IsWellFormed}
 use Rattle.xet_records.specs.Merging.{Agree}
 use Rattle.xet_records.specs.XorbRecord.{IsXorb}
@@ -30,6 +31,7 @@ use Rattle.xet_core_structures.specs.declared.set_operations.agreement.Merged.Th
 use Rattle.xet_core_structures.specs.TwoShards.ByteResults.{key_of, LoadRefusal}
 use Rattle.xet_core_structures.specs.Records.ShardContents.{HasShard}
 use Rattle.xet_core_structures.specs.Trees.Filling.{Fills}
+use Rattle.xet_core_structures.specs.Trees.InVersions.{TreeWritesIn}
 use Rattle.xet_core_structures.specs.Trees.MergeTrees.{leaves, TreeWrites, InputIs}
 use Rattle.xet_core_structures.specs.Trees.Parts.{SectionsRefusal}
 
@@ -148,20 +150,21 @@ IsMerged inputs plan (Disagreed d) =
     × ((others : List Disagreement) × HasAllDisagreements inputs (d ∷ others))
 IsMerged inputs plan (Malformed m) = IsFirstMalformed inputs m
 
--- the same, with all that do not agree, of which there is one at least
-abbrev pub MergesOrFinds : List (List ℕ) → MergePlan → AgreeingMerge → Type 0
-MergesOrFinds inputs plan (MergedBytes bytes) =
-    HoldShards inputs × InputsAgree inputs × TreeWrites inputs plan bytes.items
-MergesOrFinds inputs plan (Disagreements found) =
+-- the same in a version, with all that do not agree, of which there is one at least
+abbrev pub MergesOrFinds : FormatVersion → List (List ℕ) → MergePlan → AgreeingMerge → Type 0
+MergesOrFinds version inputs plan (MergedBytes bytes) =
+    HoldShards inputs × InputsAgree inputs × TreeWritesIn version inputs plan bytes.items
+MergesOrFinds version inputs plan (Disagreements found) =
     HoldShards inputs × (0 < length found.items) × HasAllDisagreements inputs found.items
-MergesOrFinds inputs plan (FoundMalformed m) = IsFirstMalformed inputs m
+MergesOrFinds version inputs plan (FoundMalformed m) = IsFirstMalformed inputs m
 
 -- the same of a slice, to whose front the bytes were put if they fit; if there are none it stays
-abbrev pub FillsOrFinds : List (List ℕ) → MergePlan → (old new : List ℕ) → AgreeingFill → Type 0
-FillsOrFinds inputs plan old new (FilledBytes size) =
+abbrev pub FillsOrFinds : FormatVersion → List (List ℕ) → MergePlan → (old new : List ℕ)
+    → AgreeingFill → Type 0
+FillsOrFinds version inputs plan old new (FilledBytes size) =
     HoldShards inputs × InputsAgree inputs
-    × ((bytes : List ℕ) × TreeWrites inputs plan bytes × Fills bytes old new size)
-FillsOrFinds inputs plan old new (Disagreeing found) =
+    × ((bytes : List ℕ) × TreeWritesIn version inputs plan bytes × Fills bytes old new size)
+FillsOrFinds version inputs plan old new (Disagreeing found) =
     HoldShards inputs × (0 < length found.items) × HasAllDisagreements inputs found.items
     × (new ≡ old)
-FillsOrFinds inputs plan old new (Misformed m) = IsFirstMalformed inputs m × (new ≡ old)
+FillsOrFinds version inputs plan old new (Misformed m) = IsFirstMalformed inputs m × (new ≡ old)

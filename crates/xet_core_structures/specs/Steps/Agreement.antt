@@ -23,7 +23,7 @@ use Rattle.xet_core_structures.specs.Agreement.Agreement.{HasMalformed, HoldShar
 use Rattle.xet_core_structures.specs.Records.ShardContents.{HasShard}
 use Rattle.xet_core_structures.specs.Trees.MergeTrees.{TreeWrites}
 use Rattle.xet_core_structures.specs.TwoShards.ByteResults.{UnitesBytes}
-use Rattle.xet_core_structures.specs.Steps.Parts.{ArePlaced, IsPart}
+use Rattle.xet_core_structures.specs.Steps.Parts.{ArePlaced, IsPartOf}
 use Rattle.xet_core_structures.specs.Steps.Placed.{PlacesAll}
 
 -- two xorbs agree if they are equal
@@ -88,7 +88,7 @@ WritesAgreeing inputs (Both' p left q right) out =
 -- the inputs agree, and this is what the tree writes
 abbrev pub IsAgreed : List (List ℕ) → MergePlan → Part → Type 0
 IsAgreed inputs plan part =
-    InputsAgree inputs × ((bytes : List ℕ) × TreeWrites inputs plan bytes × IsPart bytes part)
+    InputsAgree inputs × ((bytes : List ℕ) × TreeWrites inputs plan bytes × IsPartOf plan bytes part)
 
 -- the same, or all that disagree, of which there is one at least
 abbrev pub IsAgreedPart : List (List ℕ) → MergePlan → AgreedPart → Type 0

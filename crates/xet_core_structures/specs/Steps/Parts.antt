@@ -107,7 +107,7 @@ IsUnionPart bytes (United shard) = IsPart bytes (United shard)
 -- a part that a tree gives stands for these bytes: that of a leaf is an input, any other a union
 abbrev pub IsPartOf : MergePlan → List ℕ → Part → Type 0
 IsPartOf (Leaf i) bytes (Input x) = x.now ≡ bytes
-IsPartOf (Leaf i) bytes (Placed x lists) = ⊥
+IsPartOf (Leaf i) bytes (Placed x lists) = IsPart bytes (Placed x lists)
 IsPartOf (Leaf i) bytes (United shard) = ⊥
 IsPartOf (Both' p left q right) bytes part = IsUnionPart bytes part
 

@@ -17,6 +17,7 @@
 
 ghost use Rattle.std.specs.Prelude.{◌≡◌, ◌⊎◌, ◌++◌, ℕ, List, map, MatchOption, MatchResult, OnOk, IfOk, IfErr, IfSome};
 ghost use Rattle.xet_base.specs.declared.error.CoreError.TheVariants.{OutOfMemory};
+ghost use Rattle.xet_core_structures.specs.Trees.InVersions.{TreeRefusalIn};
 ghost use Rattle.xet_core_structures.specs.Trees.MergeTrees.{TreeRefusal};
 ghost use Rattle.xet_core_structures.specs.Agreement.Agreement.{InputsAgree, InputsDisagree, HasAllDisagreements, InputsRefusal, HoldShards, IsFirstMalformed, IsMerged, MergesOrFinds, FillsOrFinds, disagreement_of};
 ghost use Rattle.xet_core_structures.specs.Steps.Agreement.{FindsMalformedIn, IsAgreed, IsAgreedPart, IsWellFormedOr};
@@ -31,9 +32,8 @@ mod strict_tree;
 
 use super::MergePlan;
 use crate::set_operations::trees::inputs::{PlacedInputs, input_at, place_input, place_inputs};
-use crate::set_operations::trees::parts::{
-    Part, PlacedShard, fill_with_part, part_bytes, place_tree_of,
-};
+use crate::set_operations::trees::parts::{Part, PlacedShard, place_tree_of};
+use crate::set_operations::trees::versions::{fill_with_part_in, part_bytes_in};
 use crate::set_operations::two_shards::record_operation::OfUnion;
 use bumpalo::Bump;
 use differing::{Differing, find_differing};
@@ -44,7 +44,7 @@ use strict_tree::{covered, place_agreeing_tree};
 use xet_base::error::{CoreError, Result};
 use xet_base::merklehash::MerkleHash;
 use xet_records::file_structs::MDBFileInfo;
-use xet_records::record_reader::SectionRecord;
+use xet_records::record_reader::{FormatVersion, SectionRecord};
 use xet_records::xorb_structs::MDBXorbInfo;
 
 /// The hash of a file or of a xorb.
@@ -187,26 +187,27 @@ pub enum AgreeingMerge {
     Malformed(MalformedRecord),
 }
 
-/// Unites the inputs at the leaves of a tree, if each input holds a well-formed shard and these
-/// agree pairwise. Else it gives a record that no shard may have, of the first input that holds
+/// Unites the inputs at the leaves of a tree in a version of the format, if each input holds a
+/// well-formed shard and these agree pairwise. Else it gives a record that no shard may have, of the first input that holds
 /// one; or, if there is none, all that disagree. Each input is read once for all of this.
 ///
 /// The inputs are read one after another, up to the first that cannot be read, whose error is that
 /// of [`find_disagreements`], or that holds a malformed record. Errors of the tree, as
-/// [`shard_union_tree`](super::shard_union_tree) has them, come last. `OutOfMemory` if an
+/// [`shard_union_tree_in`](super::shard_union_tree_in) has them, come last. `OutOfMemory` if an
 /// allocation fails.
 pub fn merge_or_disagreements(
     alloc: Global,
     plan: &MergePlan,
     inputs: &[&[u8]],
+    version: FormatVersion,
 ) -> Result<AgreeingMerge>
     ensures { MatchResult result
-        (MergesOrFinds (map (λ x. x.now) inputs.now) plan.now)
+        (MergesOrFinds version (map (λ x. x.now) inputs.now) plan.now)
         (λ e. InputsRefusal (map (λ x. x.now) inputs.now) e
-        ⊎ TreeRefusal (map (λ x. x.now) inputs.now) plan.now e) }
+        ⊎ TreeRefusalIn version (map (λ x. x.now) inputs.now) plan.now e) }
 {
     let formed = place_well_formed(alloc, inputs)?;
-    merge_formed(alloc, plan, &formed)
+    merge_formed(alloc, plan, &formed, version)
 }
 
 /// Inputs that hold well-formed shards, placed; or a record that no shard may have.
@@ -239,14 +240,19 @@ fn place_well_formed<'a>(alloc: Global, inputs: &[&'a [u8]]) -> Result<WellForme
 }
 
 // The merge of inputs of which is known whether they hold well-formed shards.
-fn merge_formed(alloc: Global, plan: &MergePlan, formed: &WellFormed<'_>) -> Result<AgreeingMerge>
+fn merge_formed(
+    alloc: Global,
+    plan: &MergePlan,
+    formed: &WellFormed<'_>,
+    version: FormatVersion,
+) -> Result<AgreeingMerge>
     requires { (inputs : List (List ℕ)) × IsWellFormedOr inputs formed.now }
     ensures { (inputs : List (List ℕ)) → IsWellFormedOr inputs formed.now → MatchResult result
-        (MergesOrFinds inputs plan.now)
-        (λ e. InputsRefusal inputs e ⊎ TreeRefusal inputs plan.now e) }
+        (MergesOrFinds version inputs plan.now)
+        (λ e. InputsRefusal inputs e ⊎ TreeRefusalIn version inputs plan.now e) }
 {
     match formed {
-        WellFormed::Placed(placed) => merge_in_arena(alloc, plan, placed),
+        WellFormed::Placed(placed) => merge_in_arena(alloc, plan, placed, version),
         WellFormed::Malformed(found) => Ok(AgreeingMerge::Malformed(*found)),
     }
 }
@@ -258,17 +264,18 @@ fn merge_in_arena<'a>(
     alloc: Global,
     plan: &MergePlan,
     placed: &'a PlacedInputs<'a>,
+    version: FormatVersion,
 ) -> Result<AgreeingMerge>
     requires { (inputs : List (List ℕ)) × ArePlaced inputs placed.now × HoldShards inputs }
     ensures { (inputs : List (List ℕ)) → ArePlaced inputs placed.now → HoldShards inputs
-        → MatchResult result (MergesOrFinds inputs plan.now)
-        (λ e. InputsRefusal inputs e ⊎ TreeRefusal inputs plan.now e) }
+        → MatchResult result (MergesOrFinds version inputs plan.now)
+        (λ e. InputsRefusal inputs e ⊎ TreeRefusalIn version inputs plan.now e) }
 {
     let arena = Bump::new(alloc);
     let agreed = agreed_part(alloc, &arena, plan, placed)?;
     match agreed {
         AgreedPart::Agreed(part) => {
-            let bytes = part_bytes(alloc, part)?;
+            let bytes = part_bytes_in(alloc, part, version)?;
             Ok(AgreeingMerge::Bytes(bytes))
         }
         AgreedPart::Disagreements(found) => Ok(AgreeingMerge::Disagreements(found)),
@@ -295,15 +302,17 @@ pub fn merge_or_disagreements_into(
     alloc: Global,
     plan: &MergePlan,
     inputs: &[&[u8]],
+    version: FormatVersion,
     out: &mut [u8],
 ) -> Result<AgreeingFill>
     ensures { MatchResult result
-        (FillsOrFinds (map (λ x. x.now) inputs.now) plan.now out.old out.new)
+        (FillsOrFinds version (map (λ x. x.now) inputs.now) plan.now out.old out.new)
         (λ e. (InputsRefusal (map (λ x. x.now) inputs.now) e
-        ⊎ TreeRefusal (map (λ x. x.now) inputs.now) plan.now e) × (out.new ≡ out.old)) }
+        ⊎ TreeRefusalIn version (map (λ x. x.now) inputs.now) plan.now e)
+        × (out.new ≡ out.old)) }
 {
     let formed = place_well_formed(alloc, inputs)?;
-    fill_formed(alloc, plan, &formed, out)
+    fill_formed(alloc, plan, &formed, version, out)
 }
 
 // As `merge_formed`, to a slice.
@@ -311,15 +320,17 @@ fn fill_formed(
     alloc: Global,
     plan: &MergePlan,
     formed: &WellFormed<'_>,
+    version: FormatVersion,
     out: &mut [u8],
 ) -> Result<AgreeingFill>
     requires { (inputs : List (List ℕ)) × IsWellFormedOr inputs formed.now }
     ensures { (inputs : List (List ℕ)) → IsWellFormedOr inputs formed.now → MatchResult result
-        (FillsOrFinds inputs plan.now out.old out.new)
-        (λ e. (InputsRefusal inputs e ⊎ TreeRefusal inputs plan.now e) × (out.new ≡ out.old)) }
+        (FillsOrFinds version inputs plan.now out.old out.new)
+        (λ e. (InputsRefusal inputs e ⊎ TreeRefusalIn version inputs plan.now e)
+        × (out.new ≡ out.old)) }
 {
     match formed {
-        WellFormed::Placed(placed) => fill_in_arena(alloc, plan, placed, out),
+        WellFormed::Placed(placed) => fill_in_arena(alloc, plan, placed, version, out),
         WellFormed::Malformed(found) => Ok(AgreeingFill::Malformed(*found)),
     }
 }
@@ -329,18 +340,20 @@ fn fill_in_arena<'a>(
     alloc: Global,
     plan: &MergePlan,
     placed: &'a PlacedInputs<'a>,
+    version: FormatVersion,
     out: &mut [u8],
 ) -> Result<AgreeingFill>
     requires { (inputs : List (List ℕ)) × ArePlaced inputs placed.now × HoldShards inputs }
     ensures { (inputs : List (List ℕ)) → ArePlaced inputs placed.now → HoldShards inputs
-        → MatchResult result (FillsOrFinds inputs plan.now out.old out.new)
-        (λ e. (InputsRefusal inputs e ⊎ TreeRefusal inputs plan.now e) × (out.new ≡ out.old)) }
+        → MatchResult result (FillsOrFinds version inputs plan.now out.old out.new)
+        (λ e. (InputsRefusal inputs e ⊎ TreeRefusalIn version inputs plan.now e)
+        × (out.new ≡ out.old)) }
 {
     let arena = Bump::new(alloc);
     let agreed = agreed_part(alloc, &arena, plan, placed)?;
     match agreed {
         AgreedPart::Agreed(part) => {
-            let size = fill_with_part(alloc, part, out)?;
+            let size = fill_with_part_in(alloc, part, version, out)?;
             Ok(AgreeingFill::Bytes(size))
         }
         AgreedPart::Disagreements(found) => Ok(AgreeingFill::Disagreements(found)),
@@ -425,14 +438,14 @@ pub enum Merged {
     Malformed(MalformedRecord),
 }
 
-/// As [`merge_or_disagreements`], with the first disagreement alone.
+/// As [`merge_or_disagreements`], in version 3 and with the first disagreement alone.
 pub fn merge_agreeing(alloc: Global, plan: &MergePlan, inputs: &[&[u8]]) -> Result<Merged>
     ensures { MatchResult result
         (IsMerged (map (λ x. x.now) inputs.now) plan.now)
         (λ e. InputsRefusal (map (λ x. x.now) inputs.now) e
         ⊎ TreeRefusal (map (λ x. x.now) inputs.now) plan.now e) }
 {
-    let merged = merge_or_disagreements(alloc, plan, inputs)?;
+    let merged = merge_or_disagreements(alloc, plan, inputs, FormatVersion::V3)?;
     match merged {
         AgreeingMerge::Bytes(bytes) => Ok(Merged::Bytes(bytes)),
         AgreeingMerge::Disagreements(found) => Ok(Merged::Disagreement(found[0])),

@@ -8,7 +8,7 @@ ghost use Rattle.xet_core_structures.specs.Records.ByteUnion.{IsEitherFile, IsEi
 ghost use Rattle.xet_core_structures.specs.Trees.MergeTrees.{leaves};
 ghost use Rattle.xet_core_structures.specs.TwoShards.ByteResults.{UnitesBytes};
 ghost use Rattle.xet_core_structures.specs.Steps.Agreement.{AreEqual, MadeIfAgreed, BytesAgree, WritesAgreeing};
-ghost use Rattle.xet_core_structures.specs.Steps.Parts.{ArePlaced, IsPart};
+ghost use Rattle.xet_core_structures.specs.Steps.Parts.{ArePlaced, IsPart, IsUnionPart, IsPartOf};
 ghost use Rattle.xet_core_structures.specs.Steps.Placed.{MakesPlaced, MakesNothing};
 
 use super::kinds::Agreement;
@@ -37,7 +37,8 @@ pub fn place_agreeing_tree<'a>(
 ) -> Result<Part<'a>>
     requires { (inputs : List (List ℕ)) × ArePlaced inputs placed.now }
     ensures { (inputs : List (List ℕ)) → ArePlaced inputs placed.now → IfOk result
-        (λ part. (bytes : List ℕ) × WritesAgreeing inputs plan.now bytes × IsPart bytes part) }
+        (λ part. (bytes : List ℕ) × WritesAgreeing inputs plan.now bytes
+        × IsPartOf plan.now bytes part) }
 {
     match plan {
         MergePlan::Leaf(index) => placed_leaf(placed, *index),
@@ -57,7 +58,8 @@ fn unite_agreeing<'a>(
     right: Part<'a>,
 ) -> Result<Part<'a>>
     ensures { (x y : List ℕ) → IsPart x left.entry → IsPart y right.entry → IfOk result
-        (λ part. (bytes : List ℕ) × UnitesBytes x y bytes × BytesAgree x y × IsPart bytes part) }
+        (λ part. (bytes : List ℕ) × UnitesBytes x y bytes × BytesAgree x y
+        × IsUnionPart bytes part) }
 {
     let (first, second) = list_both(alloc, left, right)?;
     let shard = unite_lists::<OfAgreeing, OfAgreeing>(alloc, arena, &first, &second)?;

@@ -7,6 +7,7 @@ ghost use Rattle.xet_base.specs.Errors.{IsInvalidShard};
 ghost use Rattle.xet_shards.specs.declared.shard_format.ends.info.MDBShardInfo.{MDBShardInfo};
 ghost use Rattle.xet_shards.specs.Ends.Ends.{HasHeaderAndFooter};
 ghost use Rattle.xet_shards.specs.Write.Layout.{layout_of};
+ghost use Rattle.xet_core_structures.specs.declared.set_operations.MergePlan.TheVariants.{Leaf};
 ghost use Rattle.xet_core_structures.specs.TwoShards.ByteResults.{keyed_options, key_of, UnitesBytes, BytesRefusal, LoadRefusal};
 ghost use Rattle.xet_core_structures.specs.Steps.ByteResults.{Records, AreCombined};
 ghost use Rattle.xet_core_structures.specs.Trees.Filling.{Fills, FillsWith};
@@ -135,7 +136,8 @@ pub fn place_tree_of<'a>(
 ) -> Result<Part<'a>>
     requires { (inputs : List (List ℕ)) × ArePlaced inputs placed.now }
     ensures { (inputs : List (List ℕ)) → ArePlaced inputs placed.now → MatchResult result
-        (λ part. (bytes : List ℕ) × TreeWrites inputs plan.now bytes × IsPart bytes part)
+        (λ part. (bytes : List ℕ) × TreeWrites inputs plan.now bytes
+        × IsPartOf plan.now bytes part)
         (TreeRefusal inputs plan.now) }
 {
     match plan {
@@ -152,7 +154,8 @@ pub fn place_tree_of<'a>(
 pub fn placed_leaf<'a>(placed: &'a PlacedInputs<'a>, index: usize) -> Result<Part<'a>>
     requires { (inputs : List (List ℕ)) × ArePlaced inputs placed.now }
     ensures { (inputs : List (List ℕ)) → ArePlaced inputs placed.now → MatchResult result
-        (λ part. (bytes : List ℕ) × (slice_get inputs index ≡ Some bytes) × IsPart bytes part)
+        (λ part. (bytes : List ℕ) × (slice_get inputs index ≡ Some bytes)
+        × IsPartOf (Leaf index) bytes part)
         (λ e. (e ≡ InvalidArguments) × (length inputs ≤ index)) }
 {
     if index >= placed.inputs.len() {
