@@ -118,6 +118,12 @@ static uint32_t call_concatenate(const struct input *input, void *out, size_t ca
     return xet_concatenate(list, input->count, out, capacity, written);
 }
 
+static uint32_t call_concatenate_in(const struct input *input, void *out, size_t capacity, size_t *written) {
+    xet_bytes list[SHARDS];
+    list_shards(input, list);
+    return xet_concatenate_in(list, input->count, 2, out, capacity, written);
+}
+
 /* A record that no shard may have is told exactly if there is one, and is of a shard of the list. */
 static void check_malformed(const struct input *input, const struct block *found, bool is_told) {
     xet_disagreement record;
@@ -383,6 +389,7 @@ static const struct filling fillings[] = {
     {"xet_merge_in", 1, OF_MERGING, call_merge_in, 2},
     {"xet_merge_range_in", 1, OF_MERGING, call_merge_range_in, 2},
     {"xet_concatenate", 1, OF_MERGING, call_concatenate, 3},
+    {"xet_concatenate_in", 1, OF_MERGING, call_concatenate_in, 2},
     {"xet_merge_agreeing", 1, OF_MERGING | BIT(XET_DISAGREE) | BIT(XET_MALFORMED), call_merge_agreeing, 3},
     {"xet_merge_agreeing_in", 1, OF_MERGING | BIT(XET_DISAGREE) | BIT(XET_MALFORMED), call_merge_agreeing_in, 2},
     {"xet_find_disagreements", sizeof(xet_disagreement), OF_SECTIONS, call_find_disagreements, 0},

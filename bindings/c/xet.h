@@ -267,6 +267,12 @@ uint32_t xet_merge_range_in(const xet_bytes *shards, size_t count, const xet_ran
  * XET_OUT_OF_MEMORY, XET_SHORT. */
 uint32_t xet_concatenate(const xet_bytes *shards, size_t count, uint8_t *out, size_t capacity, size_t *written);
 
+/* The same in a version of the format, 2 or 3. For version 2 the headers of files are read a second time.
+ *
+ * XET_INVALID_ARGUMENTS: also if it is another version, or 2, and a file of a shard has an auxiliary row. */
+uint32_t xet_concatenate_in(const xet_bytes *shards, size_t count, uint64_t version, uint8_t *out, size_t capacity,
+                            size_t *written);
+
 /* A hash under which two shards have records that do not agree, that of a xorb or of a file, and the places of two such
  * shards in the list, from 0 on. */
 typedef struct xet_disagreement {

@@ -246,7 +246,7 @@ def test_a_range_that_fails():
     """The bytes are those of a merge without threads if a part can't be made, or the parts not put together."""
     shards = [ONE_FILE, XORB_AND_FILE]
     whole = xet_shards.merge(shards)
-    for name in ("_list", "_advise_large_pages", "_merge_to"):
+    for name in ("_list", "_advise_large_pages", "_merge_in_to"):
         original = getattr(ranges, name)
 
         def fails(*_):

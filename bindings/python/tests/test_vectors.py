@@ -875,6 +875,29 @@ def in_version_2(shard):
     return shard[:32] + bytes([2, 0, 0, 0, 0, 0, 0, 0]) + shard[40:]
 
 
+def test_concatenate_in_version_2():
+    shards = [Shard() for _ in range(3)]
+    for it, name in zip(shards, ("100", "101", "102")):
+        it.add_file(name, "v=365", "200:0:5:5")
+    shards[2].add_file("103", "x=777", "200:0:5:5")
+    one, other, new = (it.written() for it in shards)
+    both = xet_shards.concatenate([one, other])
+    assert both[32] == 3 and both == xet_shards.concatenate([one, other], version=3)
+    for parts in ((one, other), (in_version_2(one), other), (one, in_version_2(other))):
+        assert xet_shards.concatenate(parts, version=2) == in_version_2(both)
+    room = bytearray(len(both) + 1)
+    assert xet_shards.concatenate_into([one, other], room, version=2) == len(both)
+    assert room == in_version_2(both) + b"\0"
+    room = bytearray(len(both) - 1)
+    assert xet_shards.concatenate_into([one, other], room, version=2) == len(both)
+    refused("InvalidArguments", xet_shards.concatenate_into, [one, new], room, version=2)
+    assert room == bytes(len(room))
+    for parts, version in (([one, new], 2), ([new], 2), ([one, other], 4), ([one, other], 0)):
+        refused("InvalidArguments", xet_shards.concatenate, parts, version=version)
+    assert xet_shards.concatenate([one, new])[32] == 3
+    refused("Io", xet_shards.concatenate, [one, new[:199]], version=2)
+
+
 def test_strict_merges_in_version_2():
     shards = [Shard() for _ in range(3)]
     for it in shards:

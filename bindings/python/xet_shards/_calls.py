@@ -26,6 +26,7 @@ _CALLS = {
     "xet_merge_range": [*_LIST, POINTER(_Range), *_OUT],
     "xet_merge_range_in": [*_LIST, POINTER(_Range), c_uint64, *_OUT],
     "xet_concatenate": [*_LIST, *_OUT],
+    "xet_concatenate_in": [*_LIST, c_uint64, *_OUT],
     "xet_merge_agreeing": [*_LIST, *_OUT, POINTER(c_size_t), POINTER(_Disagreement)],
     "xet_merge_agreeing_in": [*_LIST, c_uint64, *_OUT, POINTER(c_size_t), POINTER(_Disagreement)],
     "xet_find_disagreement": [*_LIST, POINTER(c_size_t), POINTER(_Disagreement)],

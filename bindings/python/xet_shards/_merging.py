@@ -34,6 +34,10 @@ def _combined(operation: Callable[..., Any], first: Buffer, second: Buffer) -> b
         )
 
 
+def _or_new_rows(version: int) -> str:
+    return "" if version == 3 else f", or {_NEW_ROWS}"
+
+
 def merge(
     shards: Iterable[Buffer],
     strict: bool = False,
@@ -52,8 +56,7 @@ def merge(
     With `threads` so many threads at most merge a range each, and `concatenate` puts the results together. Bytes and
     errors are the same, whatever is given; the bytes of the output are in memory twice.
 
-    It is in version 3 of the format, or in `version` 2, which no file with an auxiliary row may have. In version 2 one
-    thread merges.
+    It is in version 3 of the format, or in `version` 2, which no file with an auxiliary row may have.
 
     If the sections of the inputs hold well-formed shards that agree pairwise, under one key, it is the bytes of their
     join, which has no order, and any other tree of unions gives the same. Shards agree if files with one hash have
@@ -97,8 +100,8 @@ def merge_into(
         raise ValueError("no shard is given")
     if threads is not None and threads < 1:
         raise ValueError("there is one thread at least")
-    if threads is not None and threads > 1 and version == 3:
-        length = _merge_in_threads_to(shards, out, threads, strict, start, stop)
+    if threads is not None and threads > 1:
+        length = _merge_in_threads_to(shards, out, threads, strict, start, stop, version)
         if length is not None:
             return length
     try:
@@ -204,13 +207,15 @@ def _range(start: Optional[Sequence[int]], stop: Optional[Sequence[int]]) -> _Ra
     return _Range(*words, start is not None, stop is not None)
 
 
-def concatenate(shards: Iterable[Buffer]) -> bytes:
+def concatenate(shards: Iterable[Buffer], version: int = 3) -> bytes:
     """Returns the shard that has the records of one shard or more, in their order, with all tables and no timestamps.
 
     The hashes of files have to ascend from each shard to the next, and so have those of xorbs, and the shards have one
     key. So it puts together what `merge` returns of well-formed shards that agree, for ranges that follow one another,
     where `start` of the first and `stop` of the last are left out: the result is that of the one merge. Records are
     copied and not checked.
+
+    It is in version 3 of the format, or in `version` 2, which no file with an auxiliary row may have.
     """
     shards = list(shards)
     if not shards:
@@ -219,12 +224,14 @@ def concatenate(shards: Iterable[Buffer]) -> bytes:
         listed, room = _list(data), sum(length for _, length in data)
         return _made(
             room,
-            lambda out, room, written: _library.xet_concatenate(listed, len(data), out, room, byref(written)),
-            "the keys of the shards differ, or hashes do not ascend from one shard to the next",
+            lambda out, room, written: _library.xet_concatenate_in(
+                listed, len(data), _number(version), out, room, byref(written)
+            ),
+            f"{_OTHER_KEYS}, or hashes do not ascend from one shard to the next{_or_new_rows(version)}",
         )
 
 
-def concatenate_into(shards: Iterable[Buffer], out: WritableBuffer) -> int:
+def concatenate_into(shards: Iterable[Buffer], out: WritableBuffer, version: int = 3) -> int:
     """Writes what `concatenate` returns to the front of a buffer that can be written, and returns its number of bytes.
 
     If the buffer is too small, and after any error, it stays as it is: if it is too small, the number is greater than
@@ -236,7 +243,7 @@ def concatenate_into(shards: Iterable[Buffer], out: WritableBuffer) -> int:
     room, written = memoryview(out).nbytes, c_size_t()
     array = (c_char * room).from_buffer(out)
     with _Addresses(*shards) as data:
-        number = _library.xet_concatenate(_list(data), len(data), array, room, byref(written))
+        number = _library.xet_concatenate_in(_list(data), len(data), _number(version), array, room, byref(written))
     if number != _SHORT:
         _check(number)
     return written.value

@@ -12,7 +12,7 @@ from ._arguments import _words
 from ._calls import _library
 from ._errors import _check
 from ._memory import Buffer, WritableBuffer, _Addresses, _advise_large_pages, _list, _output_apart
-from ._merging import _merge_to, _range, find_disagreement, find_malformed
+from ._merging import _merge_in_to, _range, find_disagreement, find_malformed
 from ._structs import _ROW, _Info, _Range
 
 # The four words of a hash, by which hashes are ordered.
@@ -31,7 +31,13 @@ _MAP_NORESERVE = 0x4000
 
 
 def merge_in_threads_to(
-    shards: Sequence[Buffer], out: WritableBuffer, threads: int, strict: bool, start: Optional[str], stop: Optional[str]
+    shards: Sequence[Buffer],
+    out: WritableBuffer,
+    threads: int,
+    strict: bool,
+    start: Optional[str],
+    stop: Optional[str],
+    version: int,
 ) -> Optional[int]:
     """Writes a merge to the front of a buffer, and returns the number of its bytes.
 
@@ -43,7 +49,7 @@ def merge_in_threads_to(
         with _output_apart(out, shards):
             pass
         parts = range_merges(shards, threads, strict, start, stop)
-        return _merge_to(_library.xet_concatenate, parts, out) if parts else None
+        return _merge_in_to(_library.xet_concatenate_in, parts, out, version) if parts else None
     except Exception:
         return None
 

@@ -53,6 +53,7 @@ library! {
         shards: &[Bytes], range: &Range, version: u64, out: &mut [u8], written: &mut usize,
     ) -> u32;
     fn xet_concatenate(shards: &[Bytes], out: &mut [u8], written: &mut usize) -> u32;
+    fn xet_concatenate_in(shards: &[Bytes], version: u64, out: &mut [u8], written: &mut usize) -> u32;
     fn xet_find_disagreement(shards: &[Bytes], differing: &mut usize, found: &mut Disagreement) -> u32;
     fn xet_find_disagreements(shards: &[Bytes], out: &mut [Disagreement], written: &mut usize) -> u32;
     fn xet_find_malformed(shards: &[Bytes], malformed: &mut bool, found: &mut Disagreement) -> u32;

@@ -298,6 +298,25 @@ pub fn concatenate<T: AsRef<[u8]>>(shards: &[T]) -> Result<Vec<u8>> {
     bytes_of(length, |out, written| calls::xet_concatenate(&list, out, written))
 }
 
+/// What [`concatenate`] makes, in a version of the format, 2 or 3.
+///
+/// # Errors
+///
+/// Those of [`concatenate`]; `InvalidArguments` also if it is another version, or 2, and a file of a shard has an
+/// auxiliary row.
+///
+/// ```
+/// # fn main() -> Result<(), Box<dyn std::error::Error>> {
+/// let shard = std::fs::read("examples/a.mdb")?;
+/// assert_eq!(xet_shards::concatenate_in(&[&shard], 2)?, xet_shards::merge_in(&[&shard], 2)?);
+/// # Ok(())
+/// # }
+/// ```
+pub fn concatenate_in<T: AsRef<[u8]>>(shards: &[T], version: u64) -> Result<Vec<u8>> {
+    let (list, length) = listed(shards)?;
+    bytes_of(length, |out, written| calls::xet_concatenate_in(&list, version, out, written))
+}
+
 /// What [`concatenate`] returns, straight to the front of `out`, and its number of bytes. If `out` is too small, and
 /// after any error, it stays as it is: if it is too small, the number is greater than its length. It may be a file that
 /// is mapped to memory; beside it the call needs some hundred bytes a shard.

@@ -1,4 +1,5 @@
 pub mod Agreeing
+pub mod AuxRows
 pub mod Checking
 pub mod ChunkRows
 pub mod Combining

@@ -99,7 +99,7 @@ pub record Left {H R : Type 0} (K : RecordKind H R) (rs : List R) (i : ℕ) (res
 pub all_left_of : {H R : Type 0} (K : RecordKind H R) (stored : List ℕ) (rs : List R) (count : ℕ) → BeginsWith K stored rs count → Left K rs 0 stored
 all_left_of K stored rs count begins = record { tail = begins.rest; bytes_are = begins.held.bytes_are }
 
-drop_one : {X : Type 0} (xs : List X) (i : ℕ) (d : X) → i < length xs → drop i xs ≡ get_or xs i d ∷ drop (i + 1) xs
+pub drop_one : {X : Type 0} (xs : List X) (i : ℕ) (d : X) → i < length xs → drop i xs ≡ get_or xs i d ∷ drop (i + 1) xs
 drop_one xs i d below = rw (add-one, drop-cons xs i d) refl
 
 pub some_of : {X : Type 0} (xs : List X) → 0 < length xs → X
@@ -120,6 +120,9 @@ module _ {H R : Type 0} (K : RecordKind H R) (laws : KindLaws K) (stored : List 
 
   pub record_at : slice_get rs i ≡ Some the_record
   record_at = slice_get-get_or rs i any in_rs
+
+  pub left_from_it : drop i rs ≡ the_record ∷ drop (i + 1) rs
+  left_from_it = drop_one rs i any in_rs
 
   is_stored : K.IsStored the_record
   is_stored = begins.held.are_stored i any in_rs
@@ -153,7 +156,7 @@ module _ {H R : Type 0} (K : RecordKind H R) (laws : KindLaws K) (stored : List 
   -- the header that was read is that of the record
   module _ (row_bytes : H → List ℕ) (Fits : H → Type 0) (as_read : H → H) (is_row : IsHeaderRow K row_bytes Fits as_read) (header : H)
       (read : ReadsRow row_bytes Fits as_read (λ row. row ≡ take 48 (drop (48 * 0) rest)) header) where
-    same : header ≡ K.header_of the_record
+    pub same : header ≡ K.header_of the_record
     same =
         let bytes = sym (is_row.bytes read.stored) ∙ read.taken ∙ front_is 48 rest first_row (rows_after_it ++ after_it) (laws.header_size (K.header_of the_record)) split_rest in
         let front = laws.header_front read.stored (K.header_of the_record) [] [] (is_row.widths read.stored read.widths) (laws.header_fits the_record is_stored) (ap (λ bs. bs ++ []) bytes) in

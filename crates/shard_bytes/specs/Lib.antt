@@ -7,6 +7,7 @@ pub mod Expiry
 pub mod Exporting
 pub mod Finding
 pub mod Format
+pub mod InARow
 pub mod Merging
 pub mod Minimal
 pub mod Outcomes

@@ -1,28 +1,31 @@
 //! The concatenation of shards whose records come one after another.
 
-ghost use Rattle.std.specs.Prelude.{◌≡◌, ⊤, List, All, map, length, None, ◌<◌, IfOk, IfErr, MatchResult};
+ghost use Rattle.std.specs.Prelude.{◌≡◌, ⊤, ℕ, List, All, map, length, None, ◌<◌, IfOk, IfErr, MatchResult};
+ghost use Rattle.std.specs.FinMap.{values};
 ghost use Rattle.std.specs.List.{AllZip};
-ghost use Rattle.xet_core_structures.specs.InARow.{ShardPart, bytes_of_part, IsPartUnder, files_in, xorbs_in, options_under, AscendBoth, ArePartsInARow, AreBytesOf, AreInARow, IsConcatenation, RefusesShardsInARow};
-ghost use Rattle.xet_core_structures.specs.Layout.{layout_of};
+ghost use Rattle.xet_core_structures.specs.InARow.{ShardPart, bytes_of_part, IsPartUnder, files_in, xorbs_in, AscendBoth, ArePartsInARow, AreBytesOf, AreInARow, RefusesShardsInARow};
 ghost use Rattle.xet_core_structures.specs.Records.Ranges.{IsPartOf, is_within, ranges_between, AreCuts};
 ghost use Rattle.xet_core_structures.specs.Shard.{Shard, IsShard};
-ghost use Rattle.xet_core_structures.specs.Trees.Filling.{FillsWith};
+ghost use Rattle.xet_core_structures.specs.Trees.Filling.{Fills, FillsWith};
 ghost use Rattle.xet_core_structures.specs.Trees.RangeTrees.{IsHeldLayout};
-ghost use Rattle.xet_core_structures.specs.TwoShards.ByteResults.{keyed_layout};
-ghost use Rattle.xet_core_structures.specs.declared.error.CoreError.{CoreError};
 ghost use Rattle.xet_core_structures.specs.declared.merklehash.DataHash.{DataHash};
+ghost use Rattle.shard_bytes.specs.InARow.{IsLayoutIn, FailsIn, IsConcatenationIn};
 ghost use Rattle.shard_bytes.specs.Outcomes.{InMemory};
+ghost use Rattle.shard_bytes.specs.Steps.Versions.{IsNumberedIn};
 
+use crate::aux_rows::have_new_files;
 use crate::memory::in_memory;
 use crate::room::with_room;
 use std::alloc::Global;
-use xet_core_structures::error::Result;
+use xet_core_structures::error::{CoreError, Result};
+use xet_core_structures::rows::ROW_SIZE;
+use xet_core_structures::set_operations::{FormatVersion, put_number};
 use xet_shards::shard_writer::{shards_in_a_row, shards_in_a_row_into};
 
-/// The bytes of the shard that has the records of one shard or more, in their order. The hashes of
-/// files, and those of xorbs, have to ascend from each shard to the next. The result is under the
-/// key that all shards have, in version 3, with all tables, creation 0 and no expiry. Beside it,
-/// the call needs a few hundred bytes of memory a shard.
+/// The bytes of the shard that has the records of one shard or more, in their order, in a version
+/// of the format. The hashes of files, and those of xorbs, have to ascend from each shard to the
+/// next. The result is under the key that all shards have, with all tables, creation 0 and no
+/// expiry. Beside it, the call needs a few hundred bytes of memory a shard.
 ///
 /// So a merge may be made range by range, on many machines, and then be put together. If the merged
 /// shards are well-formed, have one key and agree pairwise, the results of
@@ -30,33 +33,35 @@ use xet_shards::shard_writer::{shards_in_a_row, shards_in_a_row_into};
 /// without a gap give the bytes of the one merge. Records are copied and not checked: if shards are
 /// not trusted, [`check_bytes`](crate::check::check_bytes) checks the result.
 ///
-/// The errors are those of [`shards_in_a_row`], and `OutOfMemory` if an allocation fails.
-pub fn concatenate(alloc: Global, shards: &[&[u8]]) -> Result<Vec<u8>>
+/// `InvalidArguments` if a file has an auxiliary row, and the version is 2, which has none. Else the
+/// errors are those of [`shards_in_a_row`], and `OutOfMemory` if an allocation fails.
+pub fn concatenate(alloc: Global, shards: &[&[u8]], version: FormatVersion) -> Result<Vec<u8>>
     ensures parts { (key : DataHash) → (parts : List ShardPart) → All (IsPartUnder key) parts
         → map bytes_of_part parts ≡ map (λ x. x.now) shards.now
         → IfOk result
-        (λ bytes. bytes.items ≡ layout_of (files_in parts) (xorbs_in parts) (options_under key)) }
+        (λ bytes. IsLayoutIn version (files_in parts) (xorbs_in parts) key bytes.items) }
     ensures order { (key : DataHash) → (parts : List ShardPart) → All (IsPartUnder key) parts
         → map bytes_of_part parts ≡ map (λ x. x.now) shards.now
         → All (λ part. AscendBoth part.files part.xorbs) parts
         → IfOk result (λ _. AscendBoth (files_in parts) (xorbs_in parts)) }
     ensures succeeds { (key : DataHash) → (parts : List ShardPart) → ArePartsInARow key parts
         → map bytes_of_part parts ≡ map (λ x. x.now) shards.now
-        → IfErr result (λ e. e ≡ CoreError.OutOfMemory) }
+        → IfErr result (FailsIn version (files_in parts)) }
     ensures shard { (written : List Shard) → AreBytesOf written (map (λ x. x.now) shards.now)
-        → IfOk result (λ bytes. IsConcatenation written bytes.items) }
+        → IfOk result (λ bytes. IsConcatenationIn version written bytes.items) }
     ensures shard_succeeds { (written : List Shard) → (all : Shard) → IsShard all
         → AreInARow written all → AreBytesOf written (map (λ x. x.now) shards.now)
-        → 0 < length shards.now → IfErr result (λ e. e ≡ CoreError.OutOfMemory) }
+        → 0 < length shards.now → IfErr result (FailsIn version (values all.files)) }
     ensures ranges { (key : DataHash) → (cuts : List DataHash) → (join : Shard) → (parts : List Shard)
         → IsShard join → AreCuts None cuts None
         → AllZip (λ range part. IsPartOf (is_within range) join part) (ranges_between None cuts None)
         parts → AllZip (IsHeldLayout key) parts (map (λ x. x.now) shards.now)
-        → MatchResult result (λ bytes. bytes.items ≡ keyed_layout join key)
-        (λ e. e ≡ CoreError.OutOfMemory) }
+        → MatchResult result
+        (λ bytes. IsLayoutIn version (values join.files) (values join.xorbs) key bytes.items)
+        (FailsIn version (values join.files)) }
     ensures causes { IfErr result (InMemory (RefusesShardsInARow (map (λ x. x.now) shards.now))) }
 {
-    concatenate_parts(alloc, shards)
+    concatenate_parts(alloc, shards, version)
 }
 
 /// [`concatenate`] straight to the front of `out`: the number of bytes that it makes. They are put
@@ -64,11 +69,15 @@ pub fn concatenate(alloc: Global, shards: &[&[u8]]) -> Result<Vec<u8>>
 /// is mapped to memory. Beside it, memory is needed for some hundred bytes a shard.
 ///
 /// The tables are read once before the first byte is written, so that nothing fails after that.
-pub fn concatenate_into(alloc: Global, shards: &[&[u8]], out: &mut [u8]) -> Result<usize>
+pub fn concatenate_into(
+    alloc: Global,
+    shards: &[&[u8]],
+    version: FormatVersion,
+    out: &mut [u8],
+) -> Result<usize>
     ensures parts { (key : DataHash) → (parts : List ShardPart) → All (IsPartUnder key) parts
         → map bytes_of_part parts ≡ map (λ x. x.now) shards.now
-        → FillsWith
-        (λ bytes. bytes ≡ layout_of (files_in parts) (xorbs_in parts) (options_under key))
+        → FillsWith (IsLayoutIn version (files_in parts) (xorbs_in parts) key)
         (InMemory (RefusesShardsInARow (map (λ x. x.now) shards.now))) out.old out.new result }
     ensures order { (key : DataHash) → (parts : List ShardPart) → All (IsPartUnder key) parts
         → map bytes_of_part parts ≡ map (λ x. x.now) shards.now
@@ -76,52 +85,81 @@ pub fn concatenate_into(alloc: Global, shards: &[&[u8]], out: &mut [u8]) -> Resu
         → IfOk result (λ _. AscendBoth (files_in parts) (xorbs_in parts)) }
     ensures succeeds { (key : DataHash) → (parts : List ShardPart) → ArePartsInARow key parts
         → map bytes_of_part parts ≡ map (λ x. x.now) shards.now
-        → IfErr result (λ e. e ≡ CoreError.OutOfMemory) }
+        → IfErr result (FailsIn version (files_in parts)) }
     ensures shard { (written : List Shard) → AreBytesOf written (map (λ x. x.now) shards.now)
-        → FillsWith (IsConcatenation written)
+        → FillsWith (IsConcatenationIn version written)
         (InMemory (RefusesShardsInARow (map (λ x. x.now) shards.now))) out.old out.new result }
     ensures shard_succeeds { (written : List Shard) → (all : Shard) → IsShard all
         → AreInARow written all → AreBytesOf written (map (λ x. x.now) shards.now)
-        → 0 < length shards.now → IfErr result (λ e. e ≡ CoreError.OutOfMemory) }
+        → 0 < length shards.now → IfErr result (FailsIn version (values all.files)) }
     ensures ranges { (key : DataHash) → (cuts : List DataHash) → (join : Shard) → (parts : List Shard)
         → IsShard join → AreCuts None cuts None
         → AllZip (λ range part. IsPartOf (is_within range) join part) (ranges_between None cuts None)
         parts → AllZip (IsHeldLayout key) parts (map (λ x. x.now) shards.now)
-        → FillsWith (λ bytes. bytes ≡ keyed_layout join key) (λ e. e ≡ CoreError.OutOfMemory)
-        out.old out.new result }
+        → FillsWith (IsLayoutIn version (values join.files) (values join.xorbs) key)
+        (FailsIn version (values join.files)) out.old out.new result }
     ensures causes { FillsWith (λ _. ⊤)
         (InMemory (RefusesShardsInARow (map (λ x. x.now) shards.now))) out.old out.new result }
 {
+    if have_new_files(alloc, shards, version) {
+        return Err(CoreError::InvalidArguments);
+    }
     match shards_in_a_row_into(alloc, shards, out) {
-        Ok(size) => Ok(size),
+        Ok(size) => {
+            put_version(version, size, out);
+            Ok(size)
+        }
         Err(error) => Err(in_memory(error)),
     }
 }
 
 // `concatenate` without its clause on ranges.
-fn concatenate_parts(alloc: Global, shards: &[&[u8]]) -> Result<Vec<u8>>
+fn concatenate_parts(alloc: Global, shards: &[&[u8]], version: FormatVersion) -> Result<Vec<u8>>
     ensures parts { (key : DataHash) → (parts : List ShardPart) → All (IsPartUnder key) parts
         → map bytes_of_part parts ≡ map (λ x. x.now) shards.now
         → IfOk result
-        (λ bytes. bytes.items ≡ layout_of (files_in parts) (xorbs_in parts) (options_under key)) }
+        (λ bytes. IsLayoutIn version (files_in parts) (xorbs_in parts) key bytes.items) }
     ensures order { (key : DataHash) → (parts : List ShardPart) → All (IsPartUnder key) parts
         → map bytes_of_part parts ≡ map (λ x. x.now) shards.now
         → All (λ part. AscendBoth part.files part.xorbs) parts
         → IfOk result (λ _. AscendBoth (files_in parts) (xorbs_in parts)) }
     ensures succeeds { (key : DataHash) → (parts : List ShardPart) → ArePartsInARow key parts
         → map bytes_of_part parts ≡ map (λ x. x.now) shards.now
-        → IfErr result (λ e. e ≡ CoreError.OutOfMemory) }
+        → IfErr result (FailsIn version (files_in parts)) }
     ensures shard { (written : List Shard) → AreBytesOf written (map (λ x. x.now) shards.now)
-        → IfOk result (λ bytes. IsConcatenation written bytes.items) }
+        → IfOk result (λ bytes. IsConcatenationIn version written bytes.items) }
     ensures shard_succeeds { (written : List Shard) → (all : Shard) → IsShard all
         → AreInARow written all → AreBytesOf written (map (λ x. x.now) shards.now)
-        → 0 < length shards.now → IfErr result (λ e. e ≡ CoreError.OutOfMemory) }
+        → 0 < length shards.now → IfErr result (FailsIn version (values all.files)) }
     ensures causes { IfErr result (InMemory (RefusesShardsInARow (map (λ x. x.now) shards.now))) }
 {
+    if have_new_files(alloc, shards, version) {
+        return Err(CoreError::InvalidArguments);
+    }
     let mut bytes = with_room(alloc, total_length(shards))?;
     match shards_in_a_row(alloc, shards, &mut bytes) {
-        Ok(_) => Ok(bytes),
+        Ok(_) => {
+            put_version(version, bytes.len(), bytes.as_mut_slice());
+            Ok(bytes)
+        }
         Err(error) => Err(in_memory(error)),
+    }
+}
+
+// Puts the number of a version into the header of so many bytes in version 3 that were put to the
+// front of a slice, if they fit.
+fn put_version(version: FormatVersion, size: usize, out: &mut [u8])
+    ensures { (bytes before : List ℕ) → Fills bytes before out.old size
+        → (numbered : List ℕ) × IsNumberedIn version bytes numbered
+        × Fills numbered before out.new size }
+{
+    match version {
+        FormatVersion::V2 => {
+            let has_header = ROW_SIZE <= size;
+            let fits = size <= out.len();
+            put_number(has_header & fits, out);
+        }
+        FormatVersion::V3 => {}
     }
 }
 

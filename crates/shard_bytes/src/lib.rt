@@ -3,6 +3,7 @@
 #![tactic(auto)]
 
 pub mod agree;
+mod aux_rows;
 pub mod check;
 pub mod chunk_rows;
 pub mod combine;

@@ -25,6 +25,7 @@ pub use ranges::{HashRange, merge_range, merge_range_into};
 use std::alloc::Global;
 use std::io::Write;
 use trees::parts::place_tree;
+pub use trees::versions::put_number;
 use trees::versions::{fill_with_part_in, part_bytes_in};
 use two_shards::record_operation::{OfDifference, OfUnion};
 use two_shards::results::operate;

@@ -1,4 +1,4 @@
--- Steps towards what `InVersions` defines, which only contracts inside the crate speak of.
+-- Steps towards what `InVersions` defines, of which only contracts here and in the crate above speak.
 use Rattle.std.specs.Prelude.{◌≡◌, ◌⊎◌, ℕ, ◌≤◌, Bool, true, false, List, ◌++◌, length, take, drop}
 use Rattle.xet_base.specs.Bytes.{u64_bytes}
 use Rattle.xet_base.specs.declared.error.CoreError.{CoreError}

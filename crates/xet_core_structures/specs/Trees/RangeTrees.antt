@@ -1,5 +1,6 @@
 -- What trees of unions write of the records in a range of hashes.
 use Rattle.std.specs.Prelude.{◌≡◌, ◌⊎◌, ℕ, ◌≤◌, List, map, length, All, Contains}
+use Rattle.std.specs.FinMap.{values}
 use Rattle.std.specs.List.{AllZip}
 use Rattle.xet_base.specs.declared.error.CoreError.{CoreError}
 use Rattle.xet_base.specs.declared.error.CoreError.TheVariants.{InvalidArguments}
@@ -67,11 +68,13 @@ pub record IsHeldLayout (key : DataHash) (s : Shard) (bytes : List ℕ) : Type 0
   pub bytes_are : bytes ≡ keyed_layout s key
   pub holds : HoldsShard key s bytes
 
--- the byte strings are those of parts under a key, and the layout of the records of all parts is
--- that of this shard; if the shard is well-formed, the parts are in a row
+-- the byte strings are those of parts under a key, and the records of all parts are those of this
+-- shard, and so is their layout; if the shard is well-formed, the parts are in a row
 pub record AreRangesOf (key : DataHash) (whole : Shard) (bytes : List (List ℕ)) : Type 0 where
   pub parts : List ShardPart
   pub fit : All (IsPartUnder key) parts
   pub are : map bytes_of_part parts ≡ bytes
+  pub files_are : files_in parts ≡ values whole.files
+  pub xorbs_are : xorbs_in parts ≡ values whole.xorbs
   pub whole_is : layout_of (files_in parts) (xorbs_in parts) (options_under key) ≡ keyed_layout whole key
   pub row : IsShard whole → ArePartsInARow key parts

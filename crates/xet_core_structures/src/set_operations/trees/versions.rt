@@ -81,8 +81,8 @@ fn have_aux_rows(files: &[PlacedRecord<'_, FileDataSequenceHeader>]) -> bool
     files.iter().any(|file| file.header.contains_aux_ext())
 }
 
-// Puts the number of version 2 into a header, if it is wanted.
-fn put_number(wanted: bool, bytes: &mut [u8])
+/// Puts the number of version 2 into the header at the front of bytes, if it is wanted.
+pub fn put_number(wanted: bool, bytes: &mut [u8])
     requires { wanted ≡ true → 40 ≤ length bytes.old }
     ensures { AreNumbered wanted bytes.old bytes.new }
 {
