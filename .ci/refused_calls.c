@@ -6,7 +6,7 @@
 #include <stdlib.h>
 #include <string.h>
 
-enum { ROOM = 1 << 20, CALLS = 37 };
+enum { ROOM = 1 << 20, CALLS = 41 };
 
 void *__real_malloc(size_t size);
 void *__real_realloc(void *block, size_t size);
@@ -94,7 +94,7 @@ static uint32_t call(int number, size_t *count) {
     size_t differing = 0;
     const char *name = "0000000000000001000000000000000200000000000000030000000000000004.mdb";
     /* These write no count. */
-    if (number == 6 || (number > 25 && number < 30) || number > 32)
+    if (number == 6 || (number > 25 && number < 30) || number > 36)
         *count = 0;
     switch (number) {
     case 0:
@@ -177,10 +177,18 @@ static uint32_t call(int number, size_t *count) {
         return xet_write_in(files, counts.files, segments, counts.segments, xorbs, counts.xorbs, chunks_of_xorbs,
                             counts.chunks, 3, UINT64_MAX, out.bytes, ROOM, count);
     case 33:
-        return xet_hash_from_hex((const uint8_t *)name, 64, out.hashes);
+        return xet_union_in(first, first_length, second, second_length, 3, out.bytes, ROOM, count);
     case 34:
-        return xet_parse_shard_name((const uint8_t *)name, 68, out.hashes);
+        return xet_difference_in(first, first_length, second, second_length, 2, out.bytes, ROOM, count);
     case 35:
+        return xet_concatenate_in(both + 1, 1, 2, out.bytes, ROOM, count);
+    case 36:
+        return xet_merge_agreeing_in(twice, 2, 3, out.agreeing.bytes, ROOM, count, &differing, &out.agreeing.first);
+    case 37:
+        return xet_hash_from_hex((const uint8_t *)name, 64, out.hashes);
+    case 38:
+        return xet_parse_shard_name((const uint8_t *)name, 68, out.hashes);
+    case 39:
         return xet_hash_bytes(&file, first, first_length, out.hashes) | xet_hmac(&file, chunks, out.hashes);
     default:
         return xet_version() == XET_VERSION_NUMBER ? xet_load(first, first_length, &out.info) : XET_OTHER;

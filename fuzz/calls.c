@@ -62,8 +62,18 @@ static uint32_t call_union(const struct input *input, void *out, size_t capacity
     return within_room(error, input->shards[0].length + input->shards[1].length, *written);
 }
 
+static uint32_t call_union_in(const struct input *input, void *out, size_t capacity, size_t *written) {
+    uint32_t error = xet_union_in(SHARD(0), SHARD(1), 2, out, capacity, written);
+    return within_room(error, input->shards[0].length + input->shards[1].length, *written);
+}
+
 static uint32_t call_difference(const struct input *input, void *out, size_t capacity, size_t *written) {
     uint32_t error = xet_difference(SHARD(0), SHARD(1), out, capacity, written);
+    return within_room(error, input->shards[1].length, *written);
+}
+
+static uint32_t call_difference_in(const struct input *input, void *out, size_t capacity, size_t *written) {
+    uint32_t error = xet_difference_in(SHARD(0), SHARD(1), 2, out, capacity, written);
     return within_room(error, input->shards[1].length, *written);
 }
 
@@ -384,6 +394,8 @@ static uint32_t call_find_places(const struct input *input, void *out, size_t ca
 static const struct filling fillings[] = {
     {"xet_union", 1, OF_MERGING, call_union, 3},
     {"xet_difference", 1, OF_MERGING, call_difference, 3},
+    {"xet_union_in", 1, OF_MERGING, call_union_in, 2},
+    {"xet_difference_in", 1, OF_MERGING, call_difference_in, 2},
     {"xet_merge", 1, OF_MERGING, call_merge, 3},
     {"xet_merge_range", 1, OF_MERGING, call_merge_range, 3},
     {"xet_merge_in", 1, OF_MERGING, call_merge_in, 2},

@@ -197,6 +197,12 @@ static inline size_t xet_minimal_room(size_t bytes) {
 uint32_t xet_union(const uint8_t *first, size_t first_length, const uint8_t *second, size_t second_length, uint8_t *out,
                    size_t capacity, size_t *written);
 
+/* The same in a version of the format, 2 or 3.
+ *
+ * XET_INVALID_ARGUMENTS: also if it is another version, or 2, and a file of the union has an auxiliary row. */
+uint32_t xet_union_in(const uint8_t *first, size_t first_length, const uint8_t *second, size_t second_length,
+                      uint64_t version, uint8_t *out, size_t capacity, size_t *written);
+
 /* Writes the union of one shard or more: that of the first half of the list with that of the second, each made in the
  * same way, down to single shards; if only one is given it is united with itself. If the sections of the inputs hold
  * well-formed shards that agree pairwise, under one key, it is the bytes of their join, which has no order, or fails
@@ -342,6 +348,10 @@ uint32_t xet_merge_agreeing_in(const xet_bytes *shards, size_t count, uint64_t v
  * The errors are those of xet_union, without that of files that have to be combined. */
 uint32_t xet_difference(const uint8_t *first, size_t first_length, const uint8_t *second, size_t second_length,
                         uint8_t *out, size_t capacity, size_t *written);
+
+/* The same in a version of the format, as xet_union_in. */
+uint32_t xet_difference_in(const uint8_t *first, size_t first_length, const uint8_t *second, size_t second_length,
+                           uint64_t version, uint8_t *out, size_t capacity, size_t *written);
 
 /* Writes a shard with each chunk hash replaced by its keyed hash, and with the parts that are asked for.
  *

@@ -875,6 +875,27 @@ def in_version_2(shard):
     return shard[:32] + bytes([2, 0, 0, 0, 0, 0, 0, 0]) + shard[40:]
 
 
+def test_two_shards_in_version_2():
+    new, plain = Shard(), Shard()
+    new.add_file("100", "v=365", "x=777", "200:0:5:5")
+    plain.add_file("101", "s=9364", "200:0:5:5")
+    for it in (new, plain):
+        it.add_xorb("10", "21:5")
+    new, plain, old = new.written(), plain.written(), plain.written(version=2)
+    assert plain[32:40] == bytes([3, 0, 0, 0, 0, 0, 0, 0]) and old == in_version_2(plain)
+    for first, second in ((plain, plain), (plain, old), (old, plain)):
+        assert xet_shards.union(first, second, version=2) == old
+        assert xet_shards.union(first, second) == xet_shards.union(first, second, version=3) == plain
+    # The first shard has the file with the auxiliary row, and the difference does not.
+    rest = xet_shards.difference(new, plain)
+    assert rest[32] == 3 and xet_shards.difference(new, plain, version=2) == in_version_2(rest)
+    for call in (xet_shards.union, xet_shards.difference):
+        refused("InvalidArguments", call, plain, new, version=2)
+        refused("InvalidArguments", call, plain, plain, version=4)
+    text = str(refused("InvalidArguments", xet_shards.union, new, plain, version=2))
+    assert text.startswith("the keys of the shards differ, or a file has a row that the version does not have"), text
+
+
 def test_concatenate_in_version_2():
     shards = [Shard() for _ in range(3)]
     for it, name in zip(shards, ("100", "101", "102")):

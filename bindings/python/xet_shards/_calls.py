@@ -21,6 +21,7 @@ _LISTS = [c_void_p, c_size_t] * 4
 _CALLS = {
     "xet_load": [*_SHARD, POINTER(_Info)],
     "xet_union": [*_SHARD, *_SHARD, *_OUT],
+    "xet_union_in": [*_SHARD, *_SHARD, c_uint64, *_OUT],
     "xet_merge": [*_LIST, *_OUT],
     "xet_merge_in": [*_LIST, c_uint64, *_OUT],
     "xet_merge_range": [*_LIST, POINTER(_Range), *_OUT],
@@ -33,6 +34,7 @@ _CALLS = {
     "xet_find_disagreements": [*_LIST, POINTER(_Disagreement), c_size_t, POINTER(c_size_t)],
     "xet_find_malformed": [*_LIST, POINTER(c_bool), POINTER(_Disagreement)],
     "xet_difference": [*_SHARD, *_SHARD, *_OUT],
+    "xet_difference_in": [*_SHARD, *_SHARD, c_uint64, *_OUT],
     "xet_export": [*_SHARD, POINTER(_Export), *_OUT],
     "xet_minimal": [*_SHARD, c_uint64, c_bool, c_bool, *_OUT],
     "xet_subset": [*_SHARD, POINTER(_Subset), *_HASHES, *_OUT],

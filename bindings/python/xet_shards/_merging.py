@@ -15,22 +15,25 @@ from ._memory import Buffer, WritableBuffer, _Addresses, _filled, _list, _made, 
 from ._structs import _Disagreement, _Range, _Words
 
 
-def union(first: Buffer, second: Buffer) -> bytes:
-    """Returns the union of two shards of one key."""
-    return _combined(_library.xet_union, first, second)
+def union(first: Buffer, second: Buffer, version: int = 3) -> bytes:
+    """Returns the union of two shards of one key.
+
+    It is in version 3 of the format, or in `version` 2, which no file with an auxiliary row may have.
+    """
+    return _combined(_library.xet_union_in, first, second, version)
 
 
-def difference(first: Buffer, second: Buffer) -> bytes:
-    """Returns the second shard's records whose hashes the first does not have."""
-    return _combined(_library.xet_difference, first, second)
+def difference(first: Buffer, second: Buffer, version: int = 3) -> bytes:
+    """Returns the second shard's records whose hashes the first does not have, in a version as `union`."""
+    return _combined(_library.xet_difference_in, first, second, version)
 
 
-def _combined(operation: Callable[..., Any], first: Buffer, second: Buffer) -> bytes:
+def _combined(operation: Callable[..., Any], first: Buffer, second: Buffer, version: int) -> bytes:
     with _Addresses(first, second) as [one, other]:
         return _made(
             one[1] + other[1],
-            lambda out, room, written: operation(*one, *other, out, room, byref(written)),
-            _OTHER_KEYS,
+            lambda out, room, written: operation(*one, *other, _number(version), out, room, byref(written)),
+            _OTHER_KEYS + _or_new_rows(version),
         )
 
 

@@ -46,6 +46,7 @@ macro_rules! library {
 library! {
     fn xet_load(shard: &[u8], info: &mut Info) -> u32;
     fn xet_union(first: &[u8], second: &[u8], out: &mut [u8], written: &mut usize) -> u32;
+    fn xet_union_in(first: &[u8], second: &[u8], version: u64, out: &mut [u8], written: &mut usize) -> u32;
     fn xet_merge(shards: &[Bytes], out: &mut [u8], written: &mut usize) -> u32;
     fn xet_merge_in(shards: &[Bytes], version: u64, out: &mut [u8], written: &mut usize) -> u32;
     fn xet_merge_range(shards: &[Bytes], range: &Range, out: &mut [u8], written: &mut usize) -> u32;
@@ -65,6 +66,7 @@ library! {
         found: &mut Disagreement,
     ) -> u32;
     fn xet_difference(first: &[u8], second: &[u8], out: &mut [u8], written: &mut usize) -> u32;
+    fn xet_difference_in(first: &[u8], second: &[u8], version: u64, out: &mut [u8], written: &mut usize) -> u32;
     fn xet_export(shard: &[u8], options: &Export, out: &mut [u8], written: &mut usize) -> u32;
     fn xet_minimal(
         shard: &[u8], now: u64, verification: bool, aux_rows: bool, out: &mut [u8], written: &mut usize,

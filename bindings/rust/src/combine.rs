@@ -123,6 +123,26 @@ pub fn union(first: &[u8], second: &[u8]) -> Result<Vec<u8>> {
     bytes_of(length, |out, written| calls::xet_union(first, second, out, written))
 }
 
+/// What [`union`] makes, in a version of the format, 2 or 3.
+///
+/// # Errors
+///
+/// Those of [`union`]; `InvalidArguments` also if it is another version, or 2, and a file of the union has an auxiliary
+/// row.
+///
+/// ```
+/// # fn main() -> Result<(), Box<dyn std::error::Error>> {
+/// let (one, other) = (std::fs::read("examples/a.mdb")?, std::fs::read("examples/b.mdb")?);
+/// let union = xet_shards::union(&one, &other)?;
+/// assert_eq!(xet_shards::union_in(&one, &other, 2)?, xet_shards::write_v2(&union)?);
+/// # Ok(())
+/// # }
+/// ```
+pub fn union_in(first: &[u8], second: &[u8], version: u64) -> Result<Vec<u8>> {
+    let length = first.len().saturating_add(second.len());
+    bytes_of(length, |out, written| calls::xet_union_in(first, second, version, out, written))
+}
+
 /// The second shard's records whose hashes the first does not have. Both have one key.
 ///
 /// # Errors
@@ -139,6 +159,24 @@ pub fn union(first: &[u8], second: &[u8]) -> Result<Vec<u8>> {
 /// ```
 pub fn difference(first: &[u8], second: &[u8]) -> Result<Vec<u8>> {
     bytes_of(second.len(), |out, written| calls::xet_difference(first, second, out, written))
+}
+
+/// What [`difference`] makes, in a version of the format, 2 or 3, as [`union_in`].
+///
+/// # Errors
+///
+/// Those of [`difference`] and of [`union_in`].
+///
+/// ```
+/// # fn main() -> Result<(), Box<dyn std::error::Error>> {
+/// let (one, other) = (std::fs::read("examples/a.mdb")?, std::fs::read("examples/b.mdb")?);
+/// let rest = xet_shards::difference(&one, &other)?;
+/// assert_eq!(xet_shards::difference_in(&one, &other, 2)?, xet_shards::write_v2(&rest)?);
+/// # Ok(())
+/// # }
+/// ```
+pub fn difference_in(first: &[u8], second: &[u8], version: u64) -> Result<Vec<u8>> {
+    bytes_of(second.len(), |out, written| calls::xet_difference_in(first, second, version, out, written))
 }
 
 /// The union of one shard or more: that of the first half of the list with that of the second, each made in the same

@@ -35,9 +35,9 @@ mod walk;
 mod write;
 
 pub use combine::{
-    concatenate, concatenate_in, concatenate_into, difference, find_disagreement, find_disagreements, find_malformed,
-    merge, merge_agreeing, merge_agreeing_in, merge_in, merge_range, merge_range_in, union, Disagreement,
-    MalformedRecord, RecordHash,
+    concatenate, concatenate_in, concatenate_into, difference, difference_in, find_disagreement, find_disagreements,
+    find_malformed, merge, merge_agreeing, merge_agreeing_in, merge_in, merge_range, merge_range_in, union, union_in,
+    Disagreement, MalformedRecord, RecordHash,
 };
 pub use error::Error;
 pub use finding::{check, Finding, Part};

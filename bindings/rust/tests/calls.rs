@@ -198,6 +198,8 @@ fn version_2_without_auxiliary_rows() {
     assert_eq!(xet_shards::merge_in(&[&new, &old], 4), Err(Error::InvalidArguments));
     assert_eq!(xet_shards::merge_range_in(&[&new], .., 2).as_ref(), Ok(&old));
     assert_eq!(xet_shards::merge_agreeing_in(&[&old, &new], 2).as_ref(), Ok(&old));
+    assert_eq!(xet_shards::union_in(&old, &new, 2).as_ref(), Ok(&old));
+    assert_eq!(xet_shards::difference_in(&shard_of(&[]), &new, 2).as_ref(), Ok(&old));
     assert_eq!(xet_shards::concatenate_in(&[&new], 2).as_ref(), Ok(&old));
     assert_eq!(xet_shards::concatenate_in(&[&old], 3).as_ref(), Ok(&new));
     shard.add_file(&["101", "x=777", "200:0:5:5"]);
@@ -205,6 +207,8 @@ fn version_2_without_auxiliary_rows() {
     let aux = shard.written(NO_EXPIRY, 3);
     for (shard, version) in [(&aux, 2), (&new, 4)] {
         assert_eq!(xet_shards::merge_agreeing_in(&[shard], version), Err(Error::InvalidArguments));
+        assert_eq!(xet_shards::union_in(shard, &new, version), Err(Error::InvalidArguments));
+        assert_eq!(xet_shards::difference_in(&new, shard, version), Err(Error::InvalidArguments));
         assert_eq!(xet_shards::concatenate_in(&[shard], version), Err(Error::InvalidArguments));
     }
 }

@@ -1,5 +1,5 @@
 -- What is read of two byte strings in memory is what they are.
-use Rattle.std.proofs.Common.{◌≡◌, ◌⊎◌, inl, inr, ℕ, List, [], ◌++◌, None, Some, ap, ◌∙◌, subst, arith}
+use Rattle.std.proofs.Common.{◌≡◌, ◌⊎◌, inl, inr, ℕ, List, [], ◌++◌, None, Some, sym, ap, ◌∙◌, subst, arith}
 use Rattle.xet_core_structures.specs.declared.error.CoreError.{CoreError}
 use Rattle.xet_core_structures.specs.declared.error.CoreError.TheVariants.{OutOfMemory}
 use Rattle.xet_core_structures.specs.declared.shard_format.MDBShardInfo.{MDBShardInfo}
@@ -8,9 +8,14 @@ use Rattle.xet_core_structures.specs.Errors.{IsWriteError}
 use Rattle.xet_core_structures.specs.Source.{Source}
 use Rattle.xet_core_structures.specs.Ends.{HasHeaderAndFooter}
 use Rattle.xet_core_structures.specs.Shard.{Shard}
-use Rattle.xet_core_structures.specs.TwoShards.ByteResults.{keyed_layout, key_of, HaveResult, WritesResult, InputsFail}
+use Rattle.xet_core_structures.specs.TwoShards.ByteResults.{keyed_info, keyed_layout, key_of, HaveResult, WritesResult, InputsFail}
+use Rattle.xet_core_structures.specs.TwoShards.Readable.{IsBytesUnderKey}
+use Rattle.xet_core_structures.specs.declared.merklehash.DataHash.{DataHash}
+use Rattle.xet_core_structures.proofs.LawProofs.FileLookups.{union_under, difference_under}
+use Rattle.shard_bytes.specs.declared.combine.Operation.{Operation}
+use Rattle.shard_bytes.specs.declared.combine.Operation.TheVariants.{Union, Difference}
 use Rattle.shard_bytes.proofs.MemoryErrors.{from_memory}
-use Rattle.shard_bytes.specs.Combining.{CombinesBytes, NotCombined, CombiningRefusal}
+use Rattle.shard_bytes.specs.Combining.{IsResultOf, CombinesBytes, NotCombined, CombiningRefusal}
 
 -- what a source in memory is
 abbrev pub in_memory : MemorySource → Source
@@ -40,3 +45,10 @@ module _ (x y x_read y_read : List ℕ) (i j : MDBShardInfo) (x_is : x_read ≡ 
     go none (inr (inl failed)) = absurd (omega (arith, failed.0))
     go none (inr (inr (inl failed))) = absurd (omega (arith, failed.0))
     go none (inr (inr (inr (same, same_too, refusal)))) = inr (inr (i, j, i_ends, j_ends, subst (λ p. p) (λ k. Refusal (x_is k) i (y_is k) j e) refusal))
+
+-- the result may be read, and is under the key of both
+pub result_under : (operation : Operation) (x y out : List ℕ) → CombinesBytes (IsResultOf operation) x y out → (key : DataHash) × (c : Shard) × IsBytesUnderKey key c out (keyed_info c key)
+result_under Union x y out (i, j, c, x_ends, y_ends, have, is) =
+    (key_of i, c, subst (λ bytes. IsBytesUnderKey (key_of i) c bytes (keyed_info c (key_of i))) (sym is) (union_under x i y j c x_ends have))
+result_under Difference x y out (i, j, c, x_ends, y_ends, have, is) =
+    (key_of i, c, subst (λ bytes. IsBytesUnderKey (key_of i) c bytes (keyed_info c (key_of i))) (sym is) (difference_under x i y j c x_ends have))

@@ -1,15 +1,18 @@
 //! Union and difference.
 
-ghost use Rattle.std.specs.Prelude.{[], ◌∷◌};
+ghost use Rattle.std.specs.Prelude.{[], ◌∷◌, length, IfOk, MatchResult};
+ghost use Rattle.xet_core_structures.specs.Trees.InVersions.{MadeIn, RefusedIn};
 ghost use Rattle.shard_bytes.specs.declared.combine.Operation.TheVariants.{Union, Difference};
 ghost use Rattle.shard_bytes.specs.Combining.{IsResultOf, RefusalOf, CombinesBytes, CombiningRefusal};
-ghost use Rattle.shard_bytes.specs.Sizes.{IsResultSize};
+ghost use Rattle.shard_bytes.specs.Sizes.{IsResultSize, sources_of};
 ghost use Rattle.xet_c.specs.Output.{Outcome};
+ghost use Rattle.xet_c.specs.Versions.{InNumber, NotInNumber};
 
 use crate::output::deliver;
-use shard_bytes::combine::{Operation, combine_bytes};
+use shard_bytes::combine::{Operation, combine_bytes, combine_bytes_in};
 use std::alloc::Global;
-use xet_core_structures::error::CoreError;
+use xet_core_structures::error::{CoreError, Result};
+use xet_core_structures::set_operations::FormatVersion;
 
 /// The union of two shards, to the front of `out`.
 #[unsafe(no_mangle)]
@@ -29,6 +32,28 @@ pub extern "C" fn xet_union(
     deliver(union, out, written)
 }
 
+/// The same in a version of the format, by its number.
+#[unsafe(no_mangle)]
+pub extern "C" fn xet_union_in(
+    alloc: Global,
+    first: &[u8],
+    second: &[u8],
+    version: u64,
+    out: &mut [u8],
+    written: &mut usize,
+) -> u32
+    ensures combined { Outcome
+        (InNumber version (λ v. MadeIn v (CombinesBytes (IsResultOf Union) first.now second.now)))
+        (NotInNumber version
+        (λ v. RefusedIn v (CombinesBytes (IsResultOf Union) first.now second.now)
+        (CombiningRefusal (RefusalOf Union) first.now second.now))) out.old out.new
+        written.new result }
+    ensures size { IsResultSize (first.now ∷ second.now ∷ []) written.new }
+{
+    let union = combine_in(alloc, Operation::Union, first, second, version);
+    deliver(union, out, written)
+}
+
 /// The records of the second shard whose hashes the first does not have, to the front of `out`.
 #[unsafe(no_mangle)]
 pub extern "C" fn xet_difference(
@@ -45,4 +70,48 @@ pub extern "C" fn xet_difference(
 {
     let difference = combine_bytes(alloc, Operation::Difference, first, second);
     deliver(difference, out, written)
+}
+
+/// The same in a version of the format, by its number.
+#[unsafe(no_mangle)]
+pub extern "C" fn xet_difference_in(
+    alloc: Global,
+    first: &[u8],
+    second: &[u8],
+    version: u64,
+    out: &mut [u8],
+    written: &mut usize,
+) -> u32
+    ensures combined { Outcome
+        (InNumber version (λ v. MadeIn v (CombinesBytes (IsResultOf Difference) first.now second.now)))
+        (NotInNumber version
+        (λ v. RefusedIn v (CombinesBytes (IsResultOf Difference) first.now second.now)
+        (CombiningRefusal (RefusalOf Difference) first.now second.now))) out.old out.new
+        written.new result }
+    ensures size { IsResultSize (second.now ∷ []) written.new }
+{
+    let difference = combine_in(alloc, Operation::Difference, first, second, version);
+    deliver(difference, out, written)
+}
+
+fn combine_in(
+    alloc: Global,
+    operation: Operation,
+    first: &[u8],
+    second: &[u8],
+    version: u64,
+) -> Result<Vec<u8>>
+    ensures combined { MatchResult result
+        (λ bytes. InNumber version
+        (λ v. MadeIn v (CombinesBytes (IsResultOf operation) first.now second.now)) bytes.items)
+        (NotInNumber version
+        (λ v. RefusedIn v (CombinesBytes (IsResultOf operation) first.now second.now)
+        (CombiningRefusal (RefusalOf operation) first.now second.now))) }
+    ensures size { IfOk result
+        (λ bytes. IsResultSize (sources_of operation first.now second.now) (length bytes.items)) }
+{
+    match FormatVersion::of_number(version) {
+        Some(version) => combine_bytes_in(alloc, operation, first, second, version),
+        None => Err(CoreError::InvalidArguments),
+    }
 }
