@@ -441,7 +441,7 @@ def merge_in_parts_wants_regular_files(place):
     os.mkfifo(place.path("pipe"))
     for words, named in ((("-", "-o", "out.mdb"), "-"), (("pipe", "-o", "out.mdb"), "pipe")):
         run = place.run("merge", "both.mdb", *words, "--memory", "1M")
-        said = f"{named}: it is no regular file, which --memory and --to need\n"
+        said = f"{named}: it is no regular file, which --memory, --to and gc need\n"
         wants(named, (run.returncode, run.stderr.decode()) == (1, said))
     for target, named in (("-", "standard output"), ("pipe", "pipe")):
         run = place.run("merge", "both.mdb", "-o", target, "--memory", "1M")
@@ -486,11 +486,24 @@ def lists_may_end_with_zero_bytes(place):
     wants("no list", (run.returncode, run.stderr, run.stdout) == (1, said, b""))
 
 
+def garbage_in_little_memory_is_the_same(place):
+    many_shards(place, 12)
+    run = place.run("gc", "many")
+    wants("in one pass", (run.returncode, run.stderr) == (3, b""))
+    found = run.stdout.decode().splitlines()
+    wants("each once", len(found) > 128 and len(set(found)) == len(found))
+    # "xorb " and 64 digits
+    wants("in ascending order", found == sorted(found, key=lambda line: line[:69]))
+    parts = place.run("gc", "many", "--memory", "1")
+    wants("in several passes", (parts.returncode, parts.stdout, parts.stderr) == (3, run.stdout, b""))
+    wants("nothing is written", place.names() == ["both.mdb", "both_3.mdb", "many", "one_file.mdb"])
+
+
 def pages_have_all_commands(place):
     subprocess.run([f"{TOP}/.ci/mdb_pages", place.program, place.path("pages")], check=True, timeout=60)
     about = place.run("--help").stdout.decode()
     commands = [it for it in re.findall(r"^  ([a-z]+)  ", about, re.MULTILINE) if it != "help"]
-    wants("all commands", len(commands) == 16)
+    wants("all commands", len(commands) == 17)
     for page in ("mdb.1", "mdb.bash", "_mdb", "mdb.fish"):
         text = place.read(f"pages/{page}").decode().replace("\\-", "-")
         for command in commands:
@@ -516,7 +529,7 @@ ROWS = (
     terminal_shows_progress, now_is_the_clock, merge_in_parts_is_the_merge, merge_in_parts_takes_little_memory,
     merge_of_more_than_memory_reads_ends_alone, failed_merge_in_parts_leaves_the_target,
     killed_merge_in_parts_leaves_one_file, merge_in_parts_wants_regular_files, groups_are_named_by_their_bytes,
-    lists_may_end_with_zero_bytes, pages_have_all_commands,
+    lists_may_end_with_zero_bytes, garbage_in_little_memory_is_the_same, pages_have_all_commands,
 )
 
 

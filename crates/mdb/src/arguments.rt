@@ -1,13 +1,14 @@
 //! What a command line asks for.
 
 use crate::files::STANDARD_STREAM;
+use crate::gc::DEFAULT_MEMORY;
 use crate::request::{
     Compaction, HashList, Making, Merge, Removal, Request, Sources, Strictness, Target,
 };
 use crate::{command_line, id};
 use clap::error::ErrorKind;
 use clap::{ArgMatches, Error};
-use mdb_report::inquiry::Inquiry;
+use mdb_report::inquiry::{Checks, Inquiry};
 use mdb_report::line::Style;
 use mdb_report::moment::seconds_of;
 use mdb_report::size::bytes_of;
@@ -139,12 +140,12 @@ fn inspection_in<'a>(
     name: &str,
     matches: &ArgMatches<'a>,
 ) -> Result<Request<'a>, Refusal<'a>> {
-    let style = if matches.get_flag(id::JSON) {
-        Style::Json
-    } else {
-        Style::Text
-    };
+    let style = style_in(matches);
     match name {
+        "gc" => {
+            let memory = size_in(matches, id::MEMORY)?.unwrap_or(DEFAULT_MEMORY);
+            Ok(Request::Collect(sources_in(alloc, matches)?, style, memory))
+        }
         "find" | "query" => {
             let (sources, hashes) = lookup_in(alloc, matches)?;
             let inquiry = match name {
@@ -161,6 +162,14 @@ fn inspection_in<'a>(
             let inquiry = inquiry_in(name, matches)?;
             Ok(Request::Inspect(sources_in(alloc, matches)?, inquiry, style))
         }
+    }
+}
+
+fn style_in(matches: &ArgMatches<'_>) -> Style {
+    if matches.get_flag(id::JSON) {
+        Style::Json
+    } else {
+        Style::Text
     }
 }
 
@@ -229,10 +238,12 @@ fn inquiry_in<'a>(name: &str, matches: &ArgMatches<'a>) -> Result<Inquiry, Refus
     match name {
         "info" if matches.get_flag(id::BRIEF) => Ok(Inquiry::Brief),
         "info" => Ok(Inquiry::Summary),
-        "check" => Ok(Inquiry::Check {
+        "check" => Ok(Inquiry::Check(Checks {
             named: matches.get_flag(id::NAME),
             key: hash_key_in(matches)?,
-        }),
+            deep: matches.get_flag(id::DEEP),
+            strict: matches.get_flag(id::STRICT),
+        })),
         "name" => match hash_key_in(matches)? {
             Some(key) => Ok(Inquiry::Name { key }),
             None => Err(Refusal::Missing(id::HASH_KEY)),

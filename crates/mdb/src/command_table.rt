@@ -93,6 +93,12 @@ const FILES: Argument = word!(
     "The shards; a folder stands for its .mdb files, and - for standard input"
 );
 
+const FILES_ALONE: Argument = word!(
+    FILE,
+    ValuesOrList,
+    "The shards, taken together; a folder stands for its .mdb files"
+);
+
 const LOOKED_IN: Argument = word!(
     FILE,
     ValuesOrList,
@@ -254,6 +260,29 @@ const INQUIRIES: &[Row] = &[
                 "hash-key",
                 Value,
                 "Checks too that each name has the hash of the bytes under this key, of 64 hexadecimal digits"
+            ),
+            flag!(
+                DEEP,
+                "Checks too that a shard's segments and xorbs fit together, as gc does for many"
+            ),
+            flag!(STRICT, "Counts notes too"),
+            JSON,
+        ],
+    },
+    Row {
+        name: "gc",
+        about: "Finds xorbs that no file names, and segments that do not fit; exit status 3 if there are any",
+        examples: help::GC,
+        usage: None,
+        arguments: &[
+            FILES_ALONE,
+            LIST,
+            NULL,
+            option!(
+                MEMORY,
+                "memory",
+                Value,
+                "About how much memory to take, as 1G; 256M by default"
             ),
             JSON,
         ],

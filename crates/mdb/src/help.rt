@@ -30,7 +30,14 @@ Examples:
   mdb query a.mdb 0000000000000015000000000000000100000000000000000000000000000000
   mdb query --hash 0000000000000015000000000000000100000000000000000000000000000000 cache";
 
-pub const CHECK: &str = "Example:\n  mdb check cache";
+pub const CHECK: &str = "Examples:\n  mdb check cache\n  mdb check --deep --strict a.mdb";
+
+pub const GC: &str =
+    "The shards are read several times if what is kept of them takes more memory than is given.
+
+Examples:
+  mdb gc cache
+  mdb gc --json --memory 1G cache/*.mdb";
 
 pub const NAME: &str = "Example:\n  mdb name a.mdb \
     --hash-key 0000000000000001000000000000000200000000000000030000000000000004";

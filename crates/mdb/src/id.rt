@@ -34,6 +34,8 @@ pub const BRIEF: &str = "brief";
 
 pub const NAME: &str = "name";
 
+pub const DEEP: &str = "deep";
+
 pub const FOLDER: &str = "FOLDER";
 
 pub const VERSION: &str = "VERSION";

@@ -5,7 +5,7 @@ use crate::files::{open_sized, read, read_ends, read_shard};
 use crate::inputs::Inputs;
 use crate::run::{Status, failed};
 use mdb_report::fault::{Fault, fault_of, section_fault};
-use mdb_report::inquiry::{Answer, Inquiry, Trouble, print_answer, print_end};
+use mdb_report::inquiry::{Answer, Checks, Inquiry, Trouble, print_answer, print_end};
 use mdb_report::line::{Layout, Style};
 use mdb_report::paged_inquiry::print_paged_answer;
 use mdb_report::tally::Tally;
@@ -120,7 +120,7 @@ fn read_for<R: Files + Input + AllocGlobal>(
     file: &str,
 ) -> io::Result<Vec<u8>> {
     match inquiry {
-        Inquiry::Name { .. } | Inquiry::Check { key: Some(_), .. } => read(rt, file),
+        Inquiry::Name { .. } | Inquiry::Check(Checks { key: Some(_), .. }) => read(rt, file),
         _ => read_shard(rt, file).map(|contents| contents.bytes),
     }
 }

@@ -13,6 +13,7 @@ mod expiry;
 mod failure;
 mod files;
 mod free_memory;
+mod gc;
 mod hash_list;
 mod help;
 mod id;

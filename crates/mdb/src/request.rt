@@ -14,6 +14,8 @@ use xet_records::record_reader::FormatVersion;
 pub enum Request<'a> {
     /// To print answers about shards.
     Inspect(Sources<'a>, Inquiry, Style),
+    /// To print what does not fit together in shards, in about so many bytes of memory.
+    Collect(Sources<'a>, Style, u64),
     /// To write a shard.
     Make(Making<'a>, Target<'a>),
     /// To write a merge of shards.

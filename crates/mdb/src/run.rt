@@ -5,6 +5,7 @@ ghost use Rattle.mdb.specs.Status.{number_of, after_finding};
 
 use crate::arguments::request_of;
 use crate::failure::Failure;
+use crate::gc::collect_garbage;
 use crate::hash_list::add_listed;
 use crate::inputs::inputs_of;
 use crate::inspect::inspect;
@@ -101,6 +102,10 @@ fn status_of<R: Files + Input + Clock + Print + Eprint + RandomSource + AllocGlo
     match request {
         Request::Inspect(sources, inquiry, style) => match inputs_of(rt, sources, unreadable) {
             Ok(inputs) => inspect(rt, &inputs, inquiry, *style),
+            Err(_) => failed(rt, &Failure::on_words(Fault::OutOfMemory)),
+        },
+        Request::Collect(sources, style, memory) => match inputs_of(rt, sources, unreadable) {
+            Ok(inputs) => collect_garbage(rt, &inputs, *style, *memory),
             Err(_) => failed(rt, &Failure::on_words(Fault::OutOfMemory)),
         },
         Request::Make(making, target) => {

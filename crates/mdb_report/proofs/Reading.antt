@@ -11,7 +11,7 @@ use Rattle.xet_core_structures.specs.Ends.{HasHeaderAndFooter}
 use Rattle.xet_core_structures.specs.Errors.{CoreResult}
 use Rattle.xet_core_structures.specs.Source.{Source}
 use Rattle.xet_core_structures.specs.FileRecord.{file_records, file_records_in, FitsItsHeader}
-use Rattle.xet_core_structures.specs.SectionReading.{ReadsAll, ReadsFiles}
+use Rattle.xet_core_structures.specs.SectionReading.{ReadsAll, ReadsFiles, ReadsXorbs}
 use Rattle.xet_core_structures.specs.declared.file_structs.MDBFileInfo.{MDBFileInfo}
 use Rattle.xet_core_structures.specs.XorbRecord.{xorb_records, HasItsChunks}
 use Rattle.xet_core_structures.specs.declared.xorb_structs.MDBXorbInfo.{MDBXorbInfo}
@@ -23,6 +23,7 @@ use Rattle.xet_records.specs.RecordKind.{RecordKind, in_version}
 use Rattle.shard_bytes.specs.Outcomes.{HasOutcome}
 use Rattle.shard_bytes.proofs.Combining.{in_memory}
 use Rattle.mdb_report.specs.Records.{HoldsFiles, FilesRefusal}
+use Rattle.mdb_report.specs.Unfit.{HoldsXorbs, XorbsRefusal}
 use Rattle.xet_records.proofs.RecordKinds.{file_laws, xorb_laws, laws_in, stored_ever}
 use Rattle.xet_core_structures.proofs.Records.RecordsAsRead.{all_handed}
 
@@ -88,3 +89,14 @@ of_result (Err e) P Q Fails weaker is = tt
 pub no_more_rows : {H R : Type 0} (K : RecordKind H R) (Took : List ℕ → Type 0) (left after : ℕ) (found : Option R) → ReadsNextRecord K Took left after found → after ≤ left
 no_more_rows K Took left after None reads = omega (arith, reads.stays)
 no_more_rows K Took left after (Some found) reads = omega (arith, reads.rows)
+
+-- the same of xorbs
+pub read_xorbs_whole : {Z : Type 0} (old new : Source) (at : ℕ) (result : CoreResult (Vec MDBXorbInfo Z)) → ReadsAll xorb_records old new at result → IfOk result (λ xorbs. All HasItsChunks xorbs.items)
+read_xorbs_whole old new at (Ok xorbs) reads = λ k r below.
+    (all_handed xorb_records xorb_laws reads.stored xorbs.items reads.section.records.are_stored reads.returned k r below).count
+read_xorbs_whole old new at (Err e) reads = tt
+
+pub xorbs_in_memory : {Z : Type 0} (bytes : List ℕ) (info : MDBShardInfo) (old new : MemorySource) (result : CoreResult (Vec MDBXorbInfo Z)) → HasHeaderAndFooter bytes info → old.bytes.now ≡ bytes
+    → ReadsXorbs info (in_memory old) (in_memory new) result → MatchResult result (λ xorbs. HoldsXorbs bytes xorbs.items) (XorbsRefusal bytes)
+xorbs_in_memory bytes info old new (Ok xorbs) ends same reads = outcome_in_memory bytes info old new ends same reads
+xorbs_in_memory bytes info old new (Err e) ends same fails = inr (inl (outcome_in_memory bytes info old new ends same fails))

@@ -1,19 +1,21 @@
 -- What the answer to an inquiry says.
-use Rattle.std.specs.Prelude.{◌≡◌, ◌⊎◌, ⊤, Bool, true, false, ℕ, List, length}
+use Rattle.std.specs.Prelude.{◌≡◌, ◌⊎◌, ⊤, Bool, IsTrue, true, false, ℕ, List, length}
 use Rattle.xet_core_structures.specs.declared.shard_format.MDBShardInfo.{MDBShardInfo}
 use Rattle.xet_core_structures.specs.Ends.{HasHeaderAndFooter}
-use Rattle.shard_bytes.specs.Checking.{IsIntact}
+use Rattle.shard_bytes.specs.Checking.{IsIntact, IsWhole}
+use Rattle.mdb_report.specs.declared.inquiry.Checks.{Checks}
 use Rattle.mdb_report.specs.declared.inquiry.Inquiry.{Inquiry}
 use Rattle.mdb_report.specs.declared.inquiry.Inquiry.TheVariants.{Summary, Brief, Check, Find, FindXorbs, Query}
 use Rattle.mdb_report.specs.declared.parts.Parts.{Parts}
 use Rattle.mdb_report.specs.Parts.{PartsAscend}
 use Rattle.mdb_report.specs.Summary.{ArePartsOf}
+use Rattle.mdb_report.specs.Unfit.{IsFit}
 
 -- the inquiry may find problems: a summary, also in a line, or a check
 abbrev pub FindsProblems : Inquiry → Type 0
 FindsProblems Summary = ⊤
 FindsProblems Brief = ⊤
-FindsProblems (Check named key) = ⊤
+FindsProblems (Check checks) = ⊤
 FindsProblems _ = ⊥
 
 -- the inquiry looks something up: files or xorbs by their hashes, or a run of chunks
@@ -38,9 +40,16 @@ HasAscendingParts bytes =
     (info : MDBShardInfo) × HasHeaderAndFooter bytes info
     × ((parts : Parts) × ArePartsOf info (length bytes) parts × PartsAscend parts)
 
+-- what a check says of the bytes if it finds nothing: they are intact, or whole if it is strict, and
+-- the records fit together if it is deep
+pub record IsSound (checks : Checks) (bytes : List ℕ) : Type 0 where
+  pub intact : IsIntact bytes
+  pub whole : IsTrue checks.strict → IsWhole bytes
+  pub fit : IsTrue checks.deep → IsFit bytes
+
 -- what an inquiry that may find problems says of the bytes if it finds none
 abbrev pub IsClean : Inquiry → List ℕ → Type 0
 IsClean Summary bytes = HasAscendingParts bytes
 IsClean Brief bytes = HasAscendingParts bytes
-IsClean (Check named key) bytes = IsIntact bytes
+IsClean (Check checks) bytes = IsSound checks bytes
 IsClean _ bytes = ⊤

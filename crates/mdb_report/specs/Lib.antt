@@ -9,3 +9,4 @@ pub mod Records
 pub mod Sections
 pub mod Summary
 pub mod Tables
+pub mod Unfit

@@ -62,7 +62,7 @@ pub enum Fault {
     LongWord,
     /// Bytes are to be written to a terminal.
     Terminal,
-    /// A merge with `--memory` or `--to` is to read what is no regular file.
+    /// A merge with `--memory` or `--to`, or `gc`, is to read what is no regular file.
     NoParts,
     /// A merge with `--memory` is to be written to what is no regular file.
     NoPlace,
@@ -128,7 +128,7 @@ impl Fault {
             Fault::NoText => "the name is not UTF-8, so it can't be opened",
             Fault::LongWord => "an argument is too long",
             Fault::Terminal => "it is a terminal: write the shard to a file, by -o, or to a pipe",
-            Fault::NoParts => "it is no regular file, which --memory and --to need",
+            Fault::NoParts => "it is no regular file, which --memory, --to and gc need",
             Fault::NoPlace => "it is no regular file, which --memory needs to write to",
             Fault::Changed => "it was changed while it was read",
             _ => "it failed",

@@ -1,10 +1,10 @@
 //! What a shard can be asked, and printing its answers.
 
-ghost use Rattle.std.specs.Prelude.{◌≡◌, ◌≢◌, ◌↔◌, All, is_some, IfOk, IsOk, IsTrue};
-ghost use Rattle.shard_bytes.specs.Checking.{IsIntact};
+ghost use Rattle.std.specs.Prelude.{◌≡◌, ◌≢◌, ◌↔◌, [], All, is_some, IfOk, IsOk, IsTrue};
 ghost use Rattle.mdb_report.specs.Problems.{IsNoted};
 ghost use Rattle.mdb_report.specs.Parts.{PartsAscend};
-ghost use Rattle.mdb_report.specs.Answers.{FindsProblems, LooksUp, IsClean, HasAscendingParts, SaysNoMore};
+ghost use Rattle.mdb_report.specs.Answers.{FindsProblems, LooksUp, IsClean, IsSound, HasAscendingParts, SaysNoMore};
+ghost use Rattle.mdb_report.specs.Unfit.{IsFit};
 
 use crate::brief::Brief;
 use crate::hex::{HashReport, Hex};
@@ -16,6 +16,7 @@ use crate::records::{ChunkReport, XorbReport, file_reports};
 use crate::summary::Summary;
 use crate::tables::{Table, lacks_chunk_table, lacks_file_table};
 use crate::tally::Tally;
+use crate::unfit::print_unfit;
 use crate::xorb_printing::{find_xorbs, print_lacking};
 use shard_bytes::check::Section;
 use shard_bytes::load::load_bytes;
@@ -35,12 +36,8 @@ pub enum Inquiry {
     Summary,
     /// The same in a line, without where the parts are.
     Brief,
-    /// What is not as the library would write it; with `named` also whether the file has the name of
-    /// a shard, and with a key whether it has the name that its bytes have under this key.
-    Check {
-        named: bool,
-        key: Option<HMACKey>,
-    },
+    /// What is not as it should be.
+    Check(Checks),
     /// The name that its bytes have by their hash under a key.
     Name {
         key: HMACKey,
@@ -72,6 +69,19 @@ pub enum Inquiry {
     },
     /// The chunks that the global index keeps.
     Eligible,
+}
+
+/// What a check looks at, beside whether a shard is as the library would write it.
+#[derive(Clone, Copy, Debug, PartialEq, Eq)]
+pub struct Checks {
+    /// Whether the file has the name of a shard.
+    pub named: bool,
+    /// Whether it has the name that its bytes have under this key.
+    pub key: Option<HMACKey>,
+    /// Whether its records fit together.
+    pub deep: bool,
+    /// Whether a note counts as a problem.
+    pub strict: bool,
 }
 
 impl Inquiry {
@@ -157,8 +167,8 @@ pub fn print_answer<W: Write>(
     match inquiry {
         Inquiry::Summary => return summarize(alloc, file, bytes, layout.style, output),
         Inquiry::Brief => return brief_of(alloc, file, bytes, layout.style, tally, output),
-        Inquiry::Check { named, key } => {
-            return check(alloc, file, *named, *key, bytes, layout.style, output);
+        Inquiry::Check(checks) => {
+            return check(alloc, file, *checks, bytes, layout.style, output);
         }
         Inquiry::Name { key } => print_name(alloc, bytes, *key, layout, output)?,
         Inquiry::Files { long } => print_files(alloc, bytes, *long, layout, output)?,
@@ -297,30 +307,59 @@ pub(crate) fn print_brief<W: Write>(
     }
 }
 
-// Prints the problems of a file at a path, with that of its name if it is to be the name of a
-// shard.
+// Prints the problems of a file at a path, those of its name too if they are asked for.
 fn check<W: Write>(
     alloc: Global,
     file: &str,
-    named: bool,
-    key: Option<HMACKey>,
+    checks: Checks,
     bytes: &[u8],
     style: Style,
     output: &mut W,
 ) -> Result<Answer, Trouble>
     ensures { IfOk result (λ answer. (answer ≢ Answer.FoundNothing)
-        × (answer ≡ Answer.Printed → IsIntact bytes.now)) }
+        × (answer ≡ Answer.Printed → IsSound checks bytes.now)) }
 {
-    let problems = problems_asked(alloc, file, named, key, bytes)?;
+    let problems = problems_asked(alloc, file, checks.named, checks.key, bytes)?;
     let info = load_bytes(alloc, bytes).ok();
     for problem in &problems {
         let report = ProblemReport::of_problem(file, info.as_ref(), *problem);
         print(alloc, &report, Layout::plain(style), output)?;
     }
-    if are_notes(problems.as_slice()) {
+    let fits = fits_if(alloc, checks.deep, file, bytes, style, output)?;
+    if are_accepted(problems.as_slice(), checks.strict) && fits {
         Ok(Answer::Printed)
     } else {
         Ok(Answer::FoundProblems)
+    }
+}
+
+// Prints what does not fit together if that is asked for, and answers whether that is nothing.
+fn fits_if<W: Write>(
+    alloc: Global,
+    deep: bool,
+    file: &str,
+    bytes: &[u8],
+    style: Style,
+    output: &mut W,
+) -> Result<bool, Trouble>
+    ensures { IfOk result (λ fits. IsTrue fits → IsTrue deep → IsFit bytes.now) }
+{
+    if deep {
+        print_unfit(alloc, file, bytes, style, output)
+    } else {
+        Ok(true)
+    }
+}
+
+// Whether there is no problem, or, if the check is not strict, none but notes.
+fn are_accepted(problems: &[Problem], strict: bool) -> bool
+    ensures notes { IsTrue result → All IsNoted problems.now }
+    ensures none { IsTrue result → IsTrue strict → problems.now ≡ [] }
+{
+    if strict {
+        problems.is_empty()
+    } else {
+        are_notes(problems)
     }
 }
 

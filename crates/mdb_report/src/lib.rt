@@ -25,5 +25,6 @@ pub mod size;
 pub mod summary;
 pub mod tables;
 pub mod tally;
+pub mod unfit;
 pub mod xorb_lookup;
 pub mod xorb_printing;

@@ -41,7 +41,7 @@ pub fn print_paged_answer<F: Read + Seek + Drop, W: Write>(
     ensures nothing { IfOk result
         (λ found. IfSome found (λ answer. answer ≡ Answer.FoundNothing → LooksUp inquiry.now)) }
 {
-    if let Inquiry::Check { .. } | Inquiry::Name { .. } | Inquiry::Eligible = inquiry {
+    if let Inquiry::Check(_) | Inquiry::Name { .. } | Inquiry::Eligible = inquiry {
         return Ok(None);
     }
     let mut file = PagedFile::new(alloc, file, size)?;

@@ -90,8 +90,8 @@ impl<'a> ShardFile<'a> {
         self.info.metadata.chunk_hash_hmac_key
     }
 
-    // Opens the file at an offset, or at its end. It fails if the file is another one, or was changed.
-    fn open_at<R: Files>(&self, rt: &R, offset: u64) -> Result<R::File, Failure<'a>> {
+    /// Opens the file at an offset, or at its end. It fails if the file is another one, or was changed.
+    pub fn open_at<R: Files>(&self, rt: &R, offset: u64) -> Result<R::File, Failure<'a>> {
         match open_stamped(rt, self.path, offset.min(self.stamp.size)) {
             Ok((file, stamp)) if stamp == self.stamp => Ok(file),
             Ok(_) => Err(Failure::on_file(self.path, Fault::Changed)),

@@ -1,0 +1,275 @@
+//! Finding what does not fit together in the records of shards, of which only parts are in memory.
+//!
+//! The hashes of xorbs are gone through in ranges, in ascending order. For each range all files are
+//! read, and the segments kept that name a xorb in it; then all xorbs are read. Where too much would
+//! be kept, the range is made smaller at its end.
+
+use crate::failure::Failure;
+use crate::inputs::Inputs;
+use crate::rounds::shard_file::{ShardFile, ends_of};
+use crate::run::{Status, failed};
+use mdb_report::fault::{Fault, fault_of, section_fault};
+use mdb_report::line::{Layout, Style, print};
+use mdb_report::section::Section;
+use mdb_report::unfit::UnfitReport;
+use shard_bytes::check::Section as Part;
+use shard_bytes::load::load_bytes;
+use shard_garbage::finding::Finding;
+use shard_garbage::garbage::Garbage;
+use shard_garbage::range::HashRange;
+use shard_garbage::segments::Segments;
+use std::alloc::{AllocError, Global};
+use std::io;
+use std::io::{BufReader, BufWriter, ErrorKind, Write};
+use std::rt::Files;
+use xet_core_structures::merklehash::MerkleHash;
+use xet_records::record_reader::FormatVersion;
+
+/// The memory that is taken if none is given, in bytes.
+pub const DEFAULT_MEMORY: u64 = 256 << 20;
+
+/// About the memory for what is kept of a segment, of a xorb or of a finding, in bytes.
+const ITEM_SIZE: u64 = 256;
+
+/// The fewest of these that are kept at once.
+const LEAST_ITEMS: u64 = 64;
+
+/// How often a range is halved when too much is kept.
+const HALVINGS: u32 = 64;
+
+/// Prints what does not fit together in shards, in about so many bytes of memory. Nothing is printed
+/// before all of them have been read.
+pub fn collect_garbage<R: Files + Input + Print + Eprint + AllocGlobal>(
+    rt: &R,
+    inputs: &Inputs,
+    style: Style,
+    memory: u64,
+) -> Status {
+    if inputs.failed {
+        return Status::Failed;
+    }
+    let mut output = match BufWriter::new(rt.alloc(), io::writer(rt)) {
+        Ok(output) => output,
+        Err(error) => return failed(rt, &Failure::on_output(Fault::from(error))),
+    };
+    let printed = match print_garbage(rt, inputs, style, memory, &mut output) {
+        Ok(status) => match output.flush() {
+            Ok(()) => Ok(status),
+            Err(error) => Err(Failure::on_output(Fault::from(error))),
+        },
+        Err(failure) => Err(failure),
+    };
+    match printed {
+        Ok(status) => status,
+        // Nobody reads what is found.
+        Err(failure) if failure.is_closed_pipe() => Status::Found,
+        Err(failure) => failed(rt, &failure),
+    }
+}
+
+// Prints what is found in one range of hashes after another.
+fn print_garbage<'a, R: Files + AllocGlobal, W: Write>(
+    rt: &R,
+    inputs: &'a Inputs,
+    style: Style,
+    memory: u64,
+    output: &mut W,
+) -> Result<Status, Failure<'a>> {
+    let shards = open_all(rt, inputs)?;
+    let most = usize::try_from((memory / ITEM_SIZE).max(LEAST_ITEMS)).unwrap_or(usize::MAX);
+    let mut status = Status::Done;
+    let mut from = None;
+    for _ in 0..u64::MAX {
+        let (found, to) = garbage_from(rt, shards.as_slice(), from, most)?;
+        if !found.is_empty() {
+            status = status.and_found();
+        }
+        print_findings(rt.alloc(), found.as_slice(), style, output)?;
+        if to.is_none() {
+            break;
+        }
+        from = to;
+    }
+    Ok(status)
+}
+
+fn print_findings<'a, W: Write>(
+    alloc: Global,
+    found: &[Finding],
+    style: Style,
+    output: &mut W,
+) -> Result<(), Failure<'a>> {
+    for finding in found {
+        let report = UnfitReport::of_finding(*finding);
+        match print(alloc, &report, Layout::plain(style), output) {
+            Ok(()) => {}
+            Err(error) => return Err(Failure::on_output(Fault::from(error))),
+        }
+    }
+    Ok(())
+}
+
+/// Reads header and footer of each shard.
+pub fn open_all<'a, R: Files + AllocGlobal>(
+    rt: &R,
+    inputs: &'a Inputs,
+) -> Result<Vec<ShardFile<'a>>, Failure<'a>> {
+    let alloc = rt.alloc();
+    let mut opened = Vec::new(alloc);
+    for path in &inputs.paths {
+        let file = path.as_str();
+        let (stamp, ends) = ends_of(rt, file)?;
+        let info = match load_bytes(alloc, ends.as_slice()) {
+            Ok(info) => info,
+            Err(error) => {
+                return Err(Failure::on_file(file, fault_of(alloc, ends.as_slice(), error)));
+            }
+        };
+        if opened.push(ShardFile::new(file, info, stamp)).is_err() {
+            return Err(Failure::on_file(file, Fault::OutOfMemory));
+        }
+    }
+    Ok(opened)
+}
+
+// What does not fit together about hashes from one on, and where the range ends that was looked at;
+// `None` if there is no end.
+fn garbage_from<'a, R: Files + AllocGlobal>(
+    rt: &R,
+    shards: &[ShardFile<'a>],
+    from: Option<MerkleHash>,
+    most: usize,
+) -> Result<(Vec<Finding>, Option<MerkleHash>), Failure<'a>> {
+    let alloc = rt.alloc();
+    let mut segments = Segments::new(alloc, HashRange { from, to: None });
+    for shard in shards {
+        add_files(rt, shard, &mut segments, most)?;
+    }
+    let mut garbage = Garbage::new(alloc, segments);
+    for shard in shards {
+        add_xorbs(rt, shard, &mut garbage, most)?;
+    }
+    let to = garbage.range.to;
+    match garbage.finish() {
+        Ok(found) => Ok((found, to)),
+        Err(_) => Err(Failure::on_words(Fault::OutOfMemory)),
+    }
+}
+
+// Adds the files of a shard.
+fn add_files<'a, R: Files + AllocGlobal>(
+    rt: &R,
+    shard: &ShardFile<'a>,
+    segments: &mut Segments,
+    most: usize,
+) -> Result<(), Failure<'a>> {
+    let alloc = rt.alloc();
+    let version = FormatVersion::of_header(shard.info.header.version);
+    let mut section = section_at(rt, shard, shard.info.metadata.file_info_offset, version)?;
+    let mut limit = most;
+    for _ in 0..u64::MAX {
+        let file = match section.next_file(alloc) {
+            Ok(Some(file)) => file,
+            Ok(None) => break,
+            Err(error) => {
+                return Err(Failure::on_file(shard.path, section_fault(Part::Files, error)));
+            }
+        };
+        check_memory(shard, segments.add_file(&file))?;
+        if segments.items.len() > limit {
+            limit = limit_after(most, halve_segments(segments, most));
+        }
+    }
+    Ok(())
+}
+
+// Adds the xorbs of a shard.
+fn add_xorbs<'a, R: Files + AllocGlobal>(
+    rt: &R,
+    shard: &ShardFile<'a>,
+    garbage: &mut Garbage,
+    most: usize,
+) -> Result<(), Failure<'a>> {
+    let alloc = rt.alloc();
+    let offset = shard.info.metadata.xorb_info_offset;
+    let mut section = section_at(rt, shard, offset, FormatVersion::V3)?;
+    let mut limit = most;
+    for _ in 0..u64::MAX {
+        let xorb = match section.next_xorb(alloc) {
+            Ok(Some(xorb)) => xorb,
+            Ok(None) => break,
+            Err(error) => {
+                return Err(Failure::on_file(shard.path, section_fault(Part::Xorbs, error)));
+            }
+        };
+        check_memory(shard, garbage.add_xorb(&xorb))?;
+        if garbage.len() > limit {
+            limit = limit_after(most, halve_garbage(garbage, most));
+        }
+    }
+    Ok(())
+}
+
+// Gives segments up until no more than so many are left, or all name one xorb. How many are left.
+fn halve_segments(segments: &mut Segments, most: usize) -> usize {
+    for _ in 0..HALVINGS {
+        let before = segments.items.len();
+        if before <= most {
+            break;
+        }
+        segments.halve();
+        if segments.items.len() == before {
+            break;
+        }
+    }
+    segments.items.len()
+}
+
+// The same of hashes and findings.
+fn halve_garbage(garbage: &mut Garbage, most: usize) -> usize {
+    for _ in 0..HALVINGS {
+        let before = garbage.len();
+        if before <= most {
+            break;
+        }
+        garbage.halve();
+        if garbage.len() == before {
+            break;
+        }
+    }
+    garbage.len()
+}
+
+// How much is kept before some is given up again. Where nothing could be, twice as much is waited
+// for, so that this is not tried in vain for each record.
+fn limit_after(most: usize, left: usize) -> usize {
+    if left <= most {
+        most
+    } else {
+        left.saturating_mul(2)
+    }
+}
+
+fn check_memory<'a>(
+    shard: &ShardFile<'a>,
+    added: Result<(), AllocError>,
+) -> Result<(), Failure<'a>> {
+    match added {
+        Ok(()) => Ok(()),
+        Err(_) => Err(Failure::on_file(shard.path, Fault::OutOfMemory)),
+    }
+}
+
+/// The section of a shard at an offset.
+pub fn section_at<'a, R: Files + AllocGlobal>(
+    rt: &R,
+    shard: &ShardFile<'a>,
+    offset: u64,
+    version: FormatVersion,
+) -> Result<Section<BufReader<R::File>>, Failure<'a>> {
+    let file = shard.open_at(rt, offset)?;
+    match BufReader::new(rt.alloc(), file) {
+        Ok(reader) => Ok(Section::new(reader, version)),
+        Err(error) => Err(Failure::on_file(shard.path, Fault::from(error))),
+    }
+}

@@ -1,0 +1,42 @@
+-- What does not fit together in the records of a shard.
+use Rattle.std.specs.Prelude.{◌⊎◌, ◌≡◌, ℕ, List}
+use Rattle.xet_core_structures.specs.declared.error.CoreError.{CoreError}
+use Rattle.xet_core_structures.specs.declared.error.CoreError.TheVariants.{OutOfMemory}
+use Rattle.xet_core_structures.specs.declared.file_structs.MDBFileInfo.{MDBFileInfo}
+use Rattle.xet_core_structures.specs.declared.xorb_structs.MDBXorbInfo.{MDBXorbInfo}
+use Rattle.xet_core_structures.specs.TwoShards.ByteResults.{LoadRefusal}
+use Rattle.xet_core_structures.specs.SectionReading.{ReadsSection, SectionFails}
+use Rattle.xet_core_structures.specs.XorbRecord.{xorb_records}
+use Rattle.shard_bytes.specs.Outcomes.{HasOutcome}
+use Rattle.shard_garbage.specs.declared.finding.Finding.{Finding}
+use Rattle.shard_garbage.specs.Garbage.{IsGarbage}
+use Rattle.shard_garbage.specs.Reports.{ReportsAll}
+use Rattle.mdb_report.specs.Records.{HoldsFiles}
+
+-- these are the xorbs of the shard with these bytes
+abbrev pub HoldsXorbs : List ℕ → List MDBXorbInfo → Type 0
+HoldsXorbs bytes xorbs =
+    HasOutcome bytes
+    (λ info before after. ReadsSection xorb_records before after
+    info.metadata.xorb_info_offset xorbs)
+
+-- header and footer are not read, or the xorb section isn't, or memory is lacking
+abbrev pub XorbsRefusal : List ℕ → CoreError → Type 0
+XorbsRefusal bytes e =
+    LoadRefusal bytes e
+    ⊎ HasOutcome bytes
+    (λ info before after. SectionFails xorb_records before after
+    info.metadata.xorb_info_offset e)
+    ⊎ (e ≡ OutOfMemory)
+
+-- these are all findings in the records of the shard with these bytes
+abbrev pub HoldsUnfit : List ℕ → List Finding → Type 0
+HoldsUnfit bytes found =
+    (files : List MDBFileInfo) × (xorbs : List MDBXorbInfo) × HoldsFiles bytes files
+    × HoldsXorbs bytes xorbs × ReportsAll files xorbs found
+
+-- the records of the shard with these bytes fit together
+abbrev pub IsFit : List ℕ → Type 0
+IsFit bytes =
+    (files : List MDBFileInfo) × (xorbs : List MDBXorbInfo) × HoldsFiles bytes files
+    × HoldsXorbs bytes xorbs × ((f : Finding) → ¬ IsGarbage files xorbs f)

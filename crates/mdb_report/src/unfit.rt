@@ -1,0 +1,205 @@
+//! What does not fit together in shards, in words.
+
+ghost use Rattle.std.specs.Prelude.{◌≡◌, ◌⊎◌, [], All, IfOk, IfErr, IsTrue, MatchResult};
+ghost use Rattle.xet_core_structures.specs.XorbRecord.{HasItsChunks};
+ghost use Rattle.mdb_report.specs.Records.{FilesRefusal};
+ghost use Rattle.mdb_report.specs.Unfit.{HoldsXorbs, XorbsRefusal, HoldsUnfit, IsFit};
+
+use crate::hex::Hex;
+use crate::inquiry::Trouble;
+use crate::line::{Layout, Style, print};
+use crate::records::read_files;
+use crate::shown::Shown;
+use serde::{Described, Serialize, Serializer};
+use shard_garbage::finding::{Fault, Finding, Segment};
+use shard_garbage::garbage::find_garbage;
+use std::alloc::Global;
+use std::fmt;
+use std::io::Write;
+use xet_core_structures::error::CoreError;
+use xet_core_structures::shard_format::MDBShardInfo;
+use xet_core_structures::source::MemorySource;
+use xet_core_structures::xorb_structs::MDBXorbInfo;
+
+/// A finding, for `{}` to print.
+#[derive(Clone, Copy, Debug, PartialEq, Eq)]
+pub struct Unfit(pub Finding);
+
+/// A finding in some shards.
+#[derive(Clone, Copy, Debug, PartialEq, Eq, Serialize)]
+pub struct UnfitReport {
+    pub code: &'static str,
+    pub xorb: Hex,
+    /// The file whose segment is found.
+    #[serde(skip_serializing_if = "Option::is_none")]
+    pub file: Option<Hex>,
+    /// Which of the file's segments it is, counted from 0.
+    #[serde(skip_serializing_if = "Option::is_none")]
+    pub segment: Option<usize>,
+    pub problem: Unfit,
+}
+
+impl UnfitReport {
+    /// The report of a finding.
+    pub fn of_finding(finding: Finding) -> UnfitReport
+        ensures { result.problem.0 ≡ finding }
+    {
+        let segment = segment_of(finding.fault);
+        UnfitReport {
+            code: code_of(finding.fault),
+            xorb: Hex(finding.xorb),
+            file: segment.map(|segment| Hex(segment.file)),
+            segment: segment.map(|segment| segment.index),
+            problem: Unfit(finding),
+        }
+    }
+}
+
+/// A finding in a shard, in the form of a [`ProblemReport`](crate::problem::ProblemReport).
+#[derive(Clone, Copy, Debug, PartialEq, Eq, Serialize)]
+struct UnfitShard<'a> {
+    file: &'a str,
+    code: &'static str,
+    offset: Option<u64>,
+    problem: Unfit,
+}
+
+// The word for a kind of finding.
+fn code_of(fault: Fault) -> &'static str {
+    match fault {
+        Fault::Unnamed => "xorb_unnamed",
+        Fault::Total { .. } => "xorb_bytes_differ",
+        Fault::Start { .. } => "chunk_start_differs",
+        Fault::Lacking(_) => "xorb_missing",
+        Fault::Outside(_, _) => "segment_outside",
+        Fault::Bytes(_, _) => "segment_bytes_differ",
+    }
+}
+
+// The segment that a fault is about, if it is about one.
+fn segment_of(fault: Fault) -> Option<Segment> {
+    match fault {
+        Fault::Lacking(segment) | Fault::Outside(segment, _) | Fault::Bytes(segment, _) => {
+            Some(segment)
+        }
+        _ => None,
+    }
+}
+
+/// Prints what does not fit together in the records of the shard in a file, from its bytes, and
+/// answers whether that is nothing. If they cannot be read, nothing is printed.
+pub(crate) fn print_unfit<W: Write>(
+    alloc: Global,
+    file: &str,
+    bytes: &[u8],
+    style: Style,
+    output: &mut W,
+) -> Result<bool, Trouble>
+    ensures { IfOk result (λ fits. IsTrue fits → IsFit bytes.now) }
+{
+    let found = match unfit_in(alloc, bytes) {
+        Ok(found) => found,
+        Err(CoreError::OutOfMemory) => return Err(Trouble::Shard(CoreError::OutOfMemory)),
+        Err(_) => return Ok(false),
+    };
+    for finding in &found {
+        let report = UnfitShard {
+            file,
+            code: code_of(finding.fault),
+            offset: None,
+            problem: Unfit(*finding),
+        };
+        print(alloc, &report, Layout::plain(style), output)?;
+    }
+    Ok(found.is_empty())
+}
+
+/// What does not fit together in the records of a shard, from its bytes, in ascending order of the
+/// hashes of xorbs.
+///
+/// The errors are those of loading the shard and of reading its sections.
+pub fn unfit_in(alloc: Global, bytes: &[u8]) -> Result<Vec<Finding>, CoreError>
+    ensures found { IfOk result (λ found. HoldsUnfit bytes.now found.items) }
+    ensures refused { IfErr result (λ e. FilesRefusal bytes.now e ⊎ XorbsRefusal bytes.now e) }
+{
+    let files = read_files(alloc, bytes)?;
+    let xorbs = read_xorbs(alloc, bytes)?;
+    Ok(find_garbage(alloc, files.as_slice(), xorbs.as_slice())?)
+}
+
+// The xorbs of a shard, each of which has its chunks.
+fn read_xorbs(alloc: Global, bytes: &[u8]) -> Result<Vec<MDBXorbInfo>, CoreError>
+    ensures read { MatchResult result (λ xorbs. HoldsXorbs bytes.now xorbs.items)
+        (XorbsRefusal bytes.now) }
+    ensures whole { IfOk result (λ xorbs. All HasItsChunks xorbs.items) }
+{
+    let mut source = MemorySource::new(bytes);
+    let info = MDBShardInfo::load_from_reader(alloc, &mut source)?;
+    info.read_all_xorb_blocks_full(alloc, &mut source)
+}
+
+impl fmt::Display for UnfitReport {
+    fn fmt<W: fmt::Write>(&self, f: &mut fmt::Formatter<W>) -> fmt::Result {
+        let problem = self.problem;
+        write!(f, "{problem}")
+    }
+}
+
+impl fmt::Display for UnfitShard<'_> {
+    fn fmt<W: fmt::Write>(&self, f: &mut fmt::Formatter<W>) -> fmt::Result {
+        let file = Shown(self.file);
+        let problem = self.problem;
+        write!(f, "{file}: {problem}")
+    }
+}
+
+impl Described for Unfit {}
+
+impl Serialize for Unfit {
+    fn serialize<S: Serializer>(&self, out: &mut S) -> std::result::Result<(), S::Error> {
+        out.collect_str(self)
+    }
+}
+
+impl fmt::Display for Unfit {
+    fn fmt<W: fmt::Write>(&self, f: &mut fmt::Formatter<W>) -> fmt::Result {
+        let xorb = self.0.xorb;
+        write!(f, "xorb {xorb}: ")?;
+        match self.0.fault {
+            Fault::Unnamed => write!(f, "no file names it"),
+            Fault::Total { said, sum } => {
+                write!(f, "it says {said} bytes, and its chunks have {sum}")
+            }
+            Fault::Start { index, said, sum } => {
+                write!(
+                    f,
+                    "chunk {index} says to start at {said}, and those before it have {sum} bytes"
+                )
+            }
+            Fault::Lacking(segment) => {
+                write!(f, "it is missing, and ")?;
+                write_segment(f, &segment)?;
+                write!(f, " names it")
+            }
+            Fault::Outside(segment, chunks) => {
+                write!(f, "it has {chunks} chunks, and ")?;
+                write_segment(f, &segment)?;
+                let (start, end) = (segment.start, segment.end);
+                write!(f, " names {start}..{end}")
+            }
+            Fault::Bytes(segment, sum) => {
+                let (start, end) = (segment.start, segment.end);
+                write!(f, "its chunks {start}..{end} have {sum} bytes, and ")?;
+                write_segment(f, &segment)?;
+                let bytes = segment.bytes;
+                write!(f, " says {bytes}")
+            }
+        }
+    }
+}
+
+fn write_segment<W: fmt::Write>(f: &mut fmt::Formatter<W>, segment: &Segment) -> fmt::Result {
+    let index = segment.index;
+    let file = segment.file;
+    write!(f, "segment {index} of file {file}")
+}
