@@ -1,4 +1,6 @@
+pub mod Expiries
 pub mod Keys
 pub mod Merging
+pub mod Removal
 pub mod Status
 pub mod Writing

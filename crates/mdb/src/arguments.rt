@@ -3,7 +3,8 @@
 use crate::files::STANDARD_STREAM;
 use crate::gc::DEFAULT_MEMORY;
 use crate::request::{
-    Compaction, HashList, Making, Merge, Removal, Request, Sources, Strictness, Target,
+    Compaction, HashList, Making, Merge, NewExpiry, Printing, Removal, Request, Sort, Sources,
+    Strictness, Target,
 };
 use crate::{command_line, id};
 use clap::error::ErrorKind;
@@ -115,7 +116,7 @@ fn request_in<'a>(
     }
     match making_in(alloc, name, matches, now)? {
         Some(making) => Ok(Request::Make(making, target_in(matches)?)),
-        None => inspection_in(alloc, name, matches),
+        None => inspection_in(alloc, name, matches, now),
     }
 }
 
@@ -139,12 +140,17 @@ fn inspection_in<'a>(
     alloc: Global,
     name: &str,
     matches: &ArgMatches<'a>,
+    now: Option<u64>,
 ) -> Result<Request<'a>, Refusal<'a>> {
-    let style = style_in(matches);
+    let printing = printing_in(matches, now)?;
     match name {
         "gc" => {
             let memory = size_in(matches, id::MEMORY)?.unwrap_or(DEFAULT_MEMORY);
-            Ok(Request::Collect(sources_in(alloc, matches)?, style, memory))
+            Ok(Request::Collect(
+                sources_in(alloc, matches)?,
+                printing.style,
+                memory,
+            ))
         }
         "find" | "query" => {
             let (sources, hashes) = lookup_in(alloc, matches)?;
@@ -156,21 +162,31 @@ fn inspection_in<'a>(
                 },
                 _ => Inquiry::Query { hashes },
             };
-            Ok(Request::Inspect(sources, inquiry, style))
+            Ok(Request::Inspect(sources, inquiry, printing))
         }
         _ => {
             let inquiry = inquiry_in(name, matches)?;
-            Ok(Request::Inspect(sources_in(alloc, matches)?, inquiry, style))
+            Ok(Request::Inspect(sources_in(alloc, matches)?, inquiry, printing))
         }
     }
 }
 
-fn style_in(matches: &ArgMatches<'_>) -> Style {
-    if matches.get_flag(id::JSON) {
-        Style::Json
-    } else {
-        Style::Text
-    }
+fn printing_in<'a>(matches: &ArgMatches<'a>, now: Option<u64>) -> Result<Printing, Refusal<'a>> {
+    Ok(Printing {
+        style: if matches.get_flag(id::JSON) {
+            Style::Json
+        } else {
+            Style::Text
+        },
+        sort: match matches.get_str(id::SORT) {
+            Some("name") => Some(Sort::Name),
+            Some("size") => Some(Sort::Size),
+            Some(_) => Some(Sort::Expiry),
+            None => None,
+        },
+        now: time_in(matches, id::NOW)?.or(now),
+        quiet: matches.get_flag(id::QUIET),
+    })
 }
 
 // The shards and hashes of a lookup. Without `--hash` the first word is a shard, and the others are
@@ -286,6 +302,7 @@ fn making_in<'a>(
             text_of(matches, id::FILE)?,
             subset_in(alloc, matches, now)?,
             hash_list_in(matches),
+            expiry_in(matches)?,
         ),
         "drop" => Making::Drop(removal_in(alloc, matches)?),
         _ => return Ok(None),
@@ -302,7 +319,7 @@ fn removal_in<'a>(alloc: Global, matches: &ArgMatches<'a>) -> Result<Removal<'a>
         file: text_of(matches, id::FILE)?,
         hashes: given_hashes(alloc, matches, id::HASHES)?,
         list,
-        expiry: time_in(matches, id::EXPIRY)?,
+        expiry: expiry_in(matches)?,
     })
 }
 
@@ -313,18 +330,21 @@ fn pair_in<'a>(operation: Operation, matches: &ArgMatches<'a>) -> Result<Making<
 }
 
 fn merge_in<'a>(matches: &ArgMatches<'a>, now: Option<u64>) -> Result<Merge<'a>, Refusal<'a>> {
-    let expired_by = match matches.get_flag(id::DROP_EXPIRED) {
-        true => Some(now_in(matches, now)?),
-        false => None,
-    };
+    let drops_expired = matches.get_flag(id::DROP_EXPIRED);
+    let now = time_in(matches, id::NOW)?.or(now);
+    if drops_expired && now.is_none() {
+        return Err(Refusal::Missing(id::NOW));
+    }
     Ok(Merge {
         target: target_in(matches)?,
         strictness: strictness_in(matches),
         verbose: matches.get_flag(id::VERBOSE),
+        quiet: matches.get_flag(id::QUIET),
         by_key: matches.contains_id(id::FOLDER),
-        expiry: time_in(matches, id::EXPIRY)?,
+        expiry: expiry_in(matches)?,
         memory: size_in(matches, id::MEMORY)?,
-        expired_by,
+        now,
+        drops_expired,
         compaction: compaction_in(matches)?,
     })
 }
@@ -335,7 +355,11 @@ fn compaction_in<'a>(matches: &ArgMatches<'a>) -> Result<Option<Compaction>, Ref
         return Ok(None);
     }
     match (size_in(matches, id::MAX_SIZE)?, hash_key_in(matches)?) {
-        (Some(max_size), Some(hash_key)) => Ok(Some(Compaction { max_size, hash_key })),
+        (Some(max_size), Some(hash_key)) => Ok(Some(Compaction {
+            max_size,
+            hash_key,
+            remove_inputs: matches.get_flag(id::REMOVE_INPUTS),
+        })),
         (None, _) => Err(Refusal::Missing(id::MAX_SIZE)),
         (_, None) => Err(Refusal::Missing(id::HASH_KEY)),
     }
@@ -370,8 +394,10 @@ fn output_in<'a>(matches: &ArgMatches<'a>) -> Result<&'a str, Refusal<'a>> {
     }
 }
 
+// Of two records that do not agree a lenient merge keeps one, so inputs are removed after a strict
+// one alone.
 fn strictness_in(matches: &ArgMatches<'_>) -> Strictness {
-    if matches.get_flag(id::STRICT) {
+    if matches.get_flag(id::STRICT) || matches.get_flag(id::REMOVE_INPUTS) {
         Strictness::Strict
     } else {
         Strictness::Lenient
@@ -405,7 +431,7 @@ fn subset_in<'a>(
     };
     Ok(Subset {
         now: now_in(matches, now)?,
-        expiry: time_in(matches, id::EXPIRY)?,
+        expiry: None,
         kept,
     })
 }
@@ -419,6 +445,19 @@ fn now_in<'a>(matches: &ArgMatches<'a>, now: Option<u64>) -> Result<u64, Refusal
     match time_in(matches, id::NOW)? {
         Some(time) => Ok(time),
         None => now.ok_or(Refusal::Missing(id::NOW)),
+    }
+}
+
+// The word of an expiry for the earliest one.
+const EARLIEST: &str = "min";
+
+fn expiry_in<'a>(matches: &ArgMatches<'a>) -> Result<NewExpiry, Refusal<'a>> {
+    if matches.get_str(id::EXPIRY) == Some(EARLIEST) {
+        return Ok(NewExpiry::Earliest);
+    }
+    match time_in(matches, id::EXPIRY)? {
+        Some(time) => Ok(NewExpiry::At(time)),
+        None => Ok(NewExpiry::Unset),
     }
 }
 

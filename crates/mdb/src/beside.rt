@@ -7,6 +7,7 @@ use std::os::unix::fs::{MetadataExt, OpenOptionsExt, chown};
 use std::random::RandomSource;
 use std::rt::Files;
 use std::{fs, io};
+use xet_core_structures::utils::parse_shard_filename;
 
 /// The ending of a new file's name.
 const ENDING: &str = ".new";
@@ -134,11 +135,7 @@ pub fn leftovers<R: Files + AllocGlobal + Clone + Drop>(
 ) -> Result<Vec<String>, AllocError> {
     let alloc = rt.alloc();
     let mut found = Vec::new(alloc);
-    let (folder, name) = match target.rsplit_once('/') {
-        Some(("", name)) => ("/", name),
-        Some((folder, name)) => (folder, name),
-        None => (".", target),
-    };
+    let (folder, name) = folder_and_name(target);
     let Ok(entries) = fs::read_dir(rt, folder) else {
         return Ok(found);
     };
@@ -153,16 +150,45 @@ pub fn leftovers<R: Files + AllocGlobal + Clone + Drop>(
     Ok(found)
 }
 
+/// The folder of a file, and its name there.
+pub fn folder_and_name(file: &str) -> (&str, &str) {
+    match file.rsplit_once('/') {
+        Some(("", name)) => ("/", name),
+        Some((folder, name)) => (folder, name),
+        None => (".", file),
+    }
+}
+
+/// Removes from a folder the new files that runs which were ended have left there for shards named by
+/// their hashes. No other run may write such a file there.
+pub fn remove_leftovers<R: Files + AllocGlobal + Clone + Drop>(rt: &R, folder: &str) {
+    let Ok(entries) = fs::read_dir(rt, folder) else {
+        return;
+    };
+    for entry in entries {
+        if let Ok(entry) = entry
+            && let Some(target) = target_of(entry.file_name())
+            && parse_shard_filename(target).is_some()
+        {
+            let _ = fs::remove_file(rt, entry.path());
+        }
+    }
+}
+
 // Whether a name is one that a new file for a target of this name has.
 fn is_new_name(name: &str, target: &str) -> bool {
-    let Some(rest) = name.strip_prefix(target) else {
-        return false;
-    };
-    let Some(digits) = rest
-        .strip_prefix('.')
-        .and_then(|rest| rest.strip_suffix(ENDING))
-    else {
-        return false;
-    };
-    digits.len() == DIGITS && digits.bytes().all(|digit| digit.is_ascii_hexdigit())
+    match target_of(name) {
+        Some(its) => its == target,
+        None => false,
+    }
+}
+
+// The name of the target of which a name may be that of a new file.
+fn target_of(name: &str) -> Option<&str> {
+    let (target, digits) = name.strip_suffix(ENDING)?.rsplit_once('.')?;
+    if digits.len() == DIGITS && digits.bytes().all(|digit| digit.is_ascii_hexdigit()) {
+        Some(target)
+    } else {
+        None
+    }
 }

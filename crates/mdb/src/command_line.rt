@@ -1,6 +1,6 @@
 //! The command line of the program, with its help.
 
-use crate::command_table::{Argument, Row, Takes, VERSIONS, inquiries, makings};
+use crate::command_table::{Argument, Row, SORTS, Takes, VERSIONS, inquiries, makings};
 use crate::id;
 use clap::{Arg, ArgAction, Command, value_parser};
 use std::alloc::{AllocError, Global};
@@ -73,7 +73,8 @@ fn arg_of<'a>(alloc: Global, argument: &Argument) -> Result<Arg<'a>, AllocError>
             .requires_all(&[id::MAX_SIZE, id::HASH_KEY]),
         Takes::ValueWithGroups => arg.requires_arg(id::GROUPS),
         Takes::ValueWithoutGroups => arg.conflicts_with(id::GROUPS),
-        Takes::ValueWithExpiry => arg.requires_arg(id::DROP_EXPIRED),
+        Takes::NothingWithGroups => arg.action(ArgAction::SetTrue).requires_arg(id::GROUPS),
+        Takes::Sort => arg.value_parser(SORTS).requires_arg(id::BRIEF),
         Takes::NothingWithoutCosts => arg.action(ArgAction::SetTrue).conflicts_with(id::COSTS),
         takes => Ok(taking(arg, takes)),
     }
@@ -88,6 +89,7 @@ fn taking<'a>(arg: Arg<'a>, takes: Takes) -> Arg<'a> {
         Takes::EachValue => arg.action(ArgAction::Append),
         Takes::Version => arg.value_parser(VERSIONS),
         Takes::Output => arg.short('o').required(true),
+        Takes::Quiet => arg.short('q').action(ArgAction::SetTrue),
         _ => arg,
     }
 }

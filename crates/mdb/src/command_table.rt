@@ -5,6 +5,9 @@ use crate::{help, id};
 /// The versions of the format that can be written.
 pub const VERSIONS: &[&str] = &["2", "3"];
 
+/// By what shards are sorted.
+pub const SORTS: &[&str] = &["name", "size", "expiry"];
+
 /// An argument.
 #[derive(Clone, Copy)]
 pub struct Argument {
@@ -46,8 +49,12 @@ pub enum Takes {
     ValueWithoutGroups,
     /// A value that goes with groups alone.
     ValueWithGroups,
-    /// A time that goes with leaving out expired shards alone.
-    ValueWithExpiry,
+    /// Nothing: it is a flag that goes with groups alone.
+    NothingWithGroups,
+    /// By what shards are sorted, which goes with brief answers alone.
+    Sort,
+    /// Nothing: it is a flag that also has a letter.
+    Quiet,
 }
 
 /// A command.
@@ -132,6 +139,27 @@ const NOW: Argument = option!(
     "The time of creation, in seconds or as 2024-01-31T12:00:00Z; by default that of the clock"
 );
 
+const EXPIRED_BY: Argument = option!(
+    NOW,
+    "now",
+    Value,
+    "The time by which shards have expired; by default that of the clock"
+);
+
+const NEW_EXPIRY: Argument = option!(
+    EXPIRY,
+    "expiry",
+    Value,
+    "The time of expiry of what is written, or min: the earliest of those that are read; without, there is none"
+);
+
+const QUIET: Argument = option!(
+    QUIET,
+    id::QUIET,
+    Quiet,
+    "Says nothing of how far it has come"
+);
+
 const NO_AUX: Argument = flag!(NO_AUX, "Leaves the files' auxiliary rows out");
 
 const LONG: Argument = flag!(LONG, "Prints all that is known of each");
@@ -173,6 +201,12 @@ const INQUIRIES: &[Row] = &[
             LIST,
             NULL,
             flag!(BRIEF, "Prints a line for each, and a total"),
+            option!(
+                SORT,
+                "sort",
+                Sort,
+                "With --brief: by what the shards are sorted"
+            ),
             JSON,
         ],
     },
@@ -220,6 +254,7 @@ const INQUIRIES: &[Row] = &[
                 takes: Takes::NothingWithoutCosts,
             },
             flag!(COSTS, "Prints the seeks and the bytes read of each lookup"),
+            EXPIRED_BY,
             JSON,
         ],
     },
@@ -239,6 +274,7 @@ const INQUIRIES: &[Row] = &[
             ),
             HASH_LIST,
             NULL,
+            EXPIRED_BY,
             JSON,
         ],
     },
@@ -266,6 +302,7 @@ const INQUIRIES: &[Row] = &[
                 "Checks too that a shard's segments and xorbs fit together, as gc does for many"
             ),
             flag!(STRICT, "Counts notes too"),
+            QUIET,
             JSON,
         ],
     },
@@ -284,6 +321,7 @@ const INQUIRIES: &[Row] = &[
                 Value,
                 "About how much memory to take, as 1G; 256M by default"
             ),
+            QUIET,
             JSON,
         ],
     },
@@ -324,7 +362,7 @@ const MAKINGS: &[Row] = &[
     },
     Row {
         name: "merge",
-        about: "Writes the union of any number of shards; their expiries are not kept",
+        about: "Writes the union of any number of shards",
         examples: help::MERGE,
         usage: None,
         arguments: &[
@@ -336,28 +374,19 @@ const MAKINGS: &[Row] = &[
                 "Fails with status 3 if two shards have different records with one hash"
             ),
             flag!(VERBOSE, "Reports each file as it is read"),
+            QUIET,
             flag!(
                 DROP_EXPIRED,
                 "Leaves shards out whose expiry has come by --now"
             ),
-            option!(
-                NOW,
-                "now",
-                ValueWithExpiry,
-                "With --drop-expired: the time by which shards have expired; by default that of the clock"
-            ),
+            EXPIRED_BY,
             option!(
                 MEMORY,
                 "memory",
                 ValueWithoutGroups,
                 "About how much memory to take, as 256M; the shards are then read and merged in parts"
             ),
-            option!(
-                EXPIRY,
-                "expiry",
-                Value,
-                "The time of expiry of what is written; without, there is none"
-            ),
+            NEW_EXPIRY,
             FORMAT,
             option!(
                 FOLDER,
@@ -383,6 +412,12 @@ const MAKINGS: &[Row] = &[
                 ValueWithGroups,
                 "With --to: the key of the hashes, of 64 hexadecimal digits"
             ),
+            Argument {
+                id: id::REMOVE_INPUTS,
+                long: Some(id::REMOVE_INPUTS),
+                help: "With --to: removes the files once the device has their merges, which are strict",
+                takes: Takes::NothingWithGroups,
+            },
             option!(
                 OUTPUT,
                 "output",
@@ -431,7 +466,7 @@ const MAKINGS: &[Row] = &[
         arguments: &[
             FILE,
             NOW,
-            option!(EXPIRY, "expiry", Value, "The time of expiry"),
+            NEW_EXPIRY,
             option!(
                 XORBS,
                 "xorb",
@@ -459,12 +494,7 @@ const MAKINGS: &[Row] = &[
             ),
             HASH_LIST,
             NULL,
-            option!(
-                EXPIRY,
-                "expiry",
-                Value,
-                "The time of expiry of what is written; without, there is none"
-            ),
+            NEW_EXPIRY,
             FORMAT,
             OUTPUT,
         ],

@@ -1,22 +1,28 @@
 //! Merging shards into fewer ones, in groups up to a size. The name of each merge is the hash of its
 //! bytes.
 
+use crate::beside::remove_leftovers;
 use crate::blame::on_all;
 use crate::failure::Failure;
+use crate::files::{Contents, read_to_end, sync_folder};
+use crate::input_removal::{ReadInput, Seen, remove_inputs};
 use crate::inputs::path_in;
 use crate::make::put;
 use crate::merge::{contents_of_all, merged};
 use crate::progress::{Progress, Stage};
 use crate::request::{Compaction, Merge};
 use crate::rounds::shard_file::ends_of;
+use crate::stamp::FileId;
 use mdb_report::fault::{Fault, fault_of};
 use mdb_report::shown::Shown;
 use shard_bytes::load::load_bytes;
 use std::alloc::{AllocError, Global};
+use std::fs::OpenFile;
 use std::random::RandomSource;
 use std::rt::{Clock, Files};
+use std::{fs, io};
 use xet_core_structures::error::Result as ShardResult;
-use xet_core_structures::merklehash::{HMACKey, keyed_hash};
+use xet_core_structures::merklehash::{HMACKey, MerkleHash, keyed_hash};
 use xet_core_structures::utils::shard_file_name;
 
 /// Shards under one key that are merged, and how many bytes they have.
@@ -29,7 +35,8 @@ struct Group<'a> {
 
 /// Merges shards in groups, in their order. The shards of a group have one key and together at most
 /// `max_size` bytes; a larger one is a group of its own. Each merge is written to a folder, by the
-/// hash of its bytes, and its path is printed. After a failure the merges before it stay.
+/// hash of its bytes, and its path is printed. After a failure the merges before it stay. Only once
+/// the device has all merges are inputs removed, if they are to be.
 pub fn merge_groups<
     'a,
     R: Files + Input + Clock + Print + Eprint + RandomSource + AllocGlobal + Clone + Drop,
@@ -40,17 +47,31 @@ pub fn merge_groups<
     compaction: Compaction,
     progress: &mut Progress,
 ) -> Result<(), Failure<'a>> {
+    // This run has the lock of the folder.
+    remove_leftovers(rt, merge.target.path);
     let groups = groups_of(rt, files, compaction.max_size)?;
+    let mut inputs = Vec::new(rt.alloc());
+    let mut results = Vec::new(rt.alloc());
     for group in &groups {
-        write_group(
-            rt,
-            group.files.as_slice(),
-            merge,
-            compaction.hash_key,
-            progress,
-        )?;
+        let shards = group.files.as_slice();
+        let result = write_group(rt, shards, merge, compaction, &mut inputs, progress)?;
+        if results.push(result).is_err() {
+            return Err(on_all(files, Fault::OutOfMemory));
+        }
     }
-    Ok(())
+    if !compaction.remove_inputs {
+        return Ok(());
+    }
+    let folder = merge.target.path;
+    if let Err(error) = sync_folder(rt, folder) {
+        return Err(Failure::on_file(folder, Fault::from(error)));
+    }
+    remove_inputs(
+        rt,
+        inputs.as_slice(),
+        results.as_slice(),
+        compaction.hash_key,
+    )
 }
 
 // The groups in which shards are merged.
@@ -107,7 +128,8 @@ fn add_to_group<'a>(
     Ok(())
 }
 
-// Merges the shards in some files, and writes the merge to a folder.
+// Merges the shards in some files, and writes the merge to a folder. Adds what was read to the
+// inputs, if they are to be removed.
 fn write_group<
     'a,
     R: Files + Input + Clock + Print + Eprint + RandomSource + AllocGlobal + Clone + Drop,
@@ -115,41 +137,97 @@ fn write_group<
     rt: &R,
     files: &[&'a str],
     merge: Merge<'a>,
-    hash_key: HMACKey,
+    compaction: Compaction,
+    inputs: &mut Vec<ReadInput<'a>>,
     progress: &mut Progress,
-) -> Result<(), Failure<'a>> {
-    let alloc = rt.alloc();
-    let folder = merge.target.path;
-    let contents = contents_of_all(rt, files, merge.verbose, progress)?;
-    let inputs: Result<Vec<&[u8]>, AllocError> = contents
+) -> Result<FileId, Failure<'a>> {
+    let contents = contents_of_all(rt, files, merge, progress)?;
+    let shards: Result<Vec<&[u8]>, AllocError> = contents
         .as_slice()
         .iter()
-        .map(|bytes| bytes.as_slice())
-        .collect(alloc);
-    let Ok(inputs) = inputs else {
+        .map(|contents| contents.bytes.as_slice())
+        .collect(rt.alloc());
+    let Ok(shards) = shards else {
         return Err(on_all(files, Fault::OutOfMemory));
     };
     progress.show(rt, Stage::Merging(files.len()));
-    let bytes = merged(rt, files, inputs.as_slice(), merge, progress)?;
-    let Ok(path) = path_by_hash(alloc, folder, hash_key, bytes.as_slice()) else {
-        return Err(on_all(files, Fault::OutOfMemory));
-    };
-    if let Err(failure) = put(rt, path.as_str(), bytes.as_slice()) {
-        return Err(Failure::on_file(folder, failure.fault));
+    let bytes = merged(rt, files, shards.as_slice(), merge, progress)?;
+    if compaction.remove_inputs {
+        note_inputs(files, contents.as_slice(), compaction.hash_key, inputs)?;
     }
-    match rt.println(Shown(path.as_str())) {
-        Ok(()) => Ok(()),
+    put_by_hash(rt, merge.target.path, compaction.hash_key, bytes.as_slice())
+}
+
+// Adds files to the inputs, as they were read.
+fn note_inputs<'a>(
+    files: &[&'a str],
+    contents: &[Contents],
+    hash_key: HMACKey,
+    inputs: &mut Vec<ReadInput<'a>>,
+) -> Result<(), Failure<'a>> {
+    for (file, contents) in files.iter().zip(contents) {
+        let Some(stamp) = contents.stamp else {
+            return Err(Failure::on_file(file, Fault::NoParts));
+        };
+        let seen = Seen {
+            stamp,
+            hash: keyed_hash(hash_key, contents.bytes.as_slice()),
+        };
+        if inputs.push(ReadInput { path: *file, seen }).is_err() {
+            return Err(Failure::on_file(file, Fault::OutOfMemory));
+        }
+    }
+    Ok(())
+}
+
+// Writes a shard to a folder, by the hash of its bytes, and prints its path.
+fn put_by_hash<'a, R: Files + Print + Eprint + RandomSource + AllocGlobal + Clone + Drop>(
+    rt: &R,
+    folder: &'a str,
+    hash_key: HMACKey,
+    bytes: &[u8],
+) -> Result<FileId, Failure<'a>> {
+    let hash = keyed_hash(hash_key, bytes);
+    let Ok(path) = path_of_hash(rt.alloc(), folder, &hash) else {
+        return Err(Failure::on_file(folder, Fault::OutOfMemory));
+    };
+    let path = path.as_str();
+    if fs::symlink_metadata(rt, path).is_err() {
+        if let Err(failure) = put(rt, path, bytes) {
+            return Err(Failure::on_file(folder, failure.fault));
+        }
+    }
+    let id = match id_of_synced(rt, path, bytes) {
+        Ok(Some(id)) => id,
+        Ok(None) => return Err(Failure::on_file(folder, Fault::OtherBytes(hash))),
+        Err(error) => return Err(Failure::on_file(folder, Fault::from(error))),
+    };
+    match rt.println(Shown(path)) {
+        Ok(()) => Ok(id),
         Err(error) => Err(Failure::on_output(Fault::from(error))),
     }
 }
 
-// The path of a shard in a folder, by the hash of its bytes.
-fn path_by_hash(
-    alloc: Global,
-    folder: &str,
-    hash_key: HMACKey,
-    bytes: &[u8],
-) -> ShardResult<String> {
-    let name = shard_file_name(alloc, &keyed_hash(hash_key, bytes))?;
+// The path of the shard with a hash in a folder.
+fn path_of_hash(alloc: Global, folder: &str, hash: &MerkleHash) -> ShardResult<String> {
+    let name = shard_file_name(alloc, hash)?;
     Ok(path_in(alloc, folder, name.as_str())?)
+}
+
+// Waits until the device has the file at a path. `None` if it has other bytes than these.
+fn id_of_synced<R: Files + AllocGlobal>(
+    rt: &R,
+    path: &str,
+    bytes: &[u8],
+) -> io::Result<Option<FileId>> {
+    let mut file = fs::open(rt, path)?;
+    let there = file.metadata()?;
+    if !there.is_file() || there.len() != bytes.len() as u64 {
+        return Ok(None);
+    }
+    if read_to_end(rt.alloc(), &mut file)?.as_slice() != bytes {
+        return Ok(None);
+    }
+    file.sync_all()?;
+    Ok(Some(FileId::of(&there)))
 }

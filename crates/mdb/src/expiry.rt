@@ -1,13 +1,128 @@
-//! Leaving shards out that have expired.
+//! Expiries: shards whose expiry has come, and the earliest of some.
+
+ghost use Rattle.std.specs.Prelude.{◌≡◌, ◌↔◌, zip, IsTrue, IfOk, MatchResult};
+ghost use Rattle.std.specs.List.{AllZip};
+ghost use Rattle.xet_core_structures.specs.Layout.{layout};
+ghost use Rattle.xet_core_structures.specs.Shard.{Shard};
+ghost use Rattle.xet_core_structures.specs.WrittenShard.{IsBytesWithoutExpiry};
+ghost use Rattle.mdb.specs.Expiries.{expiry_in, earlier_of, HasCome, IsEarliest, IsExpiryOf, IsNewExpiry};
+ghost use Rattle.mdb.specs.Writing.{HasExpiry, RefusesExpiry};
 
 use crate::blame::on_all;
 use crate::failure::Failure;
 use crate::files::{STANDARD_STREAM, read_ends};
-use mdb_report::fault::Fault;
+use crate::progress::Progress;
+use crate::request::NewExpiry;
+use mdb_report::fault::{Fault, fault_of};
+use mdb_report::moment::Moment;
 use mdb_report::shown::Shown;
+use shard_bytes::expiry::with_expiry;
 use shard_bytes::load::load_bytes;
+use std::alloc::Global;
 use std::fs;
 use std::rt::Files;
+use xet_core_structures::error::CoreError;
+use xet_core_structures::shard_format::MDBShardInfo;
+
+/// The expiry that a footer says. 0 and the greatest number stand for none.
+pub fn expiry_of(info: &MDBShardInfo) -> Option<u64>
+    ensures { result ≡ expiry_in info.now }
+{
+    let expiry = info.metadata.shard_key_expiry;
+    if expiry == 0 || expiry == u64::MAX {
+        None
+    } else {
+        Some(expiry)
+    }
+}
+
+/// Whether an expiry has come by a time, in seconds.
+pub fn has_come(expiry: Option<u64>, now: u64) -> bool
+    ensures { IsTrue result ↔ HasCome expiry now }
+{
+    match expiry {
+        Some(expiry) => expiry <= now,
+        None => false,
+    }
+}
+
+/// The earlier of two expiries. None is later than any.
+pub fn earlier(one: Option<u64>, other: Option<u64>) -> Option<u64>
+    ensures { result ≡ earlier_of one other }
+{
+    match (one, other) {
+        (Some(one), Some(other)) => Some(one.min(other)),
+        (Some(one), None) => Some(one),
+        (None, other) => other,
+    }
+}
+
+/// The earliest of some expiries.
+pub fn earliest(expiries: &[Option<u64>]) -> Option<u64>
+    ensures { IsEarliest expiries.now result }
+{
+    let mut found = None;
+    for expiry in expiries {
+        found = earlier(found, *expiry);
+    }
+    found
+}
+
+// The expiries of the shards in some inputs.
+fn expiries_in<'a>(
+    alloc: Global,
+    files: &[&'a str],
+    inputs: &[&[u8]],
+) -> Result<Vec<Option<u64>>, Failure<'a>>
+    ensures { IfOk result (λ expiries. AllZip (λ p expiry. IsExpiryOf p.1.now expiry)
+        (zip files.now inputs.now) expiries.items) }
+{
+    let mut expiries = Vec::new(alloc);
+    for (file, bytes) in files.iter().zip(inputs) {
+        let expiry = match load_bytes(alloc, bytes) {
+            Ok(info) => expiry_of(&info),
+            Err(error) => return Err(Failure::on_file(file, fault_of(alloc, bytes, error))),
+        };
+        if expiries.push(expiry).is_err() {
+            return Err(Failure::on_file(file, Fault::OutOfMemory));
+        }
+    }
+    Ok(expiries)
+}
+
+/// The expiry of what is made of the shards in some inputs.
+pub fn new_expiry<'a>(
+    alloc: Global,
+    wanted: NewExpiry,
+    files: &[&'a str],
+    inputs: &[&[u8]],
+) -> Result<Option<u64>, Failure<'a>>
+    ensures { IfOk result (IsNewExpiry wanted (zip files.now inputs.now)) }
+{
+    match wanted {
+        NewExpiry::Unset => Ok(None),
+        NewExpiry::At(time) => Ok(Some(time)),
+        NewExpiry::Earliest => {
+            let expiries = expiries_in(alloc, files, inputs)?;
+            Ok(earliest(expiries.as_slice()))
+        }
+    }
+}
+
+/// The bytes of a shard that was written, with an expiry if one is wanted. It fails only if it is out
+/// of memory.
+pub fn expiring(alloc: Global, bytes: Vec<u8>, expiry: Option<u64>) -> Result<Vec<u8>, CoreError>
+    ensures any_bytes { MatchResult result (λ out. HasExpiry expiry bytes.items out.items)
+        (RefusesExpiry expiry bytes.items) }
+    ensures of_shard { (s : Shard) → IsBytesWithoutExpiry s bytes.items
+        → MatchResult result (λ out. out.items ≡ layout s expiry)
+        (λ e. e ≡ CoreError.OutOfMemory) }
+{
+    match expiry {
+        Some(expiry) => with_expiry(alloc, bytes, expiry),
+        None => Ok(bytes),
+    }
+}
 
 /// The files whose shards have not expired by a time, in seconds. With `verbose` each other file is
 /// reported. What is no regular file, or no shard, counts as not expired.
@@ -19,7 +134,7 @@ pub fn without_expired<'a, R: Files + Eprint + AllocGlobal>(
 ) -> Result<Vec<&'a str>, Failure<'a>> {
     let mut remaining = Vec::new(rt.alloc());
     for file in files {
-        if has_expired(rt, file, now) {
+        if has_come(expiry_at(rt, file), now) {
             if verbose {
                 let file = Shown(file);
                 let _ = rt.eprintln(format_args!("{file}: left out, it has expired"));
@@ -31,24 +146,45 @@ pub fn without_expired<'a, R: Files + Eprint + AllocGlobal>(
     Ok(remaining)
 }
 
-fn has_expired<R: Files + AllocGlobal>(rt: &R, file: &str, now: u64) -> bool {
-    if file == STANDARD_STREAM {
-        return false;
+/// The expiry of the shard in a regular file; none of anything else.
+pub fn expiry_at<R: Files + AllocGlobal>(rt: &R, file: &str) -> Option<u64> {
+    if file == STANDARD_STREAM || !fs::metadata(rt, file).ok()?.is_file() {
+        return None;
     }
-    match fs::metadata(rt, file) {
-        Ok(there) if there.is_file() => {}
-        _ => return false,
-    }
-    let Ok(ends) = read_ends(rt, file) else {
-        return false;
+    let ends = read_ends(rt, file).ok()?;
+    expiry_of(&load_bytes(rt.alloc(), ends.as_slice()).ok()?)
+}
+
+/// Says of a file that is used that its shard has expired, if that is known.
+pub fn report_expired<R: Eprint + AllocGlobal>(
+    rt: &R,
+    file: &str,
+    info: &MDBShardInfo,
+    now: Option<u64>,
+    progress: &mut Progress,
+) {
+    let (Some(now), Some(expiry)) = (now, expiry_of(info)) else {
+        return;
     };
-    match load_bytes(rt.alloc(), ends.as_slice()) {
-        Ok(info) => is_past(info.metadata.shard_key_expiry, now),
-        Err(_) => false,
+    if !has_come(Some(expiry), now) {
+        return;
+    }
+    if let Ok(moment) = Moment::of_seconds(rt.alloc(), expiry) {
+        let file = Shown(file);
+        progress.clear(rt);
+        let _ = rt.eprintln(format_args!("{file}: it has expired, at {moment}"));
     }
 }
 
-// Whether an expiry has come. 0 and the greatest number stand for no expiry.
-fn is_past(expiry: u64, now: u64) -> bool {
-    expiry != 0 && expiry != u64::MAX && expiry <= now
+/// The same of the shard in these bytes, if they hold one.
+pub fn report_expired_in<R: Eprint + AllocGlobal>(
+    rt: &R,
+    file: &str,
+    bytes: &[u8],
+    now: Option<u64>,
+    progress: &mut Progress,
+) {
+    if let Ok(info) = load_bytes(rt.alloc(), bytes) {
+        report_expired(rt, file, &info, now, progress);
+    }
 }

@@ -1,12 +1,15 @@
 //! Reading shards, and writing outputs so that a failure leaves what was there.
 
-use crate::beside::write_beside;
+use crate::beside::{folder_and_name, write_beside};
+use crate::stamp::Stamp;
+use shard_bytes::load::load_bytes;
 use std::alloc::Global;
 use std::fs::{Metadata, OpenFile, OpenOptions};
 use std::io::{ErrorKind, Read, Seek, SeekFrom, Write};
 use std::random::RandomSource;
 use std::rt::Files;
 use std::{fs, io};
+use xet_core_structures::error::CoreError;
 use xet_core_structures::shard_format::MDBShardFileHeader;
 
 /// The path that stands for standard input where a file is read, and for standard output where one
@@ -22,10 +25,18 @@ pub const ENDS_SIZE: usize = HEADER_SIZE + 200;
 /// All bytes of a file, or what is left of standard input if the path is `-`.
 pub fn read<R: Files + Input + AllocGlobal>(rt: &R, path: &str) -> io::Result<Vec<u8>> {
     if path != STANDARD_STREAM {
-        return fs::read(rt, path);
+        return read_to_end(rt.alloc(), &mut fs::open(rt, path)?);
     }
     let mut bytes = Vec::new(rt.alloc());
     rt.reader().read_to_end(&mut bytes)?;
+    Ok(bytes)
+}
+
+/// All bytes of a file that was just opened, in room of its size.
+pub fn read_to_end<F: Read + OpenFile>(alloc: Global, file: &mut F) -> io::Result<Vec<u8>> {
+    let size = file.metadata()?.len();
+    let mut bytes = Vec::with_capacity(alloc, usize::try_from(size).unwrap_or(usize::MAX))?;
+    file.read_to_end(&mut bytes)?;
     Ok(bytes)
 }
 
@@ -35,49 +46,80 @@ pub struct Contents {
     pub bytes: Vec<u8>,
     /// Whether these are all bytes.
     pub whole: bool,
+    /// Of a regular file, which it was before it was read.
+    pub stamp: Option<Stamp>,
 }
 
-/// The bytes of the shard in a file, or in what is left of standard input if the path is `-`. If
-/// they do not begin with a header, only as many are read as header and footer have: no more are
-/// needed to say why they are no shard.
+/// The bytes of the shard in a file, or in what is left of standard input if the path is `-`. Of a
+/// regular file without header and footer only as many are read as these have: no more are needed
+/// to say why it is no shard. The same holds of anything else that does not begin with a header.
 pub fn read_shard<R: Files + Input + AllocGlobal>(rt: &R, path: &str) -> io::Result<Contents> {
+    let alloc = rt.alloc();
     if path == STANDARD_STREAM {
-        return contents_of(rt.alloc(), &mut rt.reader(), 0);
+        return stream_contents(alloc, &mut rt.reader());
     }
     let mut file = fs::open(rt, path)?;
     let there = file.metadata()?;
-    let size = if there.is_file() { there.len() } else { 0 };
-    contents_of(rt.alloc(), &mut file, size)
+    if there.is_file() && there.len() >= ENDS_SIZE as u64 {
+        return file_contents(alloc, &mut file, Stamp::of(&there));
+    }
+    stream_contents(alloc, &mut file)
 }
 
-// What is read of a shard from its start on. The size is that of a file, or 0 of anything else.
-fn contents_of<F: Read>(alloc: Global, file: &mut F, size: u64) -> io::Result<Contents> {
-    let mut ends = Vec::new(alloc);
-    file.by_ref().take(ENDS_SIZE as u64).read_to_end(&mut ends)?;
-    if ends.len() < ENDS_SIZE {
-        return Ok(Contents {
-            bytes: ends,
-            whole: true,
-        });
-    }
-    if !is_worth_reading(alloc, ends.as_slice()) {
-        return Ok(Contents {
-            bytes: ends,
-            whole: false,
-        });
-    }
-    let room = usize::try_from(size).unwrap_or(usize::MAX).max(ENDS_SIZE);
-    let mut bytes = Vec::with_capacity(alloc, room)?;
-    bytes.extend_from_slice(ends.as_slice())?;
-    file.read_to_end(&mut bytes)?;
-    Ok(Contents { bytes, whole: true })
+// What is read of a regular file that has room for header and footer.
+fn file_contents<F: Read + Seek>(
+    alloc: Global,
+    file: &mut F,
+    stamp: Stamp,
+) -> io::Result<Contents> {
+    let ends = ends_in(alloc, file, stamp.size)?;
+    let whole = is_worth_reading(alloc, ends.as_slice());
+    let bytes = if whole {
+        let room = usize::try_from(stamp.size).unwrap_or(usize::MAX);
+        let mut bytes = Vec::with_capacity(alloc, room)?;
+        file.seek(SeekFrom::Start(0))?;
+        file.read_to_end(&mut bytes)?;
+        bytes
+    } else {
+        ends
+    };
+    Ok(Contents {
+        bytes,
+        whole,
+        stamp: Some(stamp),
+    })
 }
 
-/// Whether a file is read to its end: it begins with a header, or has no more bytes than these. They
-/// are its first bytes, or its first and its last ones.
+// What is read of a stream from its start on.
+fn stream_contents<F: Read>(alloc: Global, stream: &mut F) -> io::Result<Contents> {
+    let mut bytes = Vec::new(alloc);
+    stream
+        .by_ref()
+        .take(ENDS_SIZE as u64)
+        .read_to_end(&mut bytes)?;
+    let whole = bytes.len() < ENDS_SIZE || begins_with_header(alloc, bytes.as_slice());
+    if whole {
+        stream.read_to_end(&mut bytes)?;
+    }
+    Ok(Contents {
+        bytes,
+        whole,
+        stamp: None,
+    })
+}
+
+fn begins_with_header(alloc: Global, bytes: &[u8]) -> bool {
+    let mut header = bytes;
+    MDBShardFileHeader::deserialize(alloc, &mut header).is_ok()
+}
+
+/// Whether a regular file is read whole: it begins with a header and ends with a footer, which these
+/// bytes are, or memory is lacking to say so.
 pub fn is_worth_reading(alloc: Global, ends: &[u8]) -> bool {
-    let mut header = ends;
-    ends.len() < ENDS_SIZE || MDBShardFileHeader::deserialize(alloc, &mut header).is_ok()
+    match load_bytes(alloc, ends) {
+        Ok(_) | Err(CoreError::OutOfMemory) => true,
+        Err(_) => false,
+    }
 }
 
 /// A file that can be sought, and its size; `None` if what is at the path is no regular file, or
@@ -97,8 +139,13 @@ pub fn open_sized<R: Files>(rt: &R, path: &str) -> io::Result<Option<(R::File, u
 pub fn read_ends<R: Files + AllocGlobal>(rt: &R, path: &str) -> io::Result<Vec<u8>> {
     let mut file = fs::open(rt, path)?;
     let size = file.metadata()?.len();
+    ends_in(rt.alloc(), &mut file, size)
+}
+
+// The same of a file of this size.
+fn ends_in<F: Read + Seek>(alloc: Global, file: &mut F, size: u64) -> io::Result<Vec<u8>> {
     let ends = size.min(ENDS_SIZE as u64) as usize;
-    let mut bytes = vec![in rt.alloc(); 0u8; ends]?;
+    let mut bytes = vec![in alloc; 0u8; ends]?;
     let (header, footer) = bytes.as_mut_slice().split_at_mut(ends.min(HEADER_SIZE));
     file.read_exact(header)?;
     file.seek(SeekFrom::Start(size - footer.len() as u64))?;
@@ -182,13 +229,24 @@ fn write_into<R: Files>(rt: &R, path: &str, bytes: &[u8]) -> io::Result<()> {
     there.write_all(bytes)
 }
 
-/// Renames a new file over a target, or removes it if that fails.
+/// Renames a new file over a target, and waits until the device has the new name; or removes it if it
+/// can't be renamed.
 pub fn rename_over<R: Files>(rt: &R, beside: &str, target: &str) -> io::Result<()> {
-    match fs::rename(rt, beside, target) {
-        Ok(()) => Ok(()),
-        Err(error) => {
-            let _ = fs::remove_file(rt, beside);
-            Err(error)
-        }
+    if let Err(error) = fs::rename(rt, beside, target) {
+        let _ = fs::remove_file(rt, beside);
+        return Err(error);
     }
+    let (folder, _) = folder_and_name(target);
+    match sync_folder(rt, folder) {
+        // Not every folder in which files are made may be read, nor can every system wait for one.
+        Err(error)
+            if error.kind() == ErrorKind::PermissionDenied
+                || error.kind() == ErrorKind::InvalidInput => { Ok(()) }
+        synced => synced,
+    }
+}
+
+/// Waits until the device has the names in a folder.
+pub fn sync_folder<R: Files>(rt: &R, folder: &str) -> io::Result<()> {
+    fs::open(rt, folder)?.sync_all()
 }

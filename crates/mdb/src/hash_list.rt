@@ -20,7 +20,7 @@ pub fn add_listed<'a, R: Files + Input + AllocGlobal>(
     match request {
         Request::Inspect(_, inquiry, _) => add_to_inquiry(rt, list, inquiry),
         Request::Make(Making::Drop(removal), _) => add_from(rt, list, &mut removal.hashes),
-        Request::Make(Making::Subset(_, subset, _), _) => {
+        Request::Make(Making::Subset(_, subset, _, _), _) => {
             let mut listed = Vec::new(rt.alloc());
             add_from(rt, list, &mut listed)?;
             if let KeptXorbs::Listed(hashes) = &mut subset.kept {
@@ -41,7 +41,7 @@ fn list_of<'a>(request: &Request<'a>) -> Option<HashList<'a>> {
     match request {
         Request::Inspect(sources, _, _) => sources.hashes,
         Request::Make(Making::Drop(removal), _) => removal.list,
-        Request::Make(Making::Subset(_, _, list), _) => *list,
+        Request::Make(Making::Subset(_, _, list, _), _) => *list,
         _ => None,
     }
 }

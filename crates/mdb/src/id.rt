@@ -42,6 +42,12 @@ pub const VERSION: &str = "VERSION";
 
 pub const VERBOSE: &str = "verbose";
 
+pub const QUIET: &str = "quiet";
+
+pub const SORT: &str = "BY";
+
+pub const REMOVE_INPUTS: &str = "remove-inputs";
+
 pub const STRICT: &str = "strict";
 
 pub const MEMORY: &str = "SIZE";

@@ -1,40 +1,59 @@
 //! The commands that print.
 
+use crate::expiry::report_expired_in;
 use crate::failure::{Failure, Subject};
-use crate::files::{open_sized, read, read_ends, read_shard};
+use crate::files::{Contents, open_sized, read_ends, read_shard};
 use crate::inputs::Inputs;
+use crate::make::contents_of;
+use crate::progress::{Progress, Stage};
+use crate::request::Printing;
 use crate::run::{Status, failed};
+use crate::terminals::Terminals;
 use mdb_report::fault::{Fault, fault_of, section_fault};
 use mdb_report::inquiry::{Answer, Checks, Inquiry, Trouble, print_answer, print_end};
-use mdb_report::line::{Layout, Style};
+use mdb_report::line::{Layout, Origin};
 use mdb_report::paged_inquiry::print_paged_answer;
 use mdb_report::tally::Tally;
+use shard_bytes::load::load_bytes;
 use std::alloc::Global;
 use std::io;
 use std::io::{BufWriter, ErrorKind, Write};
-use std::rt::Files;
+use std::rt::{Clock, Files};
 use xet_core_structures::error::CoreError;
 
-/// Prints what each of some shards answers, and reports on standard error what fails.
-pub fn inspect<R: Files + Input + Print + Eprint + AllocGlobal>(
+/// Prints what each of some shards answers, and reports on standard error what fails. If that is a
+/// terminal, it says there how far it has come.
+pub fn inspect<R: Files + Input + Clock + Print + Eprint + AllocGlobal>(
     rt: &R,
     inputs: &Inputs,
     inquiry: &Inquiry,
-    style: Style,
+    printing: Printing,
+    terminals: Terminals,
 ) -> Status {
     let mut output = match BufWriter::new(rt.alloc(), io::writer(rt)) {
         Ok(output) => output,
         Err(error) => return failed(rt, &Failure::on_output(Fault::from(error))),
     };
     let mut tally = Tally::new(rt.alloc());
-    let status = match inspect_all(rt, inputs, inquiry, style, &mut tally, &mut output) {
+    let mut progress = Progress::new(rt, terminals.error && !printing.quiet);
+    let asked = inspect_all(
+        rt,
+        inputs,
+        inquiry,
+        printing,
+        &mut tally,
+        &mut progress,
+        &mut output,
+    );
+    progress.clear(rt);
+    let status = match asked {
         Ok(status) => status,
         Err(status) => return status,
     };
     let end = print_end(
         rt.alloc(),
         inquiry,
-        style,
+        printing.style,
         inputs.named,
         &tally,
         &mut output,
@@ -47,12 +66,13 @@ pub fn inspect<R: Files + Input + Print + Eprint + AllocGlobal>(
 }
 
 // The status with which the run ends after totals are printed, or, as an error, ends at once.
-fn inspect_all<R: Files + Input + Eprint + AllocGlobal, W: Write>(
+fn inspect_all<R: Files + Input + Clock + Eprint + AllocGlobal, W: Write>(
     rt: &R,
     inputs: &Inputs,
     inquiry: &Inquiry,
-    style: Style,
+    printing: Printing,
     tally: &mut Tally,
+    progress: &mut Progress,
     output: &mut W,
 ) -> Result<Status, Status> {
     let mut status = match inputs.failed {
@@ -61,13 +81,22 @@ fn inspect_all<R: Files + Input + Eprint + AllocGlobal, W: Write>(
     };
     // Whether all lookups so far found nothing.
     let mut nothing = !inputs.failed && inquiry.looks_up();
-    for file in &inputs.paths {
-        let shard = match inputs.named {
-            true => Some(file.as_str()),
+    for (asked, file) in inputs.paths.iter().enumerate() {
+        let all = inputs.paths.len();
+        progress.show_after_pause(rt, Stage::Asking { asked, all });
+        let file = file.as_str();
+        let layout = Layout {
+            style: printing.style,
+            origin: match inputs.named {
+                true => Origin::OneOf(file),
+                false => Origin::Only(file),
+            },
+        };
+        let now = match inquiry.looks_up() {
+            true => printing.now,
             false => None,
         };
-        let layout = Layout { style, shard };
-        match inspect_file(rt, file.as_str(), inquiry, layout, tally, output) {
+        match inspect_file(rt, file, inquiry, layout, now, tally, progress, output) {
             Ok(Answer::FoundNothing) => continue,
             Ok(Answer::Printed) => {}
             Ok(Answer::FoundProblems) => status = status.and_found(),
@@ -86,24 +115,39 @@ fn inspect_all<R: Files + Input + Eprint + AllocGlobal, W: Write>(
     }
 }
 
-// Reads of a file only what the answer needs, if it can be sought.
-fn inspect_file<'a, R: Files + Input + AllocGlobal, W: Write>(
+// Reads of a file only what the answer needs, if it can be sought. Says whether its shard has
+// expired by a time, if one is given.
+fn inspect_file<'a, R: Files + Input + Eprint + AllocGlobal, W: Write>(
     rt: &R,
     file: &'a str,
     inquiry: &Inquiry,
     layout: Layout<'_>,
+    now: Option<u64>,
     tally: &mut Tally,
+    progress: &mut Progress,
     output: &mut W,
 ) -> Result<Answer, Failure<'a>> {
     let alloc = rt.alloc();
     let (opened, size) = match open_sized(rt, file) {
         Ok(Some(opened)) => opened,
-        Ok(None) => return inspect_whole(rt, file, inquiry, layout, tally, output),
+        Ok(None) => {
+            let contents = contents_of(rt, file)?;
+            report_expired_in(rt, file, contents.bytes.as_slice(), now, progress);
+            return inspect_contents(alloc, file, &contents, inquiry, layout, tally, output);
+        }
         Err(error) => return Err(Failure::on_file(file, Fault::from(error))),
     };
+    if now.is_some()
+        && let Ok(ends) = read_ends(rt, file)
+    {
+        report_expired_in(rt, file, ends.as_slice(), now, progress);
+    }
     match print_paged_answer(alloc, inquiry, file, opened, size, layout, tally, output) {
         Ok(Some(answer)) => Ok(answer),
-        Ok(None) => inspect_whole(rt, file, inquiry, layout, tally, output),
+        Ok(None) => {
+            let contents = contents_of(rt, file)?;
+            inspect_contents(alloc, file, &contents, inquiry, layout, tally, output)
+        }
         Err(Trouble::Ends(error)) => Err(explained(alloc, file, read_ends(rt, file), error)),
         Err(Trouble::Shard(error)) => {
             let bytes = read_shard(rt, file).map(|contents| contents.bytes);
@@ -113,42 +157,33 @@ fn inspect_file<'a, R: Files + Input + AllocGlobal, W: Write>(
     }
 }
 
-// What is read of a file that is read from its start: for a hash all bytes, also of what is no shard.
-fn read_for<R: Files + Input + AllocGlobal>(
-    rt: &R,
-    inquiry: &Inquiry,
-    file: &str,
-) -> io::Result<Vec<u8>> {
-    match inquiry {
-        Inquiry::Name { .. } | Inquiry::Check(Checks { key: Some(_), .. }) => read(rt, file),
-        _ => read_shard(rt, file).map(|contents| contents.bytes),
-    }
-}
-
-fn inspect_whole<'a, R: Files + Input + AllocGlobal, W: Write>(
-    rt: &R,
+// Answers from what was read of a file. What is no shard has no name by its hash, and its bytes are
+// not hashed.
+fn inspect_contents<'a, W: Write>(
+    alloc: Global,
     file: &'a str,
+    contents: &Contents,
     inquiry: &Inquiry,
     layout: Layout<'_>,
     tally: &mut Tally,
     output: &mut W,
 ) -> Result<Answer, Failure<'a>> {
-    let alloc = rt.alloc();
-    let bytes = match read_for(rt, inquiry, file) {
-        Ok(bytes) => bytes,
-        Err(error) => return Err(Failure::on_file(file, Fault::from(error))),
+    let bytes = contents.bytes.as_slice();
+    if let Inquiry::Name { .. } = inquiry
+        && let Err(error) = load_bytes(alloc, bytes)
+    {
+        return Err(Failure::on_file(file, fault_of(alloc, bytes, error)));
+    }
+    let unhashed = match inquiry {
+        Inquiry::Check(checks) if !contents.whole => {
+            Some(Inquiry::Check(Checks { key: None, ..*checks }))
+        }
+        _ => None,
     };
-    match print_answer(
-        alloc,
-        inquiry,
-        file,
-        bytes.as_slice(),
-        layout,
-        tally,
-        output,
-    ) {
+    let inquiry = unhashed.as_ref().unwrap_or(inquiry);
+    match print_answer(alloc, inquiry, file, bytes, layout, tally, output) {
         Ok(answer) => Ok(answer),
-        Err(trouble) => Err(failure_of(alloc, file, bytes.as_slice(), trouble)),
+        Err(trouble) => Err(failure_of(alloc, file, bytes, trouble)),
     }
 }
 

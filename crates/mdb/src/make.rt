@@ -5,10 +5,11 @@ ghost use Rattle.mdb.specs.Writing.{IsInVersion, RefusesVersion};
 
 use crate::beside::leftovers;
 use crate::blame::blamed;
+use crate::expiry::{expiring, new_expiry};
 use crate::failure::Failure;
 use crate::files::{Contents, STANDARD_STREAM, read_shard, write};
 use crate::record_removal::remove_records;
-use crate::request::{Making, Target};
+use crate::request::{Making, NewExpiry, Target};
 use mdb_report::fault::{Fault, export_fault, fault_of, minimal_fault, version_2_fault};
 use shard_bytes::combine::{Operation, combine_bytes};
 use shard_bytes::export::{Export, export_bytes};
@@ -101,7 +102,7 @@ fn made<'a, R: Files + Input + Eprint + AllocGlobal>(
         Making::Combine(operation, first, second) => combined(rt, *operation, first, second),
         Making::Export(file, export) => exported(rt, file, export),
         Making::Minimal(file, now, kept) => minimal(rt, file, *now, *kept),
-        Making::Subset(file, kept, _) => subset(rt, file, kept),
+        Making::Subset(file, kept, _, expiry) => subset(rt, file, kept, *expiry),
         Making::Drop(removal) => remove_records(rt, removal),
     }
 }
@@ -162,15 +163,22 @@ fn subset<'a, R: Files + Input + Eprint + AllocGlobal>(
     rt: &R,
     file: &'a str,
     kept: &Subset,
+    expiry: NewExpiry,
 ) -> Result<Vec<u8>, Failure<'a>> {
     let alloc = rt.alloc();
     let bytes = bytes_of(rt, file)?;
     if let KeptXorbs::Listed(hashes) = &kept.kept {
         has_xorbs(rt, file, bytes.as_slice(), hashes.as_slice())?;
     }
-    match subset_bytes(alloc, bytes.as_slice(), kept) {
+    let bytes = bytes.as_slice();
+    let subset = match subset_bytes(alloc, bytes, kept) {
+        Ok(subset) => subset,
+        Err(error) => return Err(Failure::on_file(file, fault_of(alloc, bytes, error))),
+    };
+    let expiry = new_expiry(alloc, expiry, &[file], &[bytes])?;
+    match expiring(alloc, subset, expiry) {
         Ok(subset) => Ok(subset),
-        Err(error) => Err(Failure::on_file(file, fault_of(alloc, bytes.as_slice(), error))),
+        Err(_) => Err(Failure::on_file(file, Fault::OutOfMemory)),
     }
 }
 

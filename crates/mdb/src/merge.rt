@@ -1,19 +1,17 @@
 //! The command that merges shards.
 
-ghost use Rattle.std.specs.Prelude.{◌≡◌, List, ℕ, zip, map, IfOk, MatchResult};
+ghost use Rattle.std.specs.Prelude.{◌≡◌, List, ℕ, Option, zip, map, IfOk, MatchResult};
 ghost use Rattle.std.specs.List.{AllZip};
-ghost use Rattle.xet_core_structures.specs.Layout.{layout};
-ghost use Rattle.xet_core_structures.specs.Shard.{Shard};
-ghost use Rattle.xet_core_structures.specs.WrittenShard.{IsBytesWithoutExpiry};
 ghost use Rattle.shard_bytes.specs.Merging.{MergesBytes};
+ghost use Rattle.mdb.specs.Expiries.{IsNewExpiry};
 ghost use Rattle.mdb.specs.Keys.{IsKeyOf, NoKeys};
 ghost use Rattle.mdb.specs.Merging.{UnitesTo, RefusesUnion, SaysNotMerged};
-ghost use Rattle.mdb.specs.Writing.{HasExpiry, RefusesExpiry, IsInVersion};
+ghost use Rattle.mdb.specs.Writing.{HasExpiry, IsInVersion};
 
 use crate::blame::{blamed, disagreement, disagreement_under, malformed, malformed_in, on_all};
 use crate::by_key::{distinct_keys, path_under, values_under};
 use crate::compaction::merge_groups;
-use crate::expiry::without_expired;
+use crate::expiry::{expiring, new_expiry, report_expired_in, without_expired};
 use crate::failure::Failure;
 use crate::files::{Contents, STANDARD_STREAM, is_worth_reading, open_sized, read_ends};
 use crate::free_memory::free_memory;
@@ -25,14 +23,12 @@ use crate::terminals::Terminals;
 use mdb_report::fault::{Fault, fault_of};
 use mdb_report::shown::Shown;
 use shard_bytes::agree::{AgreeingMerge, merge_agreeing_bytes};
-use shard_bytes::expiry::with_expiry;
 use shard_bytes::load::load_bytes;
 use shard_bytes::merge::merge_bytes;
 use std::alloc::{AllocError, Global};
 use std::fs;
 use std::random::RandomSource;
 use std::rt::{Clock, Files};
-use xet_core_structures::error::CoreError;
 use xet_core_structures::merklehash::HMACKey;
 use xet_records::record_reader::FormatVersion;
 
@@ -46,7 +42,9 @@ pub fn merge_files<
     if terminals.output && merge.target.path == STANDARD_STREAM {
         return Err(Failure::on_output(Fault::Terminal));
     }
-    if let Some(now) = merge.expired_by {
+    if let Some(now) = merge.now
+        && merge.drops_expired
+    {
         let remaining = without_expired(rt, files, now, merge.verbose)?;
         return merge_remaining(rt, remaining.as_slice(), merge, terminals);
     }
@@ -58,10 +56,14 @@ fn merge_remaining<
     'a,
     R: Files + Input + Clock + Print + Eprint + RandomSource + AllocGlobal + Clone + Drop,
 >(rt: &R, files: &[&'a str], merge: Merge<'a>, terminals: Terminals) -> Result<(), Failure<'a>> {
+    // In groups of a folder without shards there is nothing to do.
+    if files.is_empty() && merge.compaction.is_some() {
+        return Ok(());
+    }
     if files.is_empty() {
         return Err(Failure::on_words(Fault::NoFiles));
     }
-    let mut progress = Progress::new(rt, terminals.error && !merge.verbose);
+    let mut progress = Progress::new(rt, terminals.error && !merge.verbose && !merge.quiet);
     let progress = &mut progress;
     let made = match (merge.compaction, merge.memory) {
         (Some(compaction), _) => merge_groups(rt, files, merge, compaction, progress),
@@ -139,7 +141,7 @@ fn read_and_merge<
     'a,
     R: Files + Input + Clock + Print + Eprint + RandomSource + AllocGlobal + Clone + Drop,
 >(rt: &R, files: &[&'a str], merge: Merge<'a>, progress: &mut Progress) -> Result<(), Failure<'a>> {
-    let contents = contents_of_all(rt, files, merge.verbose, progress)?;
+    let contents = contents_of_all(rt, files, merge, progress)?;
     progress.show(rt, Stage::Merging(files.len()));
     merge_contents(rt, files, contents.as_slice(), merge, progress)
 }
@@ -148,13 +150,13 @@ fn read_and_merge<
 fn merge_contents<'a, R: Files + Print + Eprint + RandomSource + AllocGlobal + Clone + Drop>(
     rt: &R,
     files: &[&'a str],
-    contents: &[Vec<u8>],
+    contents: &[Contents],
     merge: Merge<'a>,
     progress: &mut Progress,
 ) -> Result<(), Failure<'a>> {
     let inputs: Result<Vec<&[u8]>, AllocError> = contents
         .iter()
-        .map(|bytes| bytes.as_slice())
+        .map(|contents| contents.bytes.as_slice())
         .collect(rt.alloc());
     let Ok(inputs) = inputs else {
         return Err(on_all(files, Fault::OutOfMemory));
@@ -166,29 +168,30 @@ fn merge_contents<'a, R: Files + Print + Eprint + RandomSource + AllocGlobal + C
     put(rt, merge.target.path, bytes.as_slice())
 }
 
-/// The bytes of each file. All are read once, since standard input and pipes cannot be read again.
+/// What is read of each file. All are read once, since standard input and pipes cannot be read again.
 pub fn contents_of_all<'a, R: Files + Input + Clock + Eprint + AllocGlobal>(
     rt: &R,
     files: &[&'a str],
-    verbose: bool,
+    merge: Merge<'a>,
     progress: &mut Progress,
-) -> Result<Vec<Vec<u8>>, Failure<'a>> {
-    let mut contents = Vec::new(rt.alloc());
+) -> Result<Vec<Contents>, Failure<'a>> {
+    let mut all = Vec::new(rt.alloc());
     for file in files {
         let stage = Stage::Reading {
-            read: contents.len(),
+            read: all.len(),
             all: files.len(),
         };
         progress.show_after_pause(rt, stage);
-        let Contents { bytes, whole } = contents_of(rt, file)?;
-        if verbose && whole {
-            report_size(rt, file, bytes.len() as u64);
+        let contents = contents_of(rt, file)?;
+        if merge.verbose && contents.whole {
+            report_size(rt, file, contents.bytes.len() as u64);
         }
-        if contents.push(bytes).is_err() {
+        report_expired_in(rt, file, contents.bytes.as_slice(), merge.now, progress);
+        if all.push(contents).is_err() {
             return Err(Failure::on_file(file, Fault::OutOfMemory));
         }
     }
-    Ok(contents)
+    Ok(all)
 }
 
 // Merges the inputs under each key, and writes each merge to a folder, by the digits of its key.
@@ -273,14 +276,16 @@ pub fn merged<'a, R: Eprint + AllocGlobal>(
     merge: Merge<'a>,
     progress: &mut Progress,
 ) -> Result<Vec<u8>, Failure<'a>>
-    ensures { IfOk result (λ written. (union expiring : List ℕ)
+    ensures { IfOk result (λ written. (union expiring : List ℕ) × (expiry : Option ℕ)
         × UnitesTo merge.entry.strictness (map (λ x. x.now) inputs.now) union
-        × HasExpiry merge.entry.expiry union expiring
+        × IsNewExpiry merge.entry.expiry (zip files.now inputs.now) expiry
+        × HasExpiry expiry union expiring
         × IsInVersion merge.entry.target.version expiring written.items) }
 {
     let bytes = united(rt, files, inputs, merge.strictness, progress)?;
     progress.clear(rt);
-    match expiring(rt.alloc(), bytes, merge.expiry) {
+    let expiry = new_expiry(rt.alloc(), merge.expiry, files, inputs)?;
+    match expiring(rt.alloc(), bytes, expiry) {
         Ok(bytes) => in_version(rt.alloc(), bytes, merge.target),
         Err(_) => Err(on_all(files, Fault::OutOfMemory)),
     }
@@ -352,21 +357,6 @@ fn united_leniently<'a, R: Eprint + AllocGlobal>(
             Ok(bytes)
         }
         Err(error) => Err(blamed(alloc, files, inputs, error)),
-    }
-}
-
-// The bytes that a merge wrote, with an expiry if one is wanted. It fails only if it is out of
-// memory.
-fn expiring(alloc: Global, bytes: Vec<u8>, expiry: Option<u64>) -> Result<Vec<u8>, CoreError>
-    ensures any_bytes { MatchResult result (λ out. HasExpiry expiry bytes.items out.items)
-        (RefusesExpiry expiry bytes.items) }
-    ensures of_shard { (s : Shard) → IsBytesWithoutExpiry s bytes.items
-        → MatchResult result (λ out. out.items ≡ layout s expiry)
-        (λ e. e ≡ CoreError.OutOfMemory) }
-{
-    match expiry {
-        Some(expiry) => with_expiry(alloc, bytes, expiry),
-        None => Ok(bytes),
     }
 }
 

@@ -7,11 +7,13 @@ use std::time::{Duration, Instant};
 /// The seconds before the line is first shown, and between its updates.
 const PAUSE: u64 = 1;
 
-/// What a merge does.
+/// What a command does.
 #[derive(Clone, Copy, Debug, PartialEq, Eq)]
 pub enum Stage {
     /// So many of all the shards are read.
     Reading { read: usize, all: usize },
+    /// So many of all the shards are asked.
+    Asking { asked: usize, all: usize },
     /// So many shards are merged.
     Merging(usize),
     /// So many shards are merged in parts, and this share of their bytes is done.
@@ -22,6 +24,7 @@ impl fmt::Display for Stage {
     fn fmt<W: fmt::Write>(&self, f: &mut fmt::Formatter<W>) -> fmt::Result {
         match self {
             Stage::Reading { read, all } => write!(f, "{read} of {all} shards read"),
+            Stage::Asking { asked, all } => write!(f, "{asked} of {all} shards done"),
             Stage::Merging(all) => write!(f, "merging {all} shards"),
             Stage::MergingParts { shards, percent } => {
                 write!(f, "merging {shards} shards, {percent} %")
@@ -30,7 +33,7 @@ impl fmt::Display for Stage {
     }
 }
 
-/// A line on standard error that says how far a merge has come, for one that takes over a second.
+/// A line on standard error that says how far a command has come, for one that takes over a second.
 #[derive(Clone, Copy)]
 pub struct Progress {
     /// When the line was shown last, or the command began; `None` if it is never shown.

@@ -1,6 +1,7 @@
 //! The command that takes records out of a shard.
 
 use crate::blame::blamed;
+use crate::expiry::{expiring, new_expiry};
 use crate::failure::Failure;
 use crate::make::bytes_of;
 use crate::request::Removal;
@@ -8,7 +9,6 @@ use crate::rounds::block::{put_bookend, put_footer};
 use mdb_report::fault::{Fault, fault_of};
 use mdb_report::section::Section;
 use shard_bytes::combine::{Operation, combine_bytes};
-use shard_bytes::expiry::with_expiry;
 use shard_bytes::load::load_bytes;
 use std::alloc::Global;
 use std::rt::Files;
@@ -35,7 +35,8 @@ pub fn remove_records<'a, R: Files + Input + Eprint + AllocGlobal>(
         Err(error) => return Err(Failure::on_file(file, fault_of(alloc, bytes, error))),
     };
     has_records(rt, file, bytes, &info, hashes)?;
-    match difference(alloc, bytes, &info, hashes, removal.expiry) {
+    let expiry = new_expiry(alloc, removal.expiry, &[file], &[bytes])?;
+    match difference(alloc, bytes, &info, hashes, expiry) {
         Ok(rest) => Ok(rest),
         Err(error) => Err(blamed(alloc, &[file], &[bytes], error)),
     }
@@ -52,10 +53,7 @@ fn difference(
 ) -> ShardResult<Vec<u8>> {
     let removed = hash_shard(alloc, hashes, info.metadata.chunk_hash_hmac_key)?;
     let rest = combine_bytes(alloc, Operation::Difference, removed.as_slice(), bytes)?;
-    match expiry {
-        Some(expiry) => with_expiry(alloc, rest, expiry),
-        None => Ok(rest),
-    }
+    expiring(alloc, rest, expiry)
 }
 
 // Reports each hash that no record of the shard has, and fails if there is one.

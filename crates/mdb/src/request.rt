@@ -13,13 +13,35 @@ use xet_records::record_reader::FormatVersion;
 #[derive(Drop)]
 pub enum Request<'a> {
     /// To print answers about shards.
-    Inspect(Sources<'a>, Inquiry, Style),
+    Inspect(Sources<'a>, Inquiry, Printing),
     /// To print what does not fit together in shards, in about so many bytes of memory.
     Collect(Sources<'a>, Style, u64),
     /// To write a shard.
     Make(Making<'a>, Target<'a>),
     /// To write a merge of shards.
     Merge(Sources<'a>, Merge<'a>),
+}
+
+/// How answers about shards are printed.
+#[derive(Clone, Copy, Debug, PartialEq, Eq)]
+pub struct Printing {
+    pub style: Style,
+    /// The order of the shards; `None` if it is that in which they are named.
+    pub sort: Option<Sort>,
+    /// The time, in seconds, by which shards in which is looked have expired, if it is known.
+    pub now: Option<u64>,
+    /// Whether nothing is said of how far the command has come.
+    pub quiet: bool,
+}
+
+/// By what shards are sorted, in ascending order.
+#[derive(Clone, Copy, Debug, PartialEq, Eq)]
+pub enum Sort {
+    Name,
+    /// The number of bytes.
+    Size,
+    /// The expiry, those without one last.
+    Expiry,
 }
 
 /// Where a shard is written, and in which version of the format.
@@ -58,7 +80,7 @@ pub enum Making<'a> {
     Export(&'a str, Export),
     Minimal(&'a str, u64, KeptParts),
     /// The xorbs to keep may be listed besides.
-    Subset(&'a str, Subset, Option<HashList<'a>>),
+    Subset(&'a str, Subset, Option<HashList<'a>>, NewExpiry),
     Drop(Removal<'a>),
 }
 
@@ -69,8 +91,18 @@ pub struct Removal<'a> {
     pub hashes: Vec<MerkleHash>,
     /// The list of more hashes.
     pub list: Option<HashList<'a>>,
-    /// The expiry of what is written, in seconds; none if it is left out.
-    pub expiry: Option<u64>,
+    pub expiry: NewExpiry,
+}
+
+/// The expiry of what is written.
+#[derive(Clone, Copy, Debug, PartialEq, Eq)]
+pub enum NewExpiry {
+    /// There is none.
+    Unset,
+    /// This time, in seconds.
+    At(u64),
+    /// The earliest of those that the inputs have.
+    Earliest,
 }
 
 /// How shards are merged.
@@ -80,14 +112,17 @@ pub struct Merge<'a> {
     pub strictness: Strictness,
     /// Whether each file is reported as it is read.
     pub verbose: bool,
+    /// Whether nothing is said of how far the merge has come.
+    pub quiet: bool,
     /// Whether the shards under each key are merged by themselves, into a folder.
     pub by_key: bool,
-    /// The expiry of what is written, in seconds; none if it is left out.
-    pub expiry: Option<u64>,
+    pub expiry: NewExpiry,
     /// About how many bytes of memory a merge in rounds takes; `None` if all shards are in memory.
     pub memory: Option<u64>,
-    /// The time, in seconds, by which expired shards are left out; `None` if they are merged too.
-    pub expired_by: Option<u64>,
+    /// The time, in seconds, by which shards have expired, if it is known.
+    pub now: Option<u64>,
+    /// Whether expired shards are left out.
+    pub drops_expired: bool,
     /// How shards are merged in groups, each to a file in a folder; `None` if all are merged as one.
     pub compaction: Option<Compaction>,
 }
@@ -99,6 +134,8 @@ pub struct Compaction {
     pub max_size: u64,
     /// The key of the hashes by which merges are named.
     pub hash_key: HMACKey,
+    /// Whether the shards are removed once the device has their merges.
+    pub remove_inputs: bool,
 }
 
 /// What is done where shards that are to be merged do not agree.

@@ -18,6 +18,7 @@ pub mod shard_file;
 use crate::beside::{NewFile, create_beside, create_private};
 use crate::blame::{obstacle_in_files, on_all};
 use crate::by_key::{distinct_keys, path_under, values_under};
+use crate::expiry::report_expired;
 use crate::failure::Failure;
 use crate::files::{Place, STANDARD_STREAM, is_worth_reading, place_at, rename_over};
 use crate::make::report_leftovers;
@@ -141,6 +142,7 @@ fn open_all<'a, R: Files + Input + Clock + Eprint + AllocGlobal>(
         }
         match load_bytes(alloc, ends.as_slice()) {
             Ok(info) => {
+                report_expired(rt, file, &info, merge.now, progress);
                 if opened.push(ShardFile::new(file, info, stamp)).is_err() {
                     return Err(on_all(files, Fault::OutOfMemory));
                 }

@@ -5,17 +5,20 @@ ghost use Rattle.mdb.specs.Status.{number_of, after_finding};
 
 use crate::arguments::request_of;
 use crate::failure::Failure;
+use crate::folder_lock::{FolderLock, Locks};
 use crate::gc::collect_garbage;
 use crate::hash_list::add_listed;
 use crate::inputs::inputs_of;
 use crate::inspect::inspect;
 use crate::make::make;
 use crate::merge::merge_files;
+use crate::ordering::inputs_in_order;
 use crate::request::{Merge, Request, Sources};
 use crate::terminals::Terminals;
 use crate::words::{Words, WordsError, read_words};
 use mdb_report::fault::Fault;
 use mdb_report::moment::seconds_now;
+use mdb_report::shown::Shown;
 use std::alloc::AllocError;
 use std::random::RandomSource;
 use std::rt::{Clock, Env, Files};
@@ -61,7 +64,7 @@ impl Status {
 
 /// Runs the program on its words; which streams are terminals is given.
 pub fn run<
-    R: Env + Files + Input + Clock + Print + Eprint + RandomSource + AllocGlobal + Clone + Drop,
+    R: Env + Locks + Input + Clock + Print + Eprint + RandomSource + AllocGlobal + Clone + Drop,
 >(rt: &R, terminals: Terminals) -> u8
     ensures { result ≤ 3 }
 {
@@ -73,7 +76,7 @@ pub fn run<
 }
 
 fn status_of_words<
-    R: Files + Input + Clock + Print + Eprint + RandomSource + AllocGlobal + Clone + Drop,
+    R: Locks + Input + Clock + Print + Eprint + RandomSource + AllocGlobal + Clone + Drop,
 >(rt: &R, words: &Words, terminals: Terminals) -> Status {
     match request_of(rt.alloc(), words.texts.as_slice(), seconds_now(rt)) {
         Ok(mut request) => match add_listed(rt, &mut request) {
@@ -93,19 +96,25 @@ fn status_of_words<
     }
 }
 
-fn status_of<R: Files + Input + Clock + Print + Eprint + RandomSource + AllocGlobal + Clone + Drop>(
+fn status_of<R: Locks + Input + Clock + Print + Eprint + RandomSource + AllocGlobal + Clone + Drop>(
     rt: &R,
     request: &Request<'_>,
     unreadable: &[String],
     terminals: Terminals,
 ) -> Status {
     match request {
-        Request::Inspect(sources, inquiry, style) => match inputs_of(rt, sources, unreadable) {
-            Ok(inputs) => inspect(rt, &inputs, inquiry, *style),
-            Err(_) => failed(rt, &Failure::on_words(Fault::OutOfMemory)),
-        },
+        Request::Inspect(sources, inquiry, printing) => {
+            let inputs = match inputs_of(rt, sources, unreadable) {
+                Ok(inputs) => inputs_in_order(rt, inputs, printing.sort),
+                Err(error) => Err(error),
+            };
+            match inputs {
+                Ok(inputs) => inspect(rt, &inputs, inquiry, *printing, terminals),
+                Err(_) => failed(rt, &Failure::on_words(Fault::OutOfMemory)),
+            }
+        }
         Request::Collect(sources, style, memory) => match inputs_of(rt, sources, unreadable) {
-            Ok(inputs) => collect_garbage(rt, &inputs, *style, *memory),
+            Ok(inputs) => collect_garbage(rt, &inputs, collection, terminals),
             Err(_) => failed(rt, &Failure::on_words(Fault::OutOfMemory)),
         },
         Request::Make(making, target) => {
@@ -123,8 +132,30 @@ fn status_of<R: Files + Input + Clock + Print + Eprint + RandomSource + AllocGlo
     }
 }
 
-// Merges shards, if none of what names them failed.
+// Merges shards; where it is in groups, under the lock of the folder to which they are written.
 fn status_of_merge<
+    R: Locks + Input + Clock + Print + Eprint + RandomSource + AllocGlobal + Clone + Drop,
+>(rt: &R, sources: &Sources<'_>, merge: Merge<'_>, terminals: Terminals) -> Status {
+    if merge.compaction.is_none() {
+        return status_of_sources(rt, sources, merge, terminals);
+    }
+    let folder = merge.target.path;
+    match FolderLock::take(rt, folder) {
+        Ok(lock) => {
+            let status = status_of_sources(rt, sources, merge, terminals);
+            lock.release(rt);
+            status
+        }
+        Err(fault) => {
+            let folder = Shown(folder);
+            let _ = rt.eprintln(format_args!("{folder}: {fault}"));
+            Status::Failed
+        }
+    }
+}
+
+// Merges shards, if none of what names them failed.
+fn status_of_sources<
     R: Files + Input + Clock + Print + Eprint + RandomSource + AllocGlobal + Clone + Drop,
 >(rt: &R, sources: &Sources<'_>, merge: Merge<'_>, terminals: Terminals) -> Status {
     match inputs_of(rt, sources, &[]) {

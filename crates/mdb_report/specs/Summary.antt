@@ -40,7 +40,7 @@ pub record ArePartsOf (info : MDBShardInfo) (bytes : ℕ) (parts : Parts) : Type
 -- the summary says what header and footer do, of the file with this name
 pub record Summarizes (info : MDBShardInfo) (file : List ℕ) (bytes : ℕ) (summary : Summary)
     : Type 0 where
-  pub name : summary.file.now ≡ file
+  pub name : summary.shard.now ≡ file
   pub size : summary.bytes ≡ bytes
   pub version : summary.version ≡ info.header.version
   pub parts : ArePartsOf info bytes summary.parts

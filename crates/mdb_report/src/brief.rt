@@ -1,31 +1,42 @@
 //! A shard in one line, and some shards together.
 
-ghost use Rattle.std.specs.Prelude.{◌≡◌, ◌⊎◌, length, MatchResult};
+ghost use Rattle.std.specs.Prelude.{◌≡◌, ◌⊎◌, ◌-◌, length, IfOk, MatchResult};
+ghost use Rattle.xet_core_structures.specs.declared.error.CoreError.{CoreError};
 ghost use Rattle.xet_core_structures.specs.declared.shard_format.MDBShardInfo.{MDBShardInfo as Info};
 ghost use Rattle.xet_core_structures.specs.Ends.{HasHeaderAndFooter};
 ghost use Rattle.xet_core_structures.specs.TwoShards.ByteResults.{LoadRefusal};
-ghost use Rattle.mdb_report.specs.Brief.{SaysBriefly, AddsTo};
+ghost use Rattle.mdb_report.specs.Brief.{SaysBriefly, IsCount, AddsTo, counted_known};
 
 use crate::hex::Hex;
+use crate::moment::Moment;
 use crate::parts::Parts;
 use crate::shown::Shown;
 use crate::summary::key_of;
 use serde::Serialize;
 use shard_bytes::load::load_bytes;
-use std::alloc::Global;
+use std::alloc::{AllocError, Global};
 use std::fmt;
 use xet_core_structures::error::Result;
+use xet_core_structures::rows::ROW_SIZE;
 use xet_core_structures::shard_format::MDBShardInfo;
 
 /// What a shard's header and footer say, without where the parts are, but for whether they ascend.
+///
+/// Records are counted by the rows of tables. A count is not known of a table without rows, as in a
+/// minimal shard, whose section has room for records.
 #[derive(Drop, Serialize)]
 pub struct Brief<'a> {
-    pub file: &'a str,
+    /// The name of the shard's file.
+    pub shard: &'a str,
     pub version: u64,
     pub bytes: u64,
     /// Whether the offsets of the footer ascend within the file.
     pub ascends: bool,
     pub key: Option<Hex>,
+    pub files: Option<u64>,
+    pub xorbs: Option<u64>,
+    pub chunks: Option<u64>,
+    pub expires: Moment,
     /// The bytes of the xorbs, unpacked.
     pub stored_bytes: u64,
     /// The bytes of the files.
@@ -35,38 +46,70 @@ pub struct Brief<'a> {
 impl<'a> Brief<'a> {
     /// What is said of the shard with these bytes.
     ///
-    /// The errors are those of [`load_bytes`].
+    /// The errors are those of [`load_bytes`], and `OutOfMemory`.
     pub fn of_bytes(alloc: Global, file: &'a str, bytes: &[u8]) -> Result<Brief<'a>>
         ensures { MatchResult result
             (λ brief. (info : Info) × HasHeaderAndFooter bytes.now info
             × SaysBriefly info file.now (length bytes.now) brief)
-            (LoadRefusal bytes.now) }
+            (λ e. LoadRefusal bytes.now e ⊎ (e ≡ CoreError.OutOfMemory)) }
     {
         let info = load_bytes(alloc, bytes)?;
-        Ok(Brief::of_info(file, &info, bytes.len() as u64))
+        Ok(Brief::of_info(alloc, file, &info, bytes.len() as u64)?)
     }
 
-    /// What is said of a shard of so many bytes that has this header and footer.
-    pub fn of_info(file: &'a str, info: &MDBShardInfo, bytes: u64) -> Brief<'a>
-        ensures { SaysBriefly info.now file.now bytes result }
+    /// What is said of a shard of so many bytes that has this header and footer. It fails only if
+    /// memory is lacking.
+    pub fn of_info(
+        alloc: Global,
+        file: &'a str,
+        info: &MDBShardInfo,
+        bytes: u64,
+    ) -> std::result::Result<Brief<'a>, AllocError>
+        ensures { IfOk result (SaysBriefly info.now file.now bytes) }
     {
-        Brief {
-            file,
+        let footer = &info.metadata;
+        let (files, xorbs) = (footer.file_info_offset, footer.xorb_info_offset);
+        let end = footer.file_lookup_offset;
+        let xorb_rows = footer.xorb_lookup_num_entry;
+        Ok(Brief {
+            shard: file,
             version: info.header.version,
             bytes,
             ascends: Parts::of_shard(info, bytes).ascend(),
             key: key_of(info),
+            files: count_of(footer.file_lookup_num_entry, files, xorbs, 0),
+            xorbs: count_of(xorb_rows, xorbs, end, 0),
+            chunks: count_of(footer.chunk_lookup_num_entry, xorbs, end, xorb_rows),
+            expires: Moment::of_seconds(alloc, info.metadata.shard_key_expiry)?,
             stored_bytes: info.metadata.stored_bytes,
             materialized_bytes: info.metadata.materialized_bytes,
-        }
+        })
     }
 }
 
-/// Sums over some shards; one that would pass the greatest number stays there.
+// The number of rows of a table, unless it has none and its section, between two offsets, has room
+// for a row beside its bookend and so many others.
+fn count_of(rows: u64, start: u64, end: u64, others: u64) -> Option<u64>
+    ensures { IsCount rows (end - start) others result }
+{
+    let room = end.saturating_sub(start);
+    let records = (room / ROW_SIZE as u64).saturating_sub(1);
+    if rows == 0 && others < records {
+        None
+    } else {
+        Some(rows)
+    }
+}
+
+/// Sums over some shards; one that would pass the greatest number stays there. A sum is not known
+/// if one of its counts is not.
 #[derive(Clone, Copy, Debug, PartialEq, Eq, Serialize)]
 pub struct Total {
     pub shards: u64,
     pub bytes: u64,
+    pub files: Option<u64>,
+    pub xorbs: Option<u64>,
+    pub chunks: Option<u64>,
     pub stored_bytes: u64,
     pub materialized_bytes: u64,
 }
@@ -76,6 +119,9 @@ impl Total {
     pub const NONE: Total = Total {
         shards: 0,
         bytes: 0,
+        files: Some(0),
+        xorbs: Some(0),
+        chunks: Some(0),
         stored_bytes: 0,
         materialized_bytes: 0,
     };
@@ -86,6 +132,9 @@ impl Total {
     {
         self.shards = self.shards.saturating_add(1);
         self.bytes = self.bytes.saturating_add(shard.bytes);
+        self.files = sum_of(self.files, shard.files);
+        self.xorbs = sum_of(self.xorbs, shard.xorbs);
+        self.chunks = sum_of(self.chunks, shard.chunks);
         self.stored_bytes = self.stored_bytes.saturating_add(shard.stored_bytes);
         self.materialized_bytes = self
             .materialized_bytes
@@ -93,17 +142,59 @@ impl Total {
     }
 }
 
+// The sum of two counts, if both are known.
+fn sum_of(one: Option<u64>, other: Option<u64>) -> Option<u64>
+    ensures { result ≡ counted_known one other }
+{
+    match (one, other) {
+        (Some(one), Some(other)) => Some(one.saturating_add(other)),
+        _ => None,
+    }
+}
+
+// Numbers of records.
+#[derive(Clone, Copy)]
+struct Counts {
+    files: Option<u64>,
+    xorbs: Option<u64>,
+    chunks: Option<u64>,
+}
+
+impl fmt::Display for Counts {
+    fn fmt<W: fmt::Write>(&self, f: &mut fmt::Formatter<W>) -> fmt::Result {
+        let names = [
+            ("files", self.files),
+            ("xorbs", self.xorbs),
+            ("chunks", self.chunks),
+        ];
+        for (name, count) in names {
+            match count {
+                Some(count) => write!(f, ", {name} {count}")?,
+                None => write!(f, ", {name} unknown")?,
+            }
+        }
+        Ok(())
+    }
+}
+
 impl fmt::Display for Brief<'_> {
     fn fmt<W: fmt::Write>(&self, f: &mut fmt::Formatter<W>) -> fmt::Result {
-        let file = Shown(self.file);
+        let shard = Shown(self.shard);
         let version = self.version;
         let bytes = self.bytes;
         let stored = self.stored_bytes;
         let materialized = self.materialized_bytes;
+        let counts = Counts {
+            files: self.files,
+            xorbs: self.xorbs,
+            chunks: self.chunks,
+        };
+        let expires = &self.expires;
         write!(
             f,
-            "{file}: version {version}, {bytes} bytes, stored {stored}, materialized {materialized}"
+            "{shard}: version {version}, {bytes} bytes{counts}, stored {stored}, materialized {materialized}"
         )?;
+        write!(f, ", expires {expires}")?;
         match self.key {
             Some(key) => write!(f, ", key {key}")?,
             None => {}
@@ -122,9 +213,14 @@ impl fmt::Display for Total {
         let bytes = self.bytes;
         let stored = self.stored_bytes;
         let materialized = self.materialized_bytes;
+        let counts = Counts {
+            files: self.files,
+            xorbs: self.xorbs,
+            chunks: self.chunks,
+        };
         write!(
             f,
-            "total: {shards} shards, {bytes} bytes, stored {stored}, materialized {materialized}"
+            "total: {shards} shards, {bytes} bytes{counts}, stored {stored}, materialized {materialized}"
         )
     }
 }

@@ -68,6 +68,12 @@ pub enum Fault {
     NoPlace,
     /// The file is not what it was when it was first read.
     Changed,
+    /// An input is not removed, since it is not what was read.
+    StaysChanged,
+    /// An input is not removed, since it is no regular file, as a link to one.
+    StaysAsLink,
+    /// In a folder the name that a shard has by the hash of its bytes has other bytes.
+    OtherBytes(MerkleHash),
     /// Anything else that a call of the library reports.
     Other(CoreError),
 }
@@ -100,6 +106,12 @@ impl fmt::Display for Fault {
             Fault::NoHash(line) => {
                 write!(f, "line {line} is no hash: it has 64 hexadecimal digits")
             }
+            Fault::OtherBytes(hash) => {
+                write!(
+                    f,
+                    "{hash}.mdb is there, with other bytes than its name says"
+                )
+            }
             Fault::Other(error) => write!(f, "{error}"),
             fault => write!(f, "{}", fault.text()),
         }
@@ -131,6 +143,8 @@ impl Fault {
             Fault::NoParts => "it is no regular file, which --memory, --to and gc need",
             Fault::NoPlace => "it is no regular file, which --memory needs to write to",
             Fault::Changed => "it was changed while it was read",
+            Fault::StaysChanged => "it stays, since it was changed after it was read",
+            Fault::StaysAsLink => "it stays, since it is no regular file",
             _ => "it failed",
         }
     }

@@ -214,7 +214,7 @@ pub fn print_end<W: Write>(
 ) -> io::Result<()>
     ensures { SaysNoMore inquiry.now named → IsOk result × (output.new ≡ output.old) }
 {
-    let layout = Layout::plain(style);
+    let layout = Layout::of_no_shard(style);
     match inquiry {
         Inquiry::Brief => print(alloc, &tally.total, layout, output),
         Inquiry::Find {
@@ -416,7 +416,7 @@ pub(crate) fn print_lookup<W: Write>(
     if found {
         tally.add_found(report.hash.0)?;
     }
-    if found || report.costs.is_some() || layout.shard.is_none() {
+    if found || report.costs.is_some() || !layout.is_of_one() {
         print(alloc, report, layout, output)?;
     }
     Ok(found)
@@ -455,7 +455,7 @@ pub(crate) fn print_run<W: Write>(
         print(alloc, report, layout, output)?;
         return Ok(Answer::Printed);
     }
-    if layout.shard.is_none() {
+    if !layout.is_of_one() {
         print(alloc, report, layout, output)?;
     }
     Ok(Answer::FoundNothing)

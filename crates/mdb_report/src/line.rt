@@ -1,6 +1,7 @@
 //! A value as text or as JSON.
 
-ghost use Rattle.std.specs.Prelude.{◌≡◌, None};
+ghost use Rattle.std.specs.Prelude.{◌≡◌};
+ghost use Rattle.mdb_report.specs.declared.line.Origin.{Origin};
 
 use crate::shown::Shown;
 use serde::Serialize;
@@ -18,21 +19,52 @@ pub enum Style {
     Json,
 }
 
-/// How values are printed, and whether with the name of the shard that has them.
+/// Of which shard a value is. In JSON its name is the member `shard`.
+#[derive(Clone, Copy, Debug, PartialEq, Eq)]
+pub enum Origin<'a> {
+    /// The value says it itself.
+    Said,
+    /// Of none of the shards that were asked, or of all.
+    NoShard,
+    /// Of the only shard, with this name.
+    Only(&'a str),
+    /// Of one of some shards, whose name stands before each line of text.
+    OneOf(&'a str),
+}
+
+/// How values are printed, and of which shard they are.
 #[derive(Clone, Copy, Debug, PartialEq, Eq)]
 pub struct Layout<'a> {
     pub style: Style,
-    /// The name of the shard, before each line of text or first in a JSON object.
-    pub shard: Option<&'a str>,
+    pub origin: Origin<'a>,
 }
 
 impl<'a> Layout<'a> {
-    /// A style, without the name of a shard.
+    /// A style, for values that say themselves of which shard they are.
     pub fn plain(style: Style) -> Layout<'a>
         ensures style { result.style ≡ style }
-        ensures shard { result.shard ≡ None }
+        ensures origin { result.origin ≡ Origin.Said }
     {
-        Layout { style, shard: None }
+        Layout {
+            style,
+            origin: Origin::Said,
+        }
+    }
+
+    /// A style, for values of no shard or of all.
+    pub fn of_no_shard(style: Style) -> Layout<'a>
+        ensures style { result.style ≡ style }
+        ensures origin { result.origin ≡ Origin.NoShard }
+    {
+        Layout {
+            style,
+            origin: Origin::NoShard,
+        }
+    }
+
+    /// Whether what is printed is of one of some shards, so that what it lacks another may have.
+    pub fn is_of_one(&self) -> bool {
+        matches!(self.origin, Origin::OneOf(_))
     }
 }
 
@@ -43,11 +75,18 @@ pub fn print<T: Display + Serialize, W: Write>(
     layout: Layout<'_>,
     output: &mut W,
 ) -> io::Result<()> {
-    match (layout.style, layout.shard) {
-        (Style::Text, None) => writeln!(output, "{value}"),
-        (Style::Text, Some(shard)) => print_lines(alloc, value, shard, output),
-        (Style::Json, None) => print_json(alloc, value, output),
-        (Style::Json, Some(shard)) => print_json(alloc, &OfShard { shard, value }, output),
+    match (layout.style, layout.origin) {
+        (Style::Text, Origin::OneOf(shard)) => print_lines(alloc, value, shard, output),
+        (Style::Text, _) => writeln!(output, "{value}"),
+        (Style::Json, Origin::Said) => print_json(alloc, value, output),
+        (Style::Json, Origin::NoShard) => {
+            let shard = None;
+            print_json(alloc, &OfShard { shard, value }, output)
+        }
+        (Style::Json, Origin::Only(shard) | Origin::OneOf(shard)) => {
+            let shard = Some(shard);
+            print_json(alloc, &OfShard { shard, value }, output)
+        }
     }
 }
 
@@ -77,7 +116,7 @@ fn print_json<T: Serialize, W: Write>(alloc: Global, value: &T, output: &mut W) 
 // A value with the name of the shard that has it.
 #[derive(Drop, Serialize)]
 struct OfShard<'a, T> {
-    shard: &'a str,
+    shard: Option<&'a str>,
     #[serde(flatten)]
     value: &'a T,
 }

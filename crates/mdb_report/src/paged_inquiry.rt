@@ -52,7 +52,7 @@ pub fn print_paged_answer<F: Read + Seek + Drop, W: Write>(
             return Ok(Some(print_summary(alloc, &summary, layout.style, output)?));
         }
         Inquiry::Brief => {
-            let brief = Brief::of_info(name, &info, size);
+            let brief = Brief::of_info(alloc, name, &info, size)?;
             return Ok(Some(print_brief(alloc, &brief, layout.style, tally, output)?));
         }
         Inquiry::Files { long } => {

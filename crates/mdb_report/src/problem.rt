@@ -45,7 +45,8 @@ impl Problem {
 /// A problem, and the file that has it.
 #[derive(Clone, Copy, Debug, PartialEq, Eq, Serialize)]
 pub struct ProblemReport<'a> {
-    pub file: &'a str,
+    /// The name of the shard's file.
+    pub shard: &'a str,
     pub code: &'static str,
     /// Where in the file what has the problem starts, if its footer could be read.
     pub offset: Option<u64>,
@@ -59,11 +60,11 @@ impl<'a> ProblemReport<'a> {
         info: Option<&MDBShardInfo>,
         problem: Problem,
     ) -> ProblemReport<'a>
-        ensures file { result.file.now ≡ file.now }
+        ensures shard { result.shard.now ≡ file.now }
         ensures problem { result.problem ≡ problem }
     {
         ProblemReport {
-            file,
+            shard: file,
             code: code_of(problem),
             offset: offset_of(info, problem),
             problem,
@@ -249,9 +250,9 @@ pub fn file_name(path: &str) -> &str
 
 impl fmt::Display for ProblemReport<'_> {
     fn fmt<W: fmt::Write>(&self, f: &mut fmt::Formatter<W>) -> fmt::Result {
-        let file = Shown(self.file);
+        let shard = Shown(self.shard);
         let problem = self.problem;
-        write!(f, "{file}: {problem}")
+        write!(f, "{shard}: {problem}")
     }
 }
 

@@ -22,7 +22,7 @@ use xet_core_structures::shard_format::MDBShardInfo;
 #[derive(Drop, Serialize)]
 pub struct Summary<'a> {
     /// The name of the shard's file.
-    pub file: &'a str,
+    pub shard: &'a str,
     pub bytes: u64,
     pub version: u64,
     /// Whether the offsets of the footer ascend within the file.
@@ -67,7 +67,7 @@ impl<'a> Summary<'a> {
         let parts = Parts::of_shard(info, bytes);
         let footer = info.metadata;
         Ok(Summary {
-            file,
+            shard: file,
             bytes,
             version: info.header.version,
             ascends: parts.ascend(),
@@ -92,10 +92,10 @@ pub(crate) fn key_of(info: &MDBShardInfo) -> Option<Hex>
 
 impl fmt::Display for Summary<'_> {
     fn fmt<W: fmt::Write>(&self, f: &mut fmt::Formatter<W>) -> fmt::Result {
-        let file = Shown(self.file);
+        let shard = Shown(self.shard);
         let version = self.version;
         let bytes = self.bytes;
-        writeln!(f, "{file}: version {version}, {bytes} bytes")?;
+        writeln!(f, "{shard}: version {version}, {bytes} bytes")?;
         write!(f, "{}", PartLines(&self.parts))?;
         if !self.ascends {
             writeln!(f, "  offsets      do not ascend within the file")?;

@@ -53,7 +53,7 @@ pub(crate) fn print_xorb_lookup<W: Write>(
     if found {
         tally.add_found(report.hash.0)?;
     }
-    if found || layout.shard.is_none() {
+    if found || !layout.is_of_one() {
         print(alloc, report, layout, output)?;
     }
     Ok(found)

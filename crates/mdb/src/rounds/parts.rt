@@ -1,16 +1,20 @@
 //! The rounds of a merge: the next records of all shards, and their union.
 
+ghost use Rattle.std.specs.Prelude.{map};
+ghost use Rattle.mdb.specs.Expiries.{expiry_in, IsEarliest};
+
 use super::assembly::Assembly;
 use super::block::{Block, Mark};
 use super::findings::Findings;
 use super::shard_file::{Cursor, ShardFile};
 use super::{Stop, share_of};
 use crate::blame::{obstacle_in_files, on_all, under_other_key, unreadable_file, without_union};
+use crate::expiry::{earlier, expiry_of};
 use crate::failure::Failure;
 use crate::make::in_version;
 use crate::merge::{report_choice, report_oddity};
 use crate::progress::{Progress, Stage};
-use crate::request::{Merge, Strictness};
+use crate::request::{Merge, NewExpiry, Strictness};
 use mdb_report::fault::Fault;
 use shard_bytes::check::Section;
 use shard_bytes::merge::merge_bytes;
@@ -244,7 +248,12 @@ impl<'a, F: Read + Write + Seek + Drop> Rounds<'a, F> {
         let Some(first) = shards.first() else {
             return Err(Failure::on_words(Fault::NoFiles));
         };
-        match assembly.finish(first.key(), merge.expiry, memory) {
+        let expiry = match merge.expiry {
+            NewExpiry::Unset => None,
+            NewExpiry::At(time) => Some(time),
+            NewExpiry::Earliest => earliest_of(shards),
+        };
+        match assembly.finish(first.key(), expiry, memory) {
             Ok(file) => Ok(file),
             Err(CoreError::OutOfMemory) => Err(on_all(files.as_slice(), Fault::OutOfMemory)),
             Err(CoreError::Io(error)) => {
@@ -266,6 +275,17 @@ fn report_findings<R: Eprint>(
     if let Some(disagreement) = &disagreement {
         report_choice(rt, disagreement);
     }
+}
+
+// The earliest of the expiries of some shards.
+fn earliest_of(shards: &[ShardFile<'_>]) -> Option<u64>
+    ensures { IsEarliest (map (λ s. expiry_in s.info) shards.now) result }
+{
+    let mut found = None;
+    for shard in shards {
+        found = earlier(found, expiry_of(&shard.info));
+    }
+    found
 }
 
 // The failure of shards under different keys, or `None` if they have one. Only a strict merge looks

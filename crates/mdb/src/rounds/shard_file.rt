@@ -6,11 +6,11 @@ use super::Stop;
 use super::block::{Block, Mark};
 use crate::failure::Failure;
 use crate::files::{STANDARD_STREAM, read_ends};
+use crate::stamp::Stamp;
 use mdb_report::fault::Fault;
 use shard_bytes::check::Section;
-use std::fs::{Metadata, OpenFile};
+use std::fs::OpenFile;
 use std::io::{ErrorKind, Read, Seek, SeekFrom};
-use std::os::unix::fs::MetadataExt;
 use std::rt::Files;
 use std::{fs, io};
 use xet_core_structures::error::CoreError;
@@ -21,33 +21,12 @@ use xet_records::record_reader::FormatVersion;
 /// How often more of a section is read because a record is longer than what was read of it.
 const DOUBLINGS: u32 = 40;
 
-/// What the system says of a file, to know it again: another file has other numbers, and so has one
-/// that was changed.
-#[derive(Clone, Copy, Debug, PartialEq, Eq)]
-pub struct Stamp {
-    pub size: u64,
-    device: u64,
-    node: u64,
-    seconds: i64,
-    nanoseconds: i64,
-}
-
 /// A shard in a regular file.
 #[derive(Clone, Copy)]
 pub struct ShardFile<'a> {
     pub path: &'a str,
     pub info: MDBShardInfo,
     stamp: Stamp,
-}
-
-fn stamp_of(there: &Metadata) -> Stamp {
-    Stamp {
-        size: there.len(),
-        device: there.dev(),
-        node: there.ino(),
-        seconds: there.mtime(),
-        nanoseconds: there.mtime_nsec(),
-    }
 }
 
 /// The stamp of a regular file, and the bytes of its header and its footer.
@@ -75,7 +54,7 @@ fn regular_ends_of<R: Files + AllocGlobal>(
         return Ok(None);
     }
     let ends = read_ends(rt, path)?;
-    Ok(Some((stamp_of(&there), ends)))
+    Ok(Some((Stamp::of(&there), ends)))
 }
 
 impl<'a> ShardFile<'a> {
@@ -102,7 +81,7 @@ impl<'a> ShardFile<'a> {
 
 fn open_stamped<R: Files>(rt: &R, path: &str, offset: u64) -> io::Result<(R::File, Stamp)> {
     let mut file = fs::open(rt, path)?;
-    let stamp = stamp_of(&file.metadata()?);
+    let stamp = Stamp::of(&file.metadata()?);
     file.seek(SeekFrom::Start(offset))?;
     Ok((file, stamp))
 }

@@ -1,0 +1,250 @@
+"""Rows of .ci/mdb for the upkeep of a folder of shards: inputs that are removed, runs that are killed at each system call,
+locks, and files that are no shards. Used by .ci/mdb."""
+import fcntl
+import os
+import resource
+import shutil
+import subprocess
+import time
+
+from mdb_system import TOP, many_shards, wants
+
+KEY = "0" * 63 + "7"
+# What .ci/kill_at.c ends with.
+KILLED, UNTRACED = 99, 98
+
+
+class Store:
+    """A folder `in` of shards, and a folder `store` to which they are merged."""
+
+    # Of the same key, but for the last.
+    INPUTS = ("one_file.mdb", "one_of_each.mdb", "two_files.mdb", "keyed.mdb")
+
+    def __init__(self, place):
+        self.place = place
+        # By this time none has expired.
+        self.words = ("merge", "in", "--to", "store", "--max-size", "1M", "--hash-key", KEY, "--remove-inputs", "--now", "8")
+        self.fill()
+
+    def fill(self):
+        for name in ("in", "store"):
+            shutil.rmtree(self.place.path(name), ignore_errors=True)
+            os.mkdir(self.place.path(name))
+        for name in self.INPUTS:
+            self.place.write(f"in/{name}", self.place.made[name])
+
+    def run(self, **how):
+        return self.place.run(*self.words, **how)
+
+    def shards(self, folder):
+        """The bytes of the files of a folder that have the names of shards."""
+        names = [it for it in os.listdir(self.place.path(folder)) if it.endswith(".mdb")]
+        return {it: self.place.read(f"{folder}/{it}") for it in names}
+
+
+def tracer(place):
+    """Returns the program of .ci/kill_at.c, made in a folder of its own."""
+    made = place.path("kill_at")
+    if not shutil.which("cc"):
+        raise PermissionError
+    subprocess.run(["cc", "-O1", "-o", made, f"{TOP}/.ci/kill_at.c"], check=True, timeout=60)
+    if subprocess.run([made, "1", "/bin/true"], check=False, timeout=20).returncode == UNTRACED:
+        raise PermissionError
+    return made
+
+
+def inputs_are_removed(place):
+    store = Store(place)
+    run = store.run()
+    paths = run.stdout.decode().splitlines()
+    wants("status", (run.returncode, run.stderr, len(paths)) == (0, b"", 2))
+    wants("no input is left, and no lock", (os.listdir(place.path("in")), len(os.listdir(place.path("store")))) == ([], 2))
+    wants("names", place.run("check", "--name", "--hash-key", KEY, "store").returncode == 0)
+    merged = [it for it in Store.INPUTS if it != "keyed.mdb"]
+    for name in merged:
+        place.write(name, place.made[name])
+    wants("a merge", place.run("merge", *sorted(merged), "-o", "out.mdb").returncode == 0)
+    wants("its bytes", place.read("out.mdb") in store.shards("store").values())
+    run = store.run()
+    wants("nothing is left to do", (run.returncode, run.stdout, run.stderr) == (0, b"", b""))
+    # A folder that is merged to itself keeps its results.
+    words = ("merge", "store", "--to", "store", "--max-size", "1M", "--hash-key", KEY, "--remove-inputs")
+    before = store.shards("store")
+    run = place.run(*words)
+    wants("again", (run.returncode, sorted(run.stdout.decode().splitlines()), run.stderr) == (0, sorted(paths), b""))
+    wants("the results stay", store.shards("store") == before)
+
+
+def some_inputs_stay(place):
+    store = Store(place)
+    os.rename(place.path("in/two_files.mdb"), place.path("far.mdb"))
+    os.symlink("../far.mdb", place.path("in/two_files.mdb"))
+    run = store.run()
+    said = b"in/two_files.mdb: it stays, since it is no regular file\n"
+    wants("a link", (run.returncode, run.stderr) == (1, said))
+    wants("it stays", sorted(os.listdir(place.path("in"))) == ["two_files.mdb"])
+    wants("and what it leads to", place.read("far.mdb") == place.made["two_files.mdb"])
+    # An input that has a second name in the folder is a result, so it stays.
+    store.fill()
+    wants("a run", store.run().returncode == 0)
+    (path,) = [it for it, data in store.shards("store").items() if data != place.made["keyed.mdb"]][:1]
+    os.link(place.path(f"store/{path}"), place.path("in/again.mdb"))
+    run = store.run()
+    wants("a result", (run.returncode, run.stderr, os.listdir(place.path("in"))) == (0, b"", ["again.mdb"]))
+    # Shards that do not agree are not merged, since one of two records would be lost.
+    store.fill()
+    place.write("in/other_end.mdb", place.made["other_end.mdb"])
+    run = store.run()
+    wants("a disagreement", run.returncode == 3 and b"differ" in run.stderr)
+    wants("all stay", sorted(os.listdir(place.path("in"))) == sorted((*Store.INPUTS, "other_end.mdb")))
+    # Nor is a file replaced that has the name of a merge, but other bytes.
+    store.fill()
+    place.write(f"store/{path}", b"other")
+    run = store.run()
+    said = f"store: {path} is there, with other bytes than its name says\n"
+    wants("a name that is taken", (run.returncode, run.stderr.decode()) == (1, said))
+    wants("its bytes", place.read(f"store/{path}") == b"other")
+    wants("inputs", sorted(os.listdir(place.path("in"))) == sorted(Store.INPUTS))
+
+
+def killed_at_each_call_loses_nothing(place):
+    killer = tracer(place)
+    store = Store(place)
+    before = store.shards("in")
+    wants("a run", store.run().returncode == 0)
+    results = store.shards("store")
+    held = 0
+    for call in range(1, 100000):
+        store.fill()
+        words = [killer, str(call), place.program, *store.words]
+        run = subprocess.run(words, capture_output=True, cwd=place.folder, timeout=20, check=False)
+        left, made = store.shards("in"), store.shards("store")
+        wants(f"call {call}: no other bytes of an input", all(before[it] == data for it, data in left.items()))
+        wants(f"call {call}: no half file", all(results.get(it) == data for it, data in made.items()))
+        wants(f"call {call}: no record is lost", left == before or made == results)
+        held += left == before and made == results
+        again = store.run()
+        wants(f"call {call}: the next run", again.returncode == 0)
+        wants(f"call {call}: what it leaves", (store.shards("in"), store.shards("store")) == ({}, results))
+        wants(f"call {call}: nothing else", sorted(os.listdir(place.path("store"))) == sorted(results))
+        if run.returncode != KILLED:
+            break
+    wants("it ended by itself", (run.returncode, run.stderr) == (0, b""))
+    wants("it was killed between all results and the first removal", held > 0)
+
+
+def changed_inputs_stay(place):
+    killer = tracer(place)
+    store = Store(place)
+    wants("a run", store.run().returncode == 0)
+    results = store.shards("store")
+    place.write("other.mdb", place.made["left.mdb"])
+    stayed = 0
+    for call in range(1, 100000):
+        store.fill()
+        # Once both results are there, an input is replaced by another shard.
+        command = f'test "$(ls {place.path("store")} | grep -c mdb$)" -lt 2 || cp other.mdb in/one_of_each.mdb'
+        words = [killer, str(call), place.program, *store.words]
+        run = subprocess.run(
+            words, capture_output=True, cwd=place.folder, timeout=20, check=False, env={**os.environ, "AT": command}
+        )
+        if store.shards("store") != results or store.shards("in").get("one_of_each.mdb") != place.made["left.mdb"]:
+            continue
+        said = b"in/one_of_each.mdb: it stays, since it was changed after it was read\n"
+        if run.returncode == 0:
+            break
+        wants(f"call {call}", (run.returncode, run.stderr) == (1, said))
+        wants("the others are gone", list(store.shards("in")) == ["one_of_each.mdb"])
+        stayed += 1
+    wants("it stayed", stayed > 0)
+
+
+def second_run_finds_the_lock(place):
+    store = Store(place)
+    with open(place.path("store/.mdb.lock"), "w", encoding="ascii") as lock:
+        lock.write("12345\n")
+        lock.flush()
+        # Left by a run that was killed: it locks nothing.
+        wants("a file that is left", store.run().returncode == 0)
+    store.fill()
+    with open(place.path("store/.mdb.lock"), "w", encoding="ascii") as lock:
+        lock.write("12345\n")
+        lock.flush()
+        fcntl.flock(lock, fcntl.LOCK_EX)
+        run = store.run()
+        said = b"store: another run works there, process 12345: it has locked .mdb.lock\n"
+        wants("a lock", (run.returncode, run.stdout, run.stderr) == (1, b"", said))
+        wants("nothing is done", sorted(os.listdir(place.path("in"))) == sorted(Store.INPUTS))
+        wants("nor made", os.listdir(place.path("store")) == [".mdb.lock"])
+    wants("once it is given back", store.run().returncode == 0)
+
+
+def runs_at_once_lose_nothing(place):
+    store = Store(place)
+    wants("a run", store.run().returncode == 0)
+    results = store.shards("store")
+    for _ in range(20):
+        store.fill()
+        runs = [
+            subprocess.Popen(
+                [place.program, *store.words], stdout=subprocess.PIPE, stderr=subprocess.PIPE, cwd=place.folder
+            )
+            for _ in range(4)
+        ]
+        said = [it.communicate(timeout=20)[1] for it in runs]
+        ended = [it.returncode for it in runs]
+        wants("one did all", 0 in ended and (store.shards("in"), store.shards("store")) == ({}, results))
+        for status, words in zip(ended, said):
+            wants("the others", (status, words) == (0, b"") or b"another run works there" in words)
+        wants("no lock is left", ".mdb.lock" not in os.listdir(place.path("store")))
+
+
+def what_is_no_shard_is_looked_at_alone(place):
+    # A header and 2 GiB of zeros, without a footer; and zeros alone.
+    for name, start in (("header.mdb", place.made["one_file.mdb"][:48]), ("zeros.mdb", b"")):
+        with open(place.path(name), "wb") as file:
+            file.write(start)
+            file.truncate(2 << 30)
+        commands = [("info",), ("files",), ("xorbs",), ("chunks",), ("check",), ("check", "--hash-key", KEY), ("eligible",)]
+        commands += [("name", "--hash-key", KEY), ("find", "--hash", KEY), ("query", "--hash", KEY)]
+        commands += [("merge", "-o", "out.mdb"), ("merge", "--memory", "1M", "-o", "out.mdb")]
+        commands += [("minimal", "-o", "out.mdb"), ("subset", "-o", "out.mdb"), ("drop", "--hash", KEY, "-o", "out.mdb")]
+        commands += [("export", "--key", KEY, "--valid", "9", "-o", "out.mdb"), ("union", "one_file.mdb", "-o", "out.mdb")]
+        for words in commands:
+            used = least_used([place.program, *words, name], place.folder)
+            wants(f"{words[0]} of {name}: {used}", used[0] < 16 << 10 and used[1] < 0.1 and used[2] in (1, 3))
+    wants("nothing is written", "out.mdb" not in place.names())
+
+
+def least_used(words, folder):
+    """Returns kilobytes, seconds and status of a run, of the quickest of three."""
+    found = []
+    for _ in range(3):
+        begun = time.monotonic()
+        run = subprocess.Popen(words, stdout=subprocess.DEVNULL, stderr=subprocess.DEVNULL, cwd=folder)
+        _, status, used = os.wait4(run.pid, 0)
+        run.returncode = os.waitstatus_to_exitcode(status)
+        found.append((used.ru_maxrss, time.monotonic() - begun, run.returncode))
+    return min(found, key=lambda it: it[1])
+
+
+def quiet_says_nothing(place):
+    many_shards(place, 6)
+    for quiet, says in (((), True), (("-q",), False), (("--quiet",), False)):
+        ours, terminal = os.openpty()
+        words = [place.program, "merge", "many", "-o", "out.mdb", *quiet]
+        run = subprocess.run(words, stderr=terminal, cwd=place.folder, timeout=20, check=False)
+        os.set_blocking(ours, False)
+        try:
+            said = os.read(ours, 4096)
+        except OSError:
+            said = b""
+        os.close(terminal)
+        os.close(ours)
+        wants(f"what is said with {quiet}", (run.returncode, bool(said)) == (0, says))
+
+
+ROWS = (
+    inputs_are_removed, some_inputs_stay, killed_at_each_call_loses_nothing, changed_inputs_stay,
+    second_run_finds_the_lock, runs_at_once_lose_nothing, what_is_no_shard_is_looked_at_alone, quiet_says_nothing,
+)

@@ -1,0 +1,47 @@
+-- The expiry of a shard, and the earliest of some.
+use Rattle.std.specs.Prelude.{ℕ, ◌≡◌, ◌≤◌, ◌-◌, ◌^◌, ◌==◌, ◌||◌, Option, Some, None, if◌then◌else◌}
+use Rattle.std.specs.Prelude.{List, [], ◌∷◌, All, Contains, IfSome, IsNone, min}
+use Rattle.std.specs.Borrow.{Bor}
+use Rattle.std.specs.List.{AllZip}
+use Rattle.xet_core_structures.specs.declared.shard_format.MDBShardInfo.{MDBShardInfo}
+use Rattle.xet_core_structures.specs.Ends.{HasHeaderAndFooter}
+use Rattle.mdb.specs.declared.request.NewExpiry.{NewExpiry}
+use Rattle.mdb.specs.declared.request.NewExpiry.TheVariants.{Unset, At, Earliest}
+
+-- the expiry that a footer says: 0 and the greatest number stand for none
+abbrev pub expiry_in : MDBShardInfo → Option ℕ
+expiry_in info =
+    if (info.metadata.shard_key_expiry == 0) || (info.metadata.shard_key_expiry == 2 ^ 64 - 1)
+    then None
+    else Some info.metadata.shard_key_expiry
+
+-- an expiry has come by a time
+abbrev pub HasCome : Option ℕ → ℕ → Type 0
+HasCome None now = ⊥
+HasCome (Some expiry) now = expiry ≤ now
+
+-- the earlier of two expiries, where none is later than any
+abbrev pub earlier_of : Option ℕ → Option ℕ → Option ℕ
+earlier_of None other = other
+earlier_of (Some one) None = Some one
+earlier_of (Some one) (Some other) = Some (min one other)
+
+-- an expiry is the earliest of some: one of them, and none is before it; or none, as all are
+abbrev pub IsEarliest : List (Option ℕ) → Option ℕ → Type 0
+IsEarliest expiries None = All (λ x. IsNone x) expiries
+IsEarliest expiries (Some expiry) =
+    Contains expiries (Some expiry) × All (λ x. IfSome x (λ other. expiry ≤ other)) expiries
+
+-- the bytes have a header and a footer with this expiry
+abbrev pub IsExpiryOf : List ℕ → Option ℕ → Type 0
+IsExpiryOf bytes expiry =
+    (info : MDBShardInfo) × HasHeaderAndFooter bytes info × (expiry ≡ expiry_in info)
+
+-- the expiry of what is made of inputs, each with its file: of the earliest, none is before it that an
+-- input has
+abbrev pub IsNewExpiry : NewExpiry → List (Bor (List ℕ) × Bor (List ℕ)) → Option ℕ → Type 0
+IsNewExpiry Unset inputs expiry = expiry ≡ None
+IsNewExpiry (At time) inputs expiry = expiry ≡ Some time
+IsNewExpiry Earliest inputs expiry =
+    (expiries : List (Option ℕ)) × AllZip (λ p e. IsExpiryOf p.1.now e) inputs expiries
+    × IsEarliest expiries expiry

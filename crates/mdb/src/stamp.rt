@@ -1,0 +1,41 @@
+//! What the system says of a file, to know it again.
+
+use std::fs::Metadata;
+use std::os::unix::fs::MetadataExt;
+
+/// Which file of which device a file is: all its names lead to it.
+#[derive(Clone, Copy, Debug, PartialEq, Eq)]
+pub struct FileId {
+    device: u64,
+    node: u64,
+}
+
+impl FileId {
+    pub fn of(there: &Metadata) -> FileId {
+        FileId {
+            device: there.dev(),
+            node: there.ino(),
+        }
+    }
+}
+
+/// A file and the time of its last change: another file has another stamp, and so has one that was
+/// changed.
+#[derive(Clone, Copy, Debug, PartialEq, Eq)]
+pub struct Stamp {
+    pub id: FileId,
+    pub size: u64,
+    seconds: i64,
+    nanoseconds: i64,
+}
+
+impl Stamp {
+    pub fn of(there: &Metadata) -> Stamp {
+        Stamp {
+            id: FileId::of(there),
+            size: there.len(),
+            seconds: there.mtime(),
+            nanoseconds: there.mtime_nsec(),
+        }
+    }
+}
