@@ -294,6 +294,7 @@ fn making_in<'a>(
             text_of(matches, id::FILE)?,
             now_in(matches, now)?,
             KeptParts {
+        "make" => Making::Records(text_of(matches, id::FILE)?, time_in(matches, id::EXPIRY)?),
                 verification: matches.get_flag(id::VERIFICATION),
                 aux_ext: !matches.get_flag(id::NO_AUX),
             },

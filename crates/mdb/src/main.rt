@@ -24,6 +24,7 @@ mod inspect;
 mod make;
 mod merge;
 mod ordering;
+mod record_lines;
 mod progress;
 mod record_removal;
 mod request;

@@ -8,6 +8,7 @@ use crate::blame::blamed;
 use crate::expiry::{expiring, new_expiry};
 use crate::failure::Failure;
 use crate::files::{Contents, STANDARD_STREAM, read_shard, write};
+use crate::record_lines::shard_of_lines;
 use crate::record_removal::remove_records;
 use crate::request::{Making, NewExpiry, Target};
 use mdb_report::fault::{Fault, export_fault, fault_of, minimal_fault, version_2_fault};
@@ -104,6 +105,7 @@ fn made<'a, R: Files + Input + Eprint + AllocGlobal>(
         Making::Minimal(file, now, kept) => minimal(rt, file, *now, *kept),
         Making::Subset(file, kept, _, expiry) => subset(rt, file, kept, *expiry),
         Making::Drop(removal) => remove_records(rt, removal),
+        Making::Records(list, expiry) => shard_of_lines(rt, list, *expiry),
     }
 }
 

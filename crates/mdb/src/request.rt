@@ -80,6 +80,8 @@ pub enum Making<'a> {
     Export(&'a str, Export),
     Minimal(&'a str, u64, KeptParts),
     /// The xorbs to keep may be listed besides.
+    /// Of the records in a file, one a line, with an expiry in seconds or none.
+    Records(&'a str, Option<u64>),
     Subset(&'a str, Subset, Option<HashList<'a>>, NewExpiry),
     Drop(Removal<'a>),
 }

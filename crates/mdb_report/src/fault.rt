@@ -5,6 +5,7 @@ ghost use Rattle.shard_bytes.specs.Checking.{IsFinding};
 ghost use Rattle.mdb_report.specs.Faults.{IsFaultOf, MayBeCause, KeepsFrom, IsObstacle, IsUnderKey, IsUnderNoKey};
 
 use crate::problem::InWords;
+use crate::record_line::LineFault;
 use crate::tables::Table;
 use shard_bytes::check::{Finding, Part, Section, check_bytes};
 use shard_bytes::load::load_bytes;
@@ -74,6 +75,10 @@ pub enum Fault {
     StaysAsLink,
     /// In a folder the name that a shard has by the hash of its bytes has other bytes.
     OtherBytes(MerkleHash),
+    /// This line of a list of records is none.
+    NoLine(u64, LineFault),
+    /// The record of this line is one that no shard may have.
+    NoRecordOfShard(u64),
     /// Anything else that a call of the library reports.
     Other(CoreError),
 }
@@ -111,6 +116,10 @@ impl fmt::Display for Fault {
                     f,
                     "{hash}.mdb is there, with other bytes than its name says"
                 )
+            }
+            Fault::NoLine(line, fault) => write!(f, "line {line}: {fault}"),
+            Fault::NoRecordOfShard(line) => {
+                write!(f, "line {line}: no shard may have this record")
             }
             Fault::Other(error) => write!(f, "{error}"),
             fault => write!(f, "{}", fault.text()),

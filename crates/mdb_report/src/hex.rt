@@ -3,7 +3,8 @@
 ghost use Rattle.std.specs.Prelude.{Some};
 ghost use Rattle.xet_core_structures.specs.Hex.{hash_hex};
 
-use serde::{Described, Serialize, Serializer};
+use serde::{Described, Deserialize, Deserializer, Format, Serialize, Serializer};
+use std::alloc::Global;
 use std::fmt;
 use xet_core_structures::merklehash::MerkleHash;
 
@@ -25,6 +26,19 @@ impl Described for Hex {}
 impl Serialize for Hex {
     fn serialize<S: Serializer>(&self, out: &mut S) -> Result<(), S::Error> {
         out.collect_str(self)
+    }
+}
+
+impl<'de> Deserialize<'de> for Hex {
+    fn deserialize<F: Format>(
+        alloc: Global,
+        from: &mut Deserializer<'de, '_, F>,
+    ) -> Result<Hex, F::Error> {
+        let digits = String::deserialize(alloc, from)?;
+        match MerkleHash::from_hex(digits.as_str()) {
+            Ok(hash) => Ok(Hex(hash)),
+            Err(_) => Err(from.custom("no 64 hexadecimal digits")),
+        }
     }
 }
 

@@ -18,6 +18,7 @@ pub mod paged_source;
 pub mod pages;
 pub mod parts;
 pub mod problem;
+pub mod record_line;
 pub mod records;
 pub mod section;
 pub mod shown;

@@ -6,7 +6,7 @@ ghost use Rattle.mdb_report.specs.Records.{ReportsFile, ReportsFiles, ReportsRow
 
 use crate::flags::{ChunkFlags, FileFlags};
 use crate::hex::Hex;
-use serde::Serialize;
+use serde::{Deserialize, Serialize};
 use std::alloc::{AllocError, Global};
 use std::fmt;
 use xet_core_structures::error::CoreError;
@@ -18,14 +18,14 @@ use xet_core_structures::source::MemorySource;
 use xet_core_structures::xorb_structs::{MDBXorbInfo, XorbChunkSequenceEntry};
 
 /// A file.
-#[derive(Drop, Serialize)]
+#[derive(Drop, Serialize, Deserialize)]
 pub struct FileReport {
     pub file: Hex,
     pub flags: u32,
     pub segments: u32,
     /// The bytes of the segments together.
     pub bytes: u64,
-    #[serde(skip_serializing_if = "Option::is_none")]
+    #[serde(default, skip_serializing_if = "Option::is_none")]
     pub rows: Option<FileRows>,
 }
 
@@ -60,7 +60,7 @@ pub(crate) fn read_files(alloc: Global, bytes: &[u8]) -> Result<Vec<MDBFileInfo>
 }
 
 /// The rows of a file after its header.
-#[derive(Drop, Serialize)]
+#[derive(Drop, Serialize, Deserialize)]
 pub struct FileRows {
     pub segments: Vec<SegmentReport>,
     pub verification: Vec<Hex>,
@@ -69,7 +69,7 @@ pub struct FileRows {
 }
 
 /// A segment: the chunks from `start` up to `end`, which is excluded, of a xorb.
-#[derive(Clone, Copy, Debug, PartialEq, Eq, Serialize)]
+#[derive(Clone, Copy, Debug, PartialEq, Eq, Serialize, Deserialize)]
 pub struct SegmentReport {
     pub xorb: Hex,
     pub flags: u32,
@@ -202,7 +202,7 @@ impl fmt::Display for SegmentReport {
 }
 
 /// A xorb.
-#[derive(Drop, Serialize)]
+#[derive(Drop, Serialize, Deserialize)]
 pub struct XorbReport {
     pub xorb: Hex,
     pub flags: u32,
@@ -211,12 +211,12 @@ pub struct XorbReport {
     pub bytes: u32,
     /// The bytes of the xorb, as it is stored.
     pub bytes_on_disk: u32,
-    #[serde(skip_serializing_if = "Option::is_none")]
+    #[serde(default, skip_serializing_if = "Option::is_none")]
     pub rows: Option<Vec<ChunkRow>>,
 }
 
 /// A chunk of a xorb.
-#[derive(Clone, Copy, Debug, PartialEq, Eq, Serialize)]
+#[derive(Clone, Copy, Debug, PartialEq, Eq, Serialize, Deserialize)]
 pub struct ChunkRow {
     pub chunk: Hex,
     pub flags: u32,

@@ -1,0 +1,232 @@
+//! Records from the lines of JSON in which they are printed whole.
+
+ghost use Rattle.std.specs.Prelude.{◌≡◌, ◌↔◌, true, IsTrue, IfOk, map, length};
+ghost use Rattle.xet_records.specs.FileRecord.{FitsItsHeader, rows_of, part_rows};
+ghost use Rattle.xet_records.specs.XorbRecord.{HasItsChunks};
+ghost use Rattle.mdb_report.specs.Records.{ReportsFile, ReportsXorb, segment_report, chunk_row_of};
+
+use crate::hex::Hex;
+use crate::records::{ChunkRow, FileReport, FileRows, SegmentReport, XorbReport};
+use serde::Deserialize;
+use std::alloc::{AllocError, AllocFailed, Global};
+use std::fmt;
+use xet_core_structures::file_structs::{
+    FileAuxExt, FileDataSequenceEntry, FileDataSequenceHeader, FileMetadataExt,
+    FileVerificationEntry, MDBFileInfo, OptionalPart,
+};
+use xet_core_structures::rows::Rows;
+use xet_core_structures::xorb_structs::{
+    MDBXorbInfo, XorbChunkSequenceEntry, XorbChunkSequenceHeader,
+};
+
+/// A record of a shard.
+#[derive(Drop)]
+pub enum Record {
+    File(MDBFileInfo),
+    Xorb(MDBXorbInfo),
+}
+
+/// Why a line is no record.
+#[derive(Clone, Copy, Debug, PartialEq, Eq)]
+pub enum LineFault {
+    OutOfMemory,
+    /// It is no JSON, from this column on.
+    Syntax(usize),
+    /// A member is missing or has another kind of value; at this column that is known.
+    Member(usize),
+    /// It is neither a file nor a xorb.
+    NoRecord,
+    /// It is a record without its rows.
+    NoRows,
+    /// Its numbers or its flags are not those of its rows.
+    Mismatch,
+}
+
+impl From<AllocError> for LineFault {
+    fn from(_error: AllocError) -> LineFault {
+        LineFault::OutOfMemory
+    }
+}
+
+impl<T: Drop> From<AllocFailed<T>> for LineFault {
+    fn from(_error: AllocFailed<T>) -> LineFault {
+        LineFault::OutOfMemory
+    }
+}
+
+impl From<serde_json::Error> for LineFault {
+    fn from(error: serde_json::Error) -> LineFault {
+        if error.is_memory() {
+            LineFault::OutOfMemory
+        } else if error.is_data() {
+            LineFault::Member(error.column())
+        } else {
+            LineFault::Syntax(error.column())
+        }
+    }
+}
+
+impl fmt::Display for LineFault {
+    fn fmt<W: fmt::Write>(&self, f: &mut fmt::Formatter<W>) -> fmt::Result {
+        match self {
+            LineFault::OutOfMemory => write!(f, "out of memory"),
+            LineFault::Syntax(column) => write!(f, "it is no JSON, at column {column}"),
+            LineFault::Member(column) => {
+                write!(
+                    f,
+                    "a member lacks or is of another kind, at column {column}"
+                )
+            }
+            LineFault::NoRecord => write!(f, "it has neither a member file nor a member xorb"),
+            LineFault::NoRows => write!(f, "it has no member rows, as --long prints it"),
+            LineFault::Mismatch => write!(f, "its numbers or its flags are not those of its rows"),
+        }
+    }
+}
+
+// Which record a line has.
+#[derive(Drop, Deserialize)]
+struct Kind {
+    #[serde(default)]
+    file: Option<Hex>,
+    #[serde(default)]
+    xorb: Option<Hex>,
+}
+
+/// The record of a line that has it as JSON, with its rows.
+pub fn record_of(alloc: Global, line: &[u8]) -> Result<Record, LineFault> {
+    let kind: Kind = serde_json::from_slice(alloc, line)?;
+    match (kind.file, kind.xorb) {
+        (Some(_), None) => {
+            let report: FileReport = serde_json::from_slice(alloc, line)?;
+            Ok(Record::File(file_of(alloc, &report)?))
+        }
+        (None, Some(_)) => {
+            let report: XorbReport = serde_json::from_slice(alloc, line)?;
+            Ok(Record::Xorb(xorb_of(alloc, &report)?))
+        }
+        _ => Err(LineFault::NoRecord),
+    }
+}
+
+/// The file of which a report with rows is.
+///
+/// `NoRows` if it has none, `Mismatch` if no file has this report.
+pub fn file_of(alloc: Global, report: &FileReport) -> Result<MDBFileInfo, LineFault>
+    ensures report { IfOk result (λ file. ReportsFile file true report.now) }
+    ensures fits { IfOk result FitsItsHeader }
+{
+    let Some(rows) = &report.rows else {
+        return Err(LineFault::NoRows);
+    };
+    let file = MDBFileInfo {
+        metadata: FileDataSequenceHeader {
+            file_hash: report.file.0,
+            file_flags: report.flags,
+            num_entries: report.segments,
+            _unused: 0,
+        },
+        segments: segments_of(alloc, rows)?,
+        verification: verification_of(alloc, rows)?,
+        metadata_ext: rows.sha256.map(|hash| FileMetadataExt::new(hash.0)),
+        aux_ext: rows.aux.map(|hash| FileAuxExt::new(hash.0)),
+    };
+    if fits_its_header(&file) && file.file_size() == report.bytes {
+        Ok(file)
+    } else {
+        Err(LineFault::Mismatch)
+    }
+}
+
+// The segments of the rows.
+fn segments_of(alloc: Global, rows: &FileRows) -> Result<Rows<FileDataSequenceEntry>, AllocError>
+    ensures { IfOk result (λ made. map segment_report made ≡ rows.now.segments.items) }
+{
+    let mut made = Rows::new(alloc);
+    for row in &rows.segments {
+        made.push(FileDataSequenceEntry {
+            xorb_hash: row.xorb.0,
+            xorb_flags: row.flags,
+            unpacked_segment_bytes: row.bytes,
+            chunk_index_start: row.start,
+            chunk_index_end: row.end,
+        })?;
+    }
+    Ok(made)
+}
+
+// The verification rows.
+fn verification_of(
+    alloc: Global,
+    rows: &FileRows,
+) -> Result<Rows<FileVerificationEntry>, AllocError>
+    ensures { IfOk result
+        (λ made. map (λ row. record { 0 = row.hash }) made ≡ rows.now.verification.items) }
+{
+    let mut made = Rows::new(alloc);
+    for hash in &rows.verification {
+        made.push(FileVerificationEntry::new(hash.0))?;
+    }
+    Ok(made)
+}
+
+// Whether a file has the segments and the parts that its header announces.
+fn fits_its_header(file: &MDBFileInfo) -> bool
+    ensures { IsTrue result → FitsItsHeader file.now }
+{
+    let header = &file.metadata;
+    file.segments.len() as u64 == u64::from(header.num_entries)
+        && has_part(file, OptionalPart::Verification)
+        && has_part(file, OptionalPart::MetadataExt)
+        && has_part(file, OptionalPart::AuxExt)
+}
+
+// Whether a file has as many rows of a part as its header announces.
+fn has_part(file: &MDBFileInfo, part: OptionalPart) -> bool
+    ensures { IsTrue result ↔ (length (rows_of part file.now) ≡ part_rows part file.now.metadata) }
+{
+    file.part_len(part) as u64 == u64::from(file.metadata.part_rows(part))
+}
+
+/// The xorb of which a report with rows is.
+///
+/// `NoRows` if it has none, `Mismatch` if no xorb has this report.
+pub fn xorb_of(alloc: Global, report: &XorbReport) -> Result<MDBXorbInfo, LineFault>
+    ensures report { IfOk result (λ xorb. ReportsXorb xorb true report.now) }
+    ensures whole { IfOk result HasItsChunks }
+{
+    let Some(rows) = &report.rows else {
+        return Err(LineFault::NoRows);
+    };
+    let chunks = chunks_of(alloc, rows.as_slice())?;
+    if chunks.len() as u64 != u64::from(report.chunks) {
+        return Err(LineFault::Mismatch);
+    }
+    Ok(MDBXorbInfo {
+        metadata: XorbChunkSequenceHeader {
+            xorb_hash: report.xorb.0,
+            xorb_flags: report.flags,
+            num_entries: report.chunks,
+            num_bytes_in_xorb: report.bytes,
+            num_bytes_on_disk: report.bytes_on_disk,
+        },
+        chunks,
+    })
+}
+
+// The chunks of the rows.
+fn chunks_of(alloc: Global, rows: &[ChunkRow]) -> Result<Rows<XorbChunkSequenceEntry>, AllocError>
+    ensures { IfOk result (λ made. map chunk_row_of made ≡ rows.now) }
+{
+    let mut made = Rows::new(alloc);
+    for row in rows {
+        made.push(XorbChunkSequenceEntry {
+            chunk_hash: row.chunk.0,
+            chunk_byte_range_start: row.start,
+            unpacked_segment_bytes: row.bytes,
+            flags: row.flags,
+            _unused: 0,
+        })?;
+    }
+    Ok(made)
+}
