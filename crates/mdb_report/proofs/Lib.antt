@@ -2,3 +2,5 @@ pub mod Bar
 pub mod PageBytes
 pub mod Problems
 pub mod Reading
+pub mod RecordLines
+pub mod Fitting

@@ -1,7 +1,8 @@
 //! Records from the lines of JSON in which they are printed whole.
 
 ghost use Rattle.std.specs.Prelude.{◌≡◌, ◌↔◌, true, IsTrue, IfOk, map, length};
-ghost use Rattle.xet_records.specs.FileRecord.{FitsItsHeader, rows_of, part_rows};
+ghost use Rattle.xet_records.specs.FileRecord.{FitsItsHeader};
+ghost use Rattle.xet_records.specs.Part.{rows_of, part_rows};
 ghost use Rattle.xet_records.specs.XorbRecord.{HasItsChunks};
 ghost use Rattle.mdb_report.specs.Records.{ReportsFile, ReportsXorb, segment_report, chunk_row_of};
 
@@ -126,8 +127,8 @@ pub fn file_of(alloc: Global, report: &FileReport) -> Result<MDBFileInfo, LineFa
             num_entries: report.segments,
             _unused: 0,
         },
-        segments: segments_of(alloc, rows)?,
-        verification: verification_of(alloc, rows)?,
+        segments: segments_of(alloc, rows.segments.as_slice())?,
+        verification: verification_of(alloc, rows.verification.as_slice())?,
         metadata_ext: rows.sha256.map(|hash| FileMetadataExt::new(hash.0)),
         aux_ext: rows.aux.map(|hash| FileAuxExt::new(hash.0)),
     };
@@ -139,11 +140,14 @@ pub fn file_of(alloc: Global, report: &FileReport) -> Result<MDBFileInfo, LineFa
 }
 
 // The segments of the rows.
-fn segments_of(alloc: Global, rows: &FileRows) -> Result<Rows<FileDataSequenceEntry>, AllocError>
-    ensures { IfOk result (λ made. map segment_report made ≡ rows.now.segments.items) }
+fn segments_of(
+    alloc: Global,
+    rows: &[SegmentReport],
+) -> Result<Rows<FileDataSequenceEntry>, AllocError>
+    ensures { IfOk result (λ made. map segment_report made ≡ rows.now) }
 {
     let mut made = Rows::new(alloc);
-    for row in &rows.segments {
+    for row in rows {
         made.push(FileDataSequenceEntry {
             xorb_hash: row.xorb.0,
             xorb_flags: row.flags,
@@ -155,16 +159,12 @@ fn segments_of(alloc: Global, rows: &FileRows) -> Result<Rows<FileDataSequenceEn
     Ok(made)
 }
 
-// The verification rows.
-fn verification_of(
-    alloc: Global,
-    rows: &FileRows,
-) -> Result<Rows<FileVerificationEntry>, AllocError>
-    ensures { IfOk result
-        (λ made. map (λ row. record { 0 = row.hash }) made ≡ rows.now.verification.items) }
+// The verification rows with these hashes.
+fn verification_of(alloc: Global, hashes: &[Hex]) -> Result<Rows<FileVerificationEntry>, AllocError>
+    ensures { IfOk result (λ made. map (λ row. record { 0 = row.hash }) made ≡ hashes.now) }
 {
     let mut made = Rows::new(alloc);
-    for hash in &rows.verification {
+    for hash in hashes {
         made.push(FileVerificationEntry::new(hash.0))?;
     }
     Ok(made)

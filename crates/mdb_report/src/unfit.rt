@@ -14,8 +14,8 @@ use serde::{Described, Serialize, Serializer};
 use shard_garbage::finding::{Fault, Finding, Segment};
 use shard_garbage::garbage::find_garbage;
 use std::alloc::Global;
-use std::fmt;
 use std::io::Write;
+use std::{fmt, io};
 use xet_core_structures::error::CoreError;
 use xet_core_structures::shard_format::MDBShardInfo;
 use xet_core_structures::source::MemorySource;
@@ -25,9 +25,11 @@ use xet_core_structures::xorb_structs::MDBXorbInfo;
 #[derive(Clone, Copy, Debug, PartialEq, Eq)]
 pub struct Unfit(pub Finding);
 
-/// A finding in some shards.
+/// A finding in a shard, or in some.
 #[derive(Clone, Copy, Debug, PartialEq, Eq, Serialize)]
-pub struct UnfitReport {
+pub struct UnfitReport<'a> {
+    /// The name of the shard's file; `None` of some shards together.
+    pub shard: Option<&'a str>,
     pub code: &'static str,
     pub xorb: Hex,
     /// The file whose segment is found.
@@ -39,13 +41,15 @@ pub struct UnfitReport {
     pub problem: Unfit,
 }
 
-impl UnfitReport {
-    /// The report of a finding.
-    pub fn of_finding(finding: Finding) -> UnfitReport
-        ensures { result.problem.0 ≡ finding }
+impl<'a> UnfitReport<'a> {
+    /// The report of a finding in a shard, or in some.
+    pub fn of_finding(shard: Option<&'a str>, finding: Finding) -> UnfitReport<'a>
+        ensures shard { result.shard ≡ shard.entry }
+        ensures finding { result.problem.0 ≡ finding }
     {
         let segment = segment_of(finding.fault);
         UnfitReport {
+            shard,
             code: code_of(finding.fault),
             xorb: Hex(finding.xorb),
             file: segment.map(|segment| Hex(segment.file)),
@@ -53,15 +57,6 @@ impl UnfitReport {
             problem: Unfit(finding),
         }
     }
-}
-
-/// A finding in a shard, in the form of a [`ProblemReport`](crate::problem::ProblemReport).
-#[derive(Clone, Copy, Debug, PartialEq, Eq, Serialize)]
-struct UnfitShard<'a> {
-    file: &'a str,
-    code: &'static str,
-    offset: Option<u64>,
-    problem: Unfit,
 }
 
 // The word for a kind of finding.
@@ -97,21 +92,30 @@ pub(crate) fn print_unfit<W: Write>(
 ) -> Result<bool, Trouble>
     ensures { IfOk result (λ fits. IsTrue fits → IsFit bytes.now) }
 {
-    let found = match unfit_in(alloc, bytes) {
-        Ok(found) => found,
-        Err(CoreError::OutOfMemory) => return Err(Trouble::Shard(CoreError::OutOfMemory)),
-        Err(_) => return Ok(false),
-    };
-    for finding in &found {
-        let report = UnfitShard {
-            file,
-            code: code_of(finding.fault),
-            offset: None,
-            problem: Unfit(*finding),
-        };
+    match unfit_in(alloc, bytes) {
+        Ok(found) => {
+            let fits = found.is_empty();
+            print_findings(alloc, Some(file), found.as_slice(), style, output)?;
+            Ok(fits)
+        }
+        Err(CoreError::OutOfMemory) => Err(Trouble::Shard(CoreError::OutOfMemory)),
+        Err(_) => Ok(false),
+    }
+}
+
+/// Prints findings in a shard, or in some.
+pub fn print_findings<W: Write>(
+    alloc: Global,
+    shard: Option<&str>,
+    findings: &[Finding],
+    style: Style,
+    output: &mut W,
+) -> io::Result<()> {
+    for finding in findings {
+        let report = UnfitReport::of_finding(shard, *finding);
         print(alloc, &report, Layout::plain(style), output)?;
     }
-    Ok(found.is_empty())
+    Ok(())
 }
 
 /// What does not fit together in the records of a shard, from its bytes, in ascending order of the
@@ -138,18 +142,14 @@ fn read_xorbs(alloc: Global, bytes: &[u8]) -> Result<Vec<MDBXorbInfo>, CoreError
     info.read_all_xorb_blocks_full(alloc, &mut source)
 }
 
-impl fmt::Display for UnfitReport {
+impl fmt::Display for UnfitReport<'_> {
     fn fmt<W: fmt::Write>(&self, f: &mut fmt::Formatter<W>) -> fmt::Result {
+        if let Some(shard) = self.shard {
+            let shard = Shown(shard);
+            write!(f, "{shard}: ")?;
+        }
         let problem = self.problem;
         write!(f, "{problem}")
-    }
-}
-
-impl fmt::Display for UnfitShard<'_> {
-    fn fmt<W: fmt::Write>(&self, f: &mut fmt::Formatter<W>) -> fmt::Result {
-        let file = Shown(self.file);
-        let problem = self.problem;
-        write!(f, "{file}: {problem}")
     }
 }
 
