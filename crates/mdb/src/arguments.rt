@@ -3,8 +3,8 @@
 use crate::files::STANDARD_STREAM;
 use crate::gc::DEFAULT_MEMORY;
 use crate::request::{
-    Compaction, HashList, Making, Merge, NewExpiry, Printing, Removal, Request, Sort, Sources,
-    Strictness, Target,
+    Collection, Compaction, HashList, Making, Merge, NewExpiry, Printing, Removal, Request, Sort,
+    Sources, Strictness, Target,
 };
 use crate::{command_line, id};
 use clap::error::ErrorKind;
@@ -145,12 +145,12 @@ fn inspection_in<'a>(
     let printing = printing_in(matches, now)?;
     match name {
         "gc" => {
-            let memory = size_in(matches, id::MEMORY)?.unwrap_or(DEFAULT_MEMORY);
-            Ok(Request::Collect(
-                sources_in(alloc, matches)?,
-                printing.style,
-                memory,
-            ))
+            let collection = Collection {
+                style: printing.style,
+                memory: size_in(matches, id::MEMORY)?.unwrap_or(DEFAULT_MEMORY),
+                quiet: printing.quiet,
+            };
+            Ok(Request::Collect(sources_in(alloc, matches)?, collection))
         }
         "find" | "query" => {
             let (sources, hashes) = lookup_in(alloc, matches)?;
@@ -294,7 +294,6 @@ fn making_in<'a>(
             text_of(matches, id::FILE)?,
             now_in(matches, now)?,
             KeptParts {
-        "make" => Making::Records(text_of(matches, id::FILE)?, time_in(matches, id::EXPIRY)?),
                 verification: matches.get_flag(id::VERIFICATION),
                 aux_ext: !matches.get_flag(id::NO_AUX),
             },
@@ -306,6 +305,7 @@ fn making_in<'a>(
             expiry_in(matches)?,
         ),
         "drop" => Making::Drop(removal_in(alloc, matches)?),
+        "make" => Making::Records(text_of(matches, id::FILE)?, time_in(matches, id::EXPIRY)?),
         _ => return Ok(None),
     };
     Ok(Some(making))

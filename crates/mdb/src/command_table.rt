@@ -469,27 +469,6 @@ const MAKINGS: &[Row] = &[
             NEW_EXPIRY,
             option!(
                 XORBS,
-    Row {
-        name: "make",
-        about: "Writes a shard of records, as files and xorbs print them with --long --json",
-        examples: help::MAKE,
-        usage: None,
-        arguments: &[
-            word!(
-                FILE,
-                NeededValue,
-                "The records, one a line, or - for standard input"
-            ),
-            option!(
-                EXPIRY,
-                "expiry",
-                Value,
-                "The time of expiry; without, there is none"
-            ),
-            FORMAT,
-            OUTPUT,
-        ],
-    },
                 "xorb",
                 EachValue,
                 "The hash of a xorb to keep; without, all are kept"
@@ -516,6 +495,27 @@ const MAKINGS: &[Row] = &[
             HASH_LIST,
             NULL,
             NEW_EXPIRY,
+            FORMAT,
+            OUTPUT,
+        ],
+    },
+    Row {
+        name: "make",
+        about: "Writes a shard of records, as files and xorbs print them with --long --json",
+        examples: help::MAKE,
+        usage: None,
+        arguments: &[
+            word!(
+                FILE,
+                NeededValue,
+                "The records, one a line, or - for standard input"
+            ),
+            option!(
+                EXPIRY,
+                "expiry",
+                Value,
+                "The time of expiry; without, there is none"
+            ),
             FORMAT,
             OUTPUT,
         ],

@@ -6,12 +6,14 @@
 
 use crate::failure::Failure;
 use crate::inputs::Inputs;
+use crate::progress::{Progress, Stage};
+use crate::request::Collection;
 use crate::rounds::shard_file::{ShardFile, ends_of};
 use crate::run::{Status, failed};
+use crate::terminals::Terminals;
 use mdb_report::fault::{Fault, fault_of, section_fault};
-use mdb_report::line::{Layout, Style, print};
 use mdb_report::section::Section;
-use mdb_report::unfit::UnfitReport;
+use mdb_report::unfit::print_findings;
 use shard_bytes::check::Section as Part;
 use shard_bytes::load::load_bytes;
 use shard_garbage::finding::Finding;
@@ -21,7 +23,7 @@ use shard_garbage::segments::Segments;
 use std::alloc::{AllocError, Global};
 use std::io;
 use std::io::{BufReader, BufWriter, ErrorKind, Write};
-use std::rt::Files;
+use std::rt::{Clock, Files};
 use xet_core_structures::merklehash::MerkleHash;
 use xet_records::record_reader::FormatVersion;
 
@@ -37,13 +39,13 @@ const LEAST_ITEMS: u64 = 64;
 /// How often a range is halved when too much is kept.
 const HALVINGS: u32 = 64;
 
-/// Prints what does not fit together in shards, in about so many bytes of memory. Nothing is printed
-/// before all of them have been read.
-pub fn collect_garbage<R: Files + Input + Print + Eprint + AllocGlobal>(
+/// Prints what does not fit together in shards. Nothing is printed before all of them have been read.
+/// If standard error is a terminal, it says there how far it has come.
+pub fn collect_garbage<R: Files + Input + Clock + Print + Eprint + AllocGlobal>(
     rt: &R,
     inputs: &Inputs,
-    style: Style,
-    memory: u64,
+    collection: Collection,
+    terminals: Terminals,
 ) -> Status {
     if inputs.failed {
         return Status::Failed;
@@ -52,7 +54,10 @@ pub fn collect_garbage<R: Files + Input + Print + Eprint + AllocGlobal>(
         Ok(output) => output,
         Err(error) => return failed(rt, &Failure::on_output(Fault::from(error))),
     };
-    let printed = match print_garbage(rt, inputs, style, memory, &mut output) {
+    let mut progress = Progress::new(rt, terminals.error && !collection.quiet);
+    let printed = print_garbage(rt, inputs, collection, &mut progress, &mut output);
+    progress.clear(rt);
+    let printed = match printed {
         Ok(status) => match output.flush() {
             Ok(()) => Ok(status),
             Err(error) => Err(Failure::on_output(Fault::from(error))),
@@ -68,45 +73,33 @@ pub fn collect_garbage<R: Files + Input + Print + Eprint + AllocGlobal>(
 }
 
 // Prints what is found in one range of hashes after another.
-fn print_garbage<'a, R: Files + AllocGlobal, W: Write>(
+fn print_garbage<'a, R: Files + Clock + Eprint + AllocGlobal, W: Write>(
     rt: &R,
     inputs: &'a Inputs,
-    style: Style,
-    memory: u64,
+    collection: Collection,
+    progress: &mut Progress,
     output: &mut W,
 ) -> Result<Status, Failure<'a>> {
     let shards = open_all(rt, inputs)?;
-    let most = usize::try_from((memory / ITEM_SIZE).max(LEAST_ITEMS)).unwrap_or(usize::MAX);
+    let items = (collection.memory / ITEM_SIZE).max(LEAST_ITEMS);
+    let most = usize::try_from(items).unwrap_or(usize::MAX);
     let mut status = Status::Done;
     let mut from = None;
     for _ in 0..u64::MAX {
-        let (found, to) = garbage_from(rt, shards.as_slice(), from, most)?;
+        let (found, to) = garbage_from(rt, shards.as_slice(), from, most, progress)?;
         if !found.is_empty() {
             status = status.and_found();
         }
-        print_findings(rt.alloc(), found.as_slice(), style, output)?;
+        let printed = print_findings(rt.alloc(), None, found.as_slice(), collection.style, output);
+        if let Err(error) = printed {
+            return Err(Failure::on_output(Fault::from(error)));
+        }
         if to.is_none() {
             break;
         }
         from = to;
     }
     Ok(status)
-}
-
-fn print_findings<'a, W: Write>(
-    alloc: Global,
-    found: &[Finding],
-    style: Style,
-    output: &mut W,
-) -> Result<(), Failure<'a>> {
-    for finding in found {
-        let report = UnfitReport::of_finding(*finding);
-        match print(alloc, &report, Layout::plain(style), output) {
-            Ok(()) => {}
-            Err(error) => return Err(Failure::on_output(Fault::from(error))),
-        }
-    }
-    Ok(())
 }
 
 /// Reads header and footer of each shard.
@@ -134,19 +127,23 @@ pub fn open_all<'a, R: Files + AllocGlobal>(
 
 // What does not fit together about hashes from one on, and where the range ends that was looked at;
 // `None` if there is no end.
-fn garbage_from<'a, R: Files + AllocGlobal>(
+fn garbage_from<'a, R: Files + Clock + Eprint + AllocGlobal>(
     rt: &R,
     shards: &[ShardFile<'a>],
     from: Option<MerkleHash>,
     most: usize,
+    progress: &mut Progress,
 ) -> Result<(Vec<Finding>, Option<MerkleHash>), Failure<'a>> {
     let alloc = rt.alloc();
     let mut segments = Segments::new(alloc, HashRange { from, to: None });
-    for shard in shards {
+    let all = shards.len();
+    for (read, shard) in shards.iter().enumerate() {
+        progress.show_after_pause(rt, Stage::Reading { read, all });
         add_files(rt, shard, &mut segments, most)?;
     }
     let mut garbage = Garbage::new(alloc, segments);
-    for shard in shards {
+    for (read, shard) in shards.iter().enumerate() {
+        progress.show_after_pause(rt, Stage::Reading { read, all });
         add_xorbs(rt, shard, &mut garbage, most)?;
     }
     let to = garbage.range.to;

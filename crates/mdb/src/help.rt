@@ -48,15 +48,15 @@ pub const DIFF: &str = "Example:\n  mdb diff old.mdb new.mdb -o added.mdb";
 
 pub const MERGE: &str =
     "Examples:\n  mdb merge cache -o all.mdb\n  mdb merge --files-from list -o all.mdb
-pub const MAKE: &str = "Examples:\n  mdb files --long --json a.mdb > records
-  mdb xorbs --long --json a.mdb >> records\n  mdb make records -o again.mdb";
-
   mdb merge cache -o all.mdb --memory 256M
   mdb merge session --to store --max-size 64M --hash-key \
 0000000000000001000000000000000200000000000000030000000000000004";
 
 pub const DROP: &str = "Example:\n  mdb drop a.mdb -o rest.mdb \
     --hash 0000000000000064000000000000000100000000000000000000000000000000";
+
+pub const MAKE: &str = "Examples:\n  mdb files --long --json a.mdb > records
+  mdb xorbs --long --json a.mdb >> records\n  mdb make records -o again.mdb";
 
 pub const EXPORT: &str = "Example:\n  mdb export a.mdb --now 1700000000 --valid 86400 -o keyed.mdb \
     --key 0000000000000001000000000000000200000000000000030000000000000004";

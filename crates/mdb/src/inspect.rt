@@ -176,7 +176,10 @@ fn inspect_contents<'a, W: Write>(
     }
     let unhashed = match inquiry {
         Inquiry::Check(checks) if !contents.whole => {
-            Some(Inquiry::Check(Checks { key: None, ..*checks }))
+            Some(Inquiry::Check(Checks {
+                key: None,
+                ..*checks
+            }))
         }
         _ => None,
     };

@@ -9,6 +9,7 @@ use std::alloc::Global;
 use std::rt::Files;
 use xet_core_structures::error::CoreError;
 use xet_core_structures::shard_in_memory::MDBInMemoryShard;
+use xet_records::record_reader::FormatVersion;
 
 /// The bytes of the shard that has the records in a file, in version 3, with an expiry in seconds or
 /// none. Of two files, or two xorbs, with one hash the later one counts.
@@ -24,7 +25,13 @@ pub fn shard_of_lines<'a, R: Files + Input + AllocGlobal>(
     };
     let list = list.as_slice();
     let written = match records_in(alloc, list) {
-        Ok(Records { files, xorbs }) => write_records(alloc, files, xorbs, expiry),
+        Ok(Records { files, xorbs }) => write_records(
+            alloc,
+            files,
+            xorbs,
+            FormatVersion::V3,
+            expiry,
+        ),
         Err(fault) => return Err(Failure::on_file(file, fault)),
     };
     match written {

@@ -14,8 +14,8 @@ use xet_records::record_reader::FormatVersion;
 pub enum Request<'a> {
     /// To print answers about shards.
     Inspect(Sources<'a>, Inquiry, Printing),
-    /// To print what does not fit together in shards, in about so many bytes of memory.
-    Collect(Sources<'a>, Style, u64),
+    /// To print what does not fit together in shards.
+    Collect(Sources<'a>, Collection),
     /// To write a shard.
     Make(Making<'a>, Target<'a>),
     /// To write a merge of shards.
@@ -42,6 +42,16 @@ pub enum Sort {
     Size,
     /// The expiry, those without one last.
     Expiry,
+}
+
+/// How what does not fit together in shards is found and printed.
+#[derive(Clone, Copy, Debug, PartialEq, Eq)]
+pub struct Collection {
+    pub style: Style,
+    /// About how many bytes of memory are taken.
+    pub memory: u64,
+    /// Whether nothing is said of how far the command has come.
+    pub quiet: bool,
 }
 
 /// Where a shard is written, and in which version of the format.
@@ -80,10 +90,10 @@ pub enum Making<'a> {
     Export(&'a str, Export),
     Minimal(&'a str, u64, KeptParts),
     /// The xorbs to keep may be listed besides.
-    /// Of the records in a file, one a line, with an expiry in seconds or none.
-    Records(&'a str, Option<u64>),
     Subset(&'a str, Subset, Option<HashList<'a>>, NewExpiry),
     Drop(Removal<'a>),
+    /// Of the records in a file, one a line, with an expiry in seconds or none.
+    Records(&'a str, Option<u64>),
 }
 
 /// Which records are taken out of a shard.

@@ -113,8 +113,8 @@ fn status_of<R: Locks + Input + Clock + Print + Eprint + RandomSource + AllocGlo
                 Err(_) => failed(rt, &Failure::on_words(Fault::OutOfMemory)),
             }
         }
-        Request::Collect(sources, style, memory) => match inputs_of(rt, sources, unreadable) {
-            Ok(inputs) => collect_garbage(rt, &inputs, collection, terminals),
+        Request::Collect(sources, collection) => match inputs_of(rt, sources, unreadable) {
+            Ok(inputs) => collect_garbage(rt, &inputs, *collection, terminals),
             Err(_) => failed(rt, &Failure::on_words(Fault::OutOfMemory)),
         },
         Request::Make(making, target) => {
