@@ -17,7 +17,8 @@ COMMANDS = {
     "chunks": [("chunks", "--long")],
     "find": [("find", "--costs", "--hash", FILE), ("find", "--xorbs", "--hash", XORB), ("find", "--hash", XORB)],
     "query": [("query", "--hash", CHUNK)],
-    "check": [("check", "--name")],
+    "check": [("check", "--name", "--deep")],
+    "gc": [("gc",)],
     "name": [("name", "--hash-key", FILE)],
     "eligible": [("eligible",)],
 }
@@ -42,8 +43,9 @@ def table(page):
         _, printed, names, _ = line.split("|")
         lists = re.findall(r"`([a-z0-9_,]+)`", names)
         found[printed.strip().strip("`")] = [it for names in lists for it in names.split(",")]
-    # Lookups also print what files and xorbs do.
-    found["find"] = [name for it in found["find"] for name in found.get(it, [it])]
+    # Some also print what other commands do.
+    for name in ("find", "check"):
+        found[name] = [member for it in found[name] for member in found.get(it, [it])]
     return found
 
 
