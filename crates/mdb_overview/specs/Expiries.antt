@@ -1,0 +1,42 @@
+-- When shards expire.
+use Rattle.std.specs.Prelude.{◌≡◌, ℕ, ◌/◌, ◌-◌, ◌^◌, ◌==◌, ◌||◌, Bool, false, nat_le, List, count_by}
+use Rattle.std.specs.Prelude.{Option, Some, None, is_none, if◌then◌else◌}
+use Rattle.mdb_report.specs.declared.brief.Brief.{Brief}
+use Rattle.mdb_overview.specs.Counts.{capped, count_in, raised}
+use Rattle.mdb_overview.specs.declared.expiries.Expiries.{Expiries}
+
+-- the expiry of a shard: 0 and the greatest number stand for none
+abbrev pub expiry_in : Brief → Option ℕ
+expiry_in shard =
+    if (shard.expires.seconds == 0) || (shard.expires.seconds == 2 ^ 64 - 1)
+    then None
+    else Some shard.expires.seconds
+
+-- whether an expiry is on a day, which has 86400 seconds
+abbrev pub is_on : ℕ → Option ℕ → Bool
+is_on day None = false
+is_on day (Some expiry) = expiry / 86400 == day
+
+-- whether an expiry has come by a time
+abbrev pub is_by : Option ℕ → Option ℕ → Bool
+is_by None expiry = false
+is_by (Some now) None = false
+is_by (Some now) (Some expiry) = nat_le expiry now
+
+-- whether the expiry of a shard has come by a time
+abbrev pub has_come : Option ℕ → Brief → Bool
+has_come now shard = is_by now (expiry_in shard)
+
+-- how many of the shards expire on each day, how many never, and how many have by a time
+pub record ExpireAs (shards : List Brief) (now : Option ℕ) (expiries : Expiries) : Type 0 where
+  pub days : (day : ℕ) → count_in expiries.by_day day
+      ≡ capped (count_by (λ s. is_on day (expiry_in s)) shards)
+  pub without : expiries.without ≡ capped (count_by (λ s. is_none (expiry_in s)) shards)
+  pub expired : expiries.expired ≡ capped (count_by (has_come now) shards)
+
+-- a shard was counted
+pub record AddsExpiry (shard : Brief) (now : Option ℕ) (old new : Expiries) : Type 0 where
+  pub days : (day : ℕ) → count_in new.by_day day
+      ≡ raised (count_in old.by_day day) (if is_on day (expiry_in shard) then 1 else 0)
+  pub without : new.without ≡ raised old.without (if is_none (expiry_in shard) then 1 else 0)
+  pub expired : new.expired ≡ raised old.expired (if has_come now shard then 1 else 0)

@@ -1,0 +1,60 @@
+//! Counting how often numbers occur.
+
+ghost use Rattle.std.specs.Prelude.{OnOk};
+ghost use Rattle.mdb_overview.specs.Counts.{CountsOneMore};
+
+use std::alloc::{AllocError, Global};
+use std::collections::BTreeMap;
+
+/// Numbers, each with how often it occurs. A count that would pass the greatest number stays there.
+pub type Counts = BTreeMap<u64, u64>;
+
+/// Counts a number once more. It fails only if memory is lacking.
+pub fn count_one(counts: &mut Counts, number: u64) -> Result<(), AllocError>
+    ensures { OnOk result (CountsOneMore number counts.old counts.new) }
+{
+    let count = counts.get(&number).copied().unwrap_or(0);
+    counts.insert(number, count.saturating_add(1))?;
+    Ok(())
+}
+
+/// Numbers from `first` to `last`, and how often those of them that were counted occur together.
+#[derive(Clone, Copy, Debug, PartialEq, Eq)]
+pub(crate) struct Span {
+    pub(crate) first: u64,
+    pub(crate) last: u64,
+    pub(crate) count: u64,
+}
+
+/// Numbers that were counted, in ascending order, in at most so many spans of about as many each.
+pub(crate) fn spans_of(
+    alloc: Global,
+    counts: &Counts,
+    most: usize,
+) -> Result<Vec<Span>, AllocError> {
+    let each = counts
+        .len()
+        .checked_div(most)
+        .unwrap_or(0)
+        .saturating_add(1);
+    let mut spans: Vec<Span> = Vec::new(alloc);
+    let mut room: usize = 0;
+    for (number, count) in counts {
+        match spans.as_mut_slice().last_mut() {
+            Some(span) if room > 0 => {
+                span.last = *number;
+                span.count = span.count.saturating_add(*count);
+                room -= 1;
+            }
+            _ => {
+                spans.push(Span {
+                    first: *number,
+                    last: *number,
+                    count: *count,
+                })?;
+                room = each - 1;
+            }
+        }
+    }
+    Ok(spans)
+}

@@ -1,0 +1,53 @@
+//! Text in HTML.
+
+ghost use Rattle.std.specs.Prelude.{◌≡◌, IfOk, string_bytes};
+ghost use Rattle.std.specs.List.{flat_map};
+ghost use Rattle.std.specs.Str.{chars};
+ghost use Rattle.mdb_overview.specs.Escapes.{escape};
+
+use mdb_report::shown::Shown;
+use std::alloc::{AllocError, Global};
+
+/// The most characters of a label.
+const LABEL_SIZE: usize = 26;
+
+/// A text with each character that means something in HTML replaced by what stands for it. It fails
+/// only if memory is lacking.
+pub fn escaped(alloc: Global, text: &str) -> Result<String, AllocError>
+    ensures { IfOk result (λ escaped. string_bytes escaped ≡ flat_map escape (chars text.now)) }
+{
+    let mut escaped = String::new(alloc);
+    for c in text.chars() {
+        match c {
+            '<' => escaped.push_str("&lt;")?,
+            '>' => escaped.push_str("&gt;")?,
+            '&' => escaped.push_str("&amp;")?,
+            '"' => escaped.push_str("&quot;")?,
+            _ => escaped.push(c)?,
+        }
+    }
+    Ok(escaped)
+}
+
+/// A name in HTML, with its control characters as `\u{..}`.
+pub(crate) fn escaped_name(alloc: Global, name: &str) -> Result<String, AllocError> {
+    let shown = format!(in alloc; "{}", Shown(name))?;
+    escaped(alloc, shown.as_str())
+}
+
+/// The same of a path without its folder, and cut if it is long.
+pub(crate) fn escaped_label(alloc: Global, path: &str) -> Result<String, AllocError> {
+    let name = match path.rsplit_once('/') {
+        Some((_, name)) => name,
+        None => path,
+    };
+    let mut label = String::new(alloc);
+    for (before, c) in name.chars().enumerate() {
+        if before == LABEL_SIZE {
+            label.push('…')?;
+            break;
+        }
+        label.push(c)?;
+    }
+    escaped_name(alloc, label.as_str())
+}

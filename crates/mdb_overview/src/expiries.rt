@@ -1,0 +1,89 @@
+//! The days on which shards expire.
+
+ghost use Rattle.std.specs.Prelude.{◌≡◌, ◌/◌, IfOk, OnOk};
+ghost use Rattle.mdb_overview.specs.Expiries.{expiry_in, has_come, ExpireAs, AddsExpiry};
+
+use crate::counts::{Counts, count_one};
+use mdb_report::brief::Brief;
+use std::alloc::{AllocError, Global};
+use std::collections::BTreeMap;
+
+/// The seconds of a day.
+const DAY: u64 = 86400;
+
+/// When some shards expire.
+#[derive(Drop)]
+pub struct Expiries {
+    /// The number of shards that expire on each day, by the days since the start of 1970.
+    pub by_day: Counts,
+    /// The number of those without an expiry.
+    pub without: u64,
+    /// The number of those whose expiry has come.
+    pub expired: u64,
+}
+
+/// The day in which a second is, both counted from the start of 1970.
+pub fn day_of(seconds: u64) -> u64
+    ensures { result ≡ seconds / 86400 }
+{
+    seconds / DAY
+}
+
+/// The expiry of a shard, in seconds since the start of 1970; 0 and the greatest number stand for
+/// none.
+pub fn expiry_of(shard: &Brief<'_>) -> Option<u64>
+    ensures { result ≡ expiry_in shard.now }
+{
+    let expiry = shard.expires.seconds;
+    if expiry == 0 || expiry == u64::MAX {
+        None
+    } else {
+        Some(expiry)
+    }
+}
+
+/// Whether the expiry of a shard has come by a time, if one is given.
+pub fn has_expired(shard: &Brief<'_>, now: Option<u64>) -> bool
+    ensures { result ≡ has_come now shard.now }
+{
+    match (expiry_of(shard), now) {
+        (Some(expiry), Some(now)) => expiry <= now,
+        _ => false,
+    }
+}
+
+/// When some shards expire, and how many have by a time. It fails only if memory is lacking.
+pub fn expiries_of(
+    alloc: Global,
+    shards: &[Brief<'_>],
+    now: Option<u64>,
+) -> Result<Expiries, AllocError>
+    ensures { IfOk result (ExpireAs shards.now now) }
+{
+    let mut expiries = Expiries {
+        by_day: BTreeMap::new(alloc),
+        without: 0,
+        expired: 0,
+    };
+    for shard in shards {
+        add_expiry(&mut expiries, shard, now)?;
+    }
+    Ok(expiries)
+}
+
+fn add_expiry(
+    expiries: &mut Expiries,
+    shard: &Brief<'_>,
+    now: Option<u64>,
+) -> Result<(), AllocError>
+    ensures { OnOk result (AddsExpiry shard.now now expiries.old expiries.new) }
+{
+    match expiry_of(shard) {
+        Some(expiry) => count_one(&mut expiries.by_day, day_of(expiry))?,
+        None => expiries.without = expiries.without.saturating_add(1),
+    }
+    if has_expired(shard, now) {
+        expiries.expired = expiries.expired.saturating_add(1);
+    }
+    Ok(())
+}

@@ -1,0 +1,14 @@
+//! An overview of some shards, and its page: one HTML file with plots, which needs nothing else.
+#![tactic(auto)]
+
+pub mod counts;
+pub mod escape;
+pub mod expiries;
+mod numbers;
+pub mod overview;
+pub mod page;
+mod plot;
+mod plots;
+pub mod sharing;
+mod style;
+mod table;

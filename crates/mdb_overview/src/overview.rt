@@ -1,0 +1,73 @@
+//! What is said of some shards together.
+
+ghost use Rattle.std.specs.Prelude.{◌≡◌, [], OnOk, OnErr};
+ghost use Rattle.std.specs.List.Sorted.{IsPermutation};
+ghost use Rattle.mdb_overview.specs.Totals.{AreSums, DescendBySize, bytes_left};
+
+use crate::sharing::Sharing;
+use mdb_report::brief::{Brief, Total};
+use std::alloc::{AllocError, Global};
+use std::fmt::Display;
+
+/// Some shards, what failed, and the chunks that they share.
+#[derive(Drop)]
+pub struct Overview<'a> {
+    /// The words that named the shards.
+    pub sources: Vec<&'a str>,
+    /// The time, in seconds, by which shards have expired, if it is known.
+    pub now: Option<u64>,
+    pub shards: Vec<Brief<'a>>,
+    /// What could not be read, each with the reason.
+    pub failures: Vec<String>,
+    pub sharing: Sharing,
+}
+
+impl<'a> Overview<'a> {
+    /// The overview of no shards.
+    pub fn new(alloc: Global, sources: Vec<&'a str>, now: Option<u64>) -> Overview<'a>
+        ensures shards { result.shards.items ≡ [] }
+        ensures failures { result.failures.items ≡ [] }
+    {
+        Overview {
+            sources,
+            now,
+            shards: Vec::new(alloc),
+            failures: Vec::new(alloc),
+            sharing: Sharing::new(alloc),
+        }
+    }
+
+    /// Adds what could not be read, and why. It fails only if memory is lacking, and then nothing was
+    /// added.
+    pub fn add_failure<T: Display>(&mut self, alloc: Global, failure: &T) -> Result<(), AllocError>
+        ensures shards { self.new.shards ≡ self.old.shards }
+    {
+        self.failures.push(format!(in alloc; "{failure}")?)?;
+        Ok(())
+    }
+
+    /// Puts the greatest shards first, and leaves those of one size in their order. It fails only if
+    /// memory is lacking, and then nothing was moved.
+    pub fn sort(&mut self) -> Result<(), AllocError>
+        ensures permutation { IsPermutation self.old.shards.items self.new.shards.items }
+        ensures sorted { OnOk result (DescendBySize self.new.shards.items) }
+        ensures err { OnErr result (self.new.shards.items ≡ self.old.shards.items) }
+    {
+        self.shards.sort_by_key(
+            |shard: &Brief<'_>| -> u64
+                ensures { result ≡ bytes_left shard.now }
+            { u64::MAX - shard.bytes },
+        )
+    }
+}
+
+/// The sums over some shards.
+pub fn total_of(shards: &[Brief<'_>]) -> Total
+    ensures { AreSums shards.now result }
+{
+    let mut total = Total::NONE;
+    for shard in shards {
+        total.add(shard);
+    }
+    total
+}

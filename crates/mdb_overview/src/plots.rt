@@ -1,0 +1,140 @@
+//! The plots of an overview.
+
+use crate::counts::{Span, spans_of};
+use crate::escape::escaped_label;
+use crate::expiries::{day_of, expiries_of};
+use crate::numbers::{Grouped, grouped_length};
+use crate::overview::{Overview, total_of};
+use crate::plot::{PlotRow, print_plot};
+use mdb_report::moment::Moment;
+use std::alloc::{AllocError, Global};
+
+/// The most shards, spans of days and spans of numbers that have a row each.
+const MOST_SHARDS: usize = 20;
+
+const MOST_DAYS: usize = 40;
+
+const MOST_NUMBERS: usize = 16;
+
+/// Prints a plot of the sizes of the first shards.
+pub(crate) fn print_sizes(
+    alloc: Global,
+    page: &mut String,
+    overview: &Overview<'_>,
+) -> Result<(), AllocError> {
+    let shards = overview.shards.as_slice();
+    let (shown, others) = shards.split_at(shards.len().min(MOST_SHARDS));
+    let mut rows = Vec::new(alloc);
+    for shard in shown {
+        rows.push(PlotRow {
+            label: escaped_label(alloc, shard.shard)?,
+            values: [Some(shard.bytes), shard.files, shard.xorbs],
+            pale: false,
+        })?;
+    }
+    let bytes = Grouped(Some(total_of(others).bytes));
+    let others = grouped_length(others);
+    let about = format!(in alloc;
+        "Each column has a scale of its own. Smaller shards, not shown: {others}, of {bytes} bytes."
+    )?;
+    let title = "Sizes, files and xorbs by shard";
+    let columns = ["Bytes", "Files", "Xorbs"];
+    print_plot(page, title, about.as_str(), &columns, rows.as_slice())
+}
+
+/// Prints a plot of how many chunks' hashes are in how many shards.
+pub(crate) fn print_sharing(
+    alloc: Global,
+    page: &mut String,
+    overview: &Overview<'_>,
+) -> Result<(), AllocError> {
+    let mut rows = Vec::new(alloc);
+    for span in &spans_of(alloc, &overview.sharing.by_shards, MOST_NUMBERS)? {
+        rows.push(row_of(span, numbers_label(alloc, span)?, span.last < 2))?;
+    }
+    let hashes = Grouped(Some(overview.sharing.hashes));
+    let shared = Grouped(Some(overview.sharing.shared));
+    let about = format!(in alloc;
+        "Distinct chunk hashes: {hashes}. In more than one shard: {shared}. Under different keys one \
+        chunk has different hashes."
+    )?;
+    let title = "Chunks by the number of shards that have them";
+    print_plot(
+        page,
+        title,
+        about.as_str(),
+        &["Chunk hashes"],
+        rows.as_slice(),
+    )
+}
+
+/// Prints a plot of how many shards expire on each day.
+pub(crate) fn print_expiries(
+    alloc: Global,
+    page: &mut String,
+    overview: &Overview<'_>,
+) -> Result<(), AllocError> {
+    let expiries = expiries_of(alloc, overview.shards.as_slice(), overview.now)?;
+    let today = overview.now.map_or(0, |now| day_of(now));
+    let mut rows = Vec::new(alloc);
+    for span in &spans_of(alloc, &expiries.by_day, MOST_DAYS)? {
+        rows.push(row_of(span, days_label(alloc, span)?, span.last < today))?;
+    }
+    if expiries.without > 0 {
+        rows.push(PlotRow {
+            label: String::from_str(alloc, "no expiry")?,
+            values: [Some(expiries.without), None, None],
+            pale: false,
+        })?;
+    }
+    let expired = Grouped(Some(expiries.expired));
+    let without = Grouped(Some(expiries.without));
+    let about = format!(in alloc;
+        "Expired by then: {expired}. Without an expiry: {without}. Days are in UTC; those that were \
+        over are pale."
+    )?;
+    print_plot(
+        page,
+        "Expiries by day",
+        about.as_str(),
+        &["Shards"],
+        rows.as_slice(),
+    )
+}
+
+fn row_of(span: &Span, label: String, pale: bool) -> PlotRow {
+    PlotRow {
+        label,
+        values: [Some(span.count), None, None],
+        pale,
+    }
+}
+
+fn numbers_label(alloc: Global, span: &Span) -> Result<String, AllocError> {
+    let first = Grouped(Some(span.first));
+    let last = Grouped(Some(span.last));
+    match span.last {
+        1 => format!(in alloc; "in 1 shard"),
+        _ if span.first == span.last => format!(in alloc; "in {last} shards"),
+        _ => format!(in alloc; "in {first} to {last} shards"),
+    }
+}
+
+fn days_label(alloc: Global, span: &Span) -> Result<String, AllocError> {
+    let first = date_of(alloc, span.first)?;
+    if span.first == span.last {
+        return Ok(first);
+    }
+    let last = date_of(alloc, span.last)?;
+    format!(in alloc; "{first} to {last}")
+}
+
+// The date of a day. Of its seconds one past the first is taken, since 0 has no date.
+fn date_of(alloc: Global, day: u64) -> Result<String, AllocError> {
+    let moment = Moment::of_seconds(alloc, day.saturating_mul(86400).saturating_add(1))?;
+    let date = match &moment.utc {
+        Some(utc) => utc.as_str().get(..10),
+        None => None,
+    };
+    String::from_str(alloc, date.unwrap_or("after the year 9999"))
+}
