@@ -442,7 +442,7 @@ def merge_in_parts_wants_regular_files(place):
     os.mkfifo(place.path("pipe"))
     for words, named in ((("-", "-o", "out.mdb"), "-"), (("pipe", "-o", "out.mdb"), "pipe")):
         run = place.run("merge", "both.mdb", *words, "--memory", "1M")
-        said = f"{named}: it is no regular file, which --memory, --to and gc need\n"
+        said = f"{named}: it is no regular file, which --memory, --to, gc and report need\n"
         wants(named, (run.returncode, run.stderr.decode()) == (1, said))
     for target, named in (("-", "standard output"), ("pipe", "pipe")):
         run = place.run("merge", "both.mdb", "-o", target, "--memory", "1M")

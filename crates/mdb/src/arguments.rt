@@ -3,8 +3,8 @@
 use crate::files::STANDARD_STREAM;
 use crate::gc::DEFAULT_MEMORY;
 use crate::request::{
-    Collection, Compaction, HashList, Making, Merge, NewExpiry, Printing, Removal, Request, Sort,
-    Sources, Strictness, Target,
+    Collection, Compaction, HashList, Making, Merge, NewExpiry, Printing, Removal, Reporting,
+    Request, Sort, Sources, Strictness, Target,
 };
 use crate::{command_line, id};
 use clap::error::ErrorKind;
@@ -114,10 +114,26 @@ fn request_in<'a>(
         let sources = sources_in(alloc, matches)?;
         return Ok(Request::Merge(sources, merge_in(matches, now)?));
     }
+    if name == "report" {
+        let sources = sources_in(alloc, matches)?;
+        return Ok(Request::Report(sources, reporting_in(matches, now)?));
+    }
     match making_in(alloc, name, matches, now)? {
         Some(making) => Ok(Request::Make(making, target_in(matches)?)),
         None => inspection_in(alloc, name, matches, now),
     }
+}
+
+fn reporting_in<'a>(
+    matches: &ArgMatches<'a>,
+    now: Option<u64>,
+) -> Result<Reporting<'a>, Refusal<'a>> {
+    Ok(Reporting {
+        output: text_of(matches, id::OUTPUT)?,
+        memory: size_in(matches, id::MEMORY)?.unwrap_or(DEFAULT_MEMORY),
+        now: time_in(matches, id::NOW)?.or(now),
+        quiet: matches.get_flag(id::QUIET),
+    })
 }
 
 // Whether more than one word names standard input, as a shard or as a list.

@@ -326,6 +326,26 @@ const INQUIRIES: &[Row] = &[
         ],
     },
     Row {
+        name: "report",
+        about: "Writes an overview of shards as an HTML page",
+        examples: help::REPORT,
+        usage: None,
+        arguments: &[
+            FILES_ALONE,
+            LIST,
+            NULL,
+            EXPIRED_BY,
+            option!(
+                MEMORY,
+                "memory",
+                Value,
+                "About how much memory to take, as 1G; 256M by default"
+            ),
+            QUIET,
+            OUTPUT,
+        ],
+    },
+    Row {
         name: "name",
         about: "Prints the names that files have by the hashes of their bytes",
         examples: help::NAME,

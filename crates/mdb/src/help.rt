@@ -39,6 +39,12 @@ Examples:
   mdb gc cache
   mdb gc --json --memory 1G cache/*.mdb";
 
+pub const REPORT: &str =
+    "The shards are read several times if what is kept of their chunks takes more memory than is given.
+
+Example:
+  mdb report cache -o report.html";
+
 pub const NAME: &str = "Example:\n  mdb name a.mdb \
     --hash-key 0000000000000001000000000000000200000000000000030000000000000004";
 

@@ -26,6 +26,8 @@ pub struct Inputs {
     pub named: bool,
     /// Whether a path was left out that cannot be read, which was reported.
     pub failed: bool,
+    /// What was reported of such paths.
+    pub failures: Vec<String>,
 }
 
 /// Why the paths of shards cannot be collected: memory is lacking.
@@ -55,10 +57,11 @@ pub fn inputs_of<R: Files + Input + Eprint + AllocGlobal + Clone + Drop>(
         paths: Vec::new(rt.alloc()),
         named: sources.list.is_some() || sources.words.len() > 1,
         failed: false,
+        failures: Vec::new(rt.alloc()),
     };
     for word in &sources.words {
         if unreadable.iter().any(|text| text.as_str() == *word) {
-            inputs.report(rt, word, Fault::NoText);
+            inputs.report(rt, word, Fault::NoText)?;
         } else {
             inputs.add(rt, word)?;
         }
@@ -94,7 +97,7 @@ impl Inputs {
         let alloc = rt.alloc();
         let mut names = Vec::new(alloc);
         if let Err(error) = read_names(rt, folder, &mut names) {
-            self.report(rt, folder, Fault::from(error));
+            self.report(rt, folder, Fault::from(error))?;
         }
         let mut found = Vec::new(alloc);
         let mut unreadable = Vec::new(alloc);
@@ -117,7 +120,7 @@ impl Inputs {
         }
         unreadable.as_mut_slice().sort_unstable();
         for path in &unreadable {
-            self.report(rt, path.as_str(), Fault::NoText);
+            self.report(rt, path.as_str(), Fault::NoText)?;
         }
         found.as_mut_slice().sort_unstable();
         for path in found {
@@ -136,24 +139,31 @@ impl Inputs {
         let bytes = match read(rt, list) {
             Ok(bytes) => bytes,
             Err(error) => {
-                self.report(rt, list, Fault::from(error));
-                return Ok(());
+                return self.report(rt, list, Fault::from(error));
             }
         };
         for line in bytes.as_slice().split(|byte| *byte == end) {
             match str::from_utf8(line) {
                 Ok("") => {}
                 Ok(path) => self.add(rt, path)?,
-                Err(_) => self.report(rt, escaped(rt.alloc(), line)?.as_str(), Fault::NoText),
+                Err(_) => self.report(rt, escaped(rt.alloc(), line)?.as_str(), Fault::NoText)?,
             }
         }
         Ok(())
     }
 
     // Reports what keeps a path from being read.
-    fn report<R: Eprint>(&mut self, rt: &R, path: &str, fault: Fault) {
-        let _ = failed(rt, &Failure::on_file(path, fault));
+    fn report<R: Eprint + AllocGlobal>(
+        &mut self,
+        rt: &R,
+        path: &str,
+        fault: Fault,
+    ) -> Result<(), OutOfMemory> {
+        let failure = Failure::on_file(path, fault);
+        let _ = failed(rt, &failure);
         self.failed = true;
+        self.failures.push(format!(in rt.alloc(); "{failure}")?)?;
+        Ok(())
     }
 }
 

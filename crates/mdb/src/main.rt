@@ -27,6 +27,7 @@ mod ordering;
 mod progress;
 mod record_lines;
 mod record_removal;
+mod report;
 mod request;
 mod rounds;
 mod run;

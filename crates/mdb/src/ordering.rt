@@ -28,6 +28,7 @@ pub fn inputs_in_order<R: Files + AllocGlobal>(
         paths,
         named,
         failed,
+        failures,
     } = inputs;
     let mut ranked = Vec::new(rt.alloc());
     for path in paths {
@@ -43,6 +44,7 @@ pub fn inputs_in_order<R: Files + AllocGlobal>(
         paths,
         named,
         failed,
+        failures,
     })
 }
 

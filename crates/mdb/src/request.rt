@@ -16,6 +16,8 @@ pub enum Request<'a> {
     Inspect(Sources<'a>, Inquiry, Printing),
     /// To print what does not fit together in shards.
     Collect(Sources<'a>, Collection),
+    /// To write an overview of shards as a page.
+    Report(Sources<'a>, Reporting<'a>),
     /// To write a shard.
     Make(Making<'a>, Target<'a>),
     /// To write a merge of shards.
@@ -50,6 +52,19 @@ pub struct Collection {
     pub style: Style,
     /// About how many bytes of memory are taken.
     pub memory: u64,
+    /// Whether nothing is said of how far the command has come.
+    pub quiet: bool,
+}
+
+/// How an overview of shards is made.
+#[derive(Clone, Copy, Debug, PartialEq, Eq)]
+pub struct Reporting<'a> {
+    /// The path to write to, or `-` for standard output.
+    pub output: &'a str,
+    /// About how many bytes of memory are taken.
+    pub memory: u64,
+    /// The time, in seconds, by which shards have expired, if it is known.
+    pub now: Option<u64>,
     /// Whether nothing is said of how far the command has come.
     pub quiet: bool,
 }

@@ -13,6 +13,7 @@ use crate::inspect::inspect;
 use crate::make::make;
 use crate::merge::merge_files;
 use crate::ordering::inputs_in_order;
+use crate::report::report;
 use crate::request::{Merge, Request, Sources};
 use crate::terminals::Terminals;
 use crate::words::{Words, WordsError, read_words};
@@ -115,6 +116,10 @@ fn status_of<R: Locks + Input + Clock + Print + Eprint + RandomSource + AllocGlo
         }
         Request::Collect(sources, collection) => match inputs_of(rt, sources, unreadable) {
             Ok(inputs) => collect_garbage(rt, &inputs, *collection, terminals),
+            Err(_) => failed(rt, &Failure::on_words(Fault::OutOfMemory)),
+        },
+        Request::Report(sources, reporting) => match inputs_of(rt, sources, unreadable) {
+            Ok(inputs) => report(rt, &inputs, sources.words.as_slice(), *reporting, terminals),
             Err(_) => failed(rt, &Failure::on_words(Fault::OutOfMemory)),
         },
         Request::Make(making, target) => {

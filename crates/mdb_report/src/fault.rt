@@ -149,7 +149,7 @@ impl Fault {
             Fault::NoText => "the name is not UTF-8, so it can't be opened",
             Fault::LongWord => "an argument is too long",
             Fault::Terminal => "it is a terminal: write the shard to a file, by -o, or to a pipe",
-            Fault::NoParts => "it is no regular file, which --memory, --to and gc need",
+            Fault::NoParts => "it is no regular file, which --memory, --to, gc and report need",
             Fault::NoPlace => "it is no regular file, which --memory needs to write to",
             Fault::Changed => "it was changed while it was read",
             Fault::StaysChanged => "it stays, since it was changed after it was read",
