@@ -14,7 +14,7 @@ pub(crate) const HEAD: &str = "<!DOCTYPE html>
 @media (prefers-color-scheme: dark) {
   :root { --back: #15181c; --card: #1d2126; --text: #e4e7ea; --soft: #9aa4af; --line: #343a41;
     --bar: #6aa5e6; --pale: #586471; --warn: #ef9187; } }
-body { margin: 0 auto; max-width: 1080px; padding: 2rem 1.25rem 4rem; background: var(--back);
+body { margin: 0 auto; max-width: 1200px; padding: 2rem 1.25rem 4rem; background: var(--back);
   color: var(--text); font: 15px/1.5 system-ui, sans-serif; }
 h1 { margin: 0; font-size: 1.6rem; font-weight: 600; overflow-wrap: anywhere; }
 h2 { margin: 0 0 .25rem; font-size: 1.1rem; font-weight: 600; }
@@ -38,7 +38,7 @@ table { border-collapse: collapse; width: 100%; font-size: .85rem; font-variant-
 th, td { padding: .3rem .6rem; border-bottom: 1px solid var(--line); text-align: right; font-weight: 400;
   vertical-align: top; white-space: nowrap; }
 thead th, tfoot th, tfoot td { font-weight: 600; }
-th:first-child { text-align: left; white-space: normal; min-width: 16rem; overflow-wrap: anywhere; }
+th:first-child { text-align: left; white-space: normal; min-width: 13rem; overflow-wrap: anywhere; }
 </style>
 </head>
 <body>

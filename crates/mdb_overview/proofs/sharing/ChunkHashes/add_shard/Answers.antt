@@ -1,4 +1,4 @@
-use Rattle.std.proofs.Common.{◌≡◌, sym, ap, ◌∙◌, ◌||◌, take, get_or}
+use Rattle.std.proofs.Common.{ap, ◌∙◌, ◌||◌, take, get_or}
 use Rattle.std.specs.List.{list_any}
 use Rattle.std.proofs.lemmas.List.{take_all}
 use Rattle.xet_base.specs.declared.merklehash.DataHash.{DataHash}

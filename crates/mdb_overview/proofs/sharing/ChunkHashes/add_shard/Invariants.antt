@@ -1,4 +1,4 @@
-use Rattle.std.proofs.Common.{◌≡◌, ℕ, take, if◌then◌else◌}
+use Rattle.std.proofs.Common.{◌≡◌, take, if◌then◌else◌}
 use Rattle.std.specs.HashSet.{contains}
 use Rattle.std.specs.List.{list_any}
 use Rattle.xet_base.specs.declared.merklehash.DataHash.{DataHash}
