@@ -504,7 +504,7 @@ def pages_have_all_commands(place):
     subprocess.run([f"{TOP}/.ci/mdb_pages", place.program, place.path("pages")], check=True, timeout=60)
     about = place.run("--help").stdout.decode()
     commands = [it for it in re.findall(r"^  ([a-z]+)  ", about, re.MULTILINE) if it != "help"]
-    wants("all commands", len(commands) == 18)
+    wants("all commands", len(commands) == 19)
     for page in ("mdb.1", "mdb.bash", "_mdb", "mdb.fish"):
         text = place.read(f"pages/{page}").decode().replace("\\-", "-")
         for command in commands:
