@@ -1,5 +1,5 @@
 -- A search in rows that are cut out of a table of written bytes finds what the shard has.
-use Rattle.std.proofs.Common.{◌≡◌, inl, inr, true, ℕ, ◌*◌, min, List, Ok, Err, refl, sym, ap, ◌∙◌, arith}
+use Rattle.std.proofs.Common.{◌≡◌, inl, inr, true, ℕ, min, List, Ok, Err, refl, sym, ap, ◌∙◌, arith}
 use Rattle.std.specs.Prelude.{MatchResult, IsOkAnd}
 use Rattle.xet_core_structures.specs.declared.error.CoreError.{CoreError}
 use Rattle.xet_core_structures.specs.declared.error.CoreError.TheVariants.{TruncatedHashCollision}

@@ -1,22 +1,20 @@
 -- What is found in parts of a shard is what a lookup in all its bytes may find, by one that makes no seek.
-use Rattle.std.proofs.Common.{◌≡◌, ◌≢◌, ◌⊎◌, inl, inr, refl, ◌<◌, ◌≤◌, ◌^◌, ℕ, zero, suc, min, ◌+◌, List, [], ◌∷◌, ◌++◌, length, map, take, drop, Ok, Option, None, Some, sym, ap, ◌∙◌, subst, arith}
-use Rattle.std.specs.Prelude.{All, Contains}
+use Rattle.std.proofs.Common.{◌≡◌, ◌≢◌, inl, inr, refl, ◌≤◌, ℕ, zero, suc, min, List, [], ◌∷◌, length, map, take, drop, Ok, Option, None, Some, sym, ap, ◌∙◌, subst, arith}
 use Rattle.std.specs.List.{AllZip}
 use Rattle.std.proofs.Math.Nat.{eq-zero-or-pos}
 use Rattle.std.proofs.lemmas.List.{length-append, length-map, length-take}
 use Rattle.std.proofs.lemmas.List.Elements.{All-weaker}
 use Rattle.xet_base.proofs.Lists.{front_is}
 use Rattle.xet_core_structures.specs.declared.error.CoreError.{CoreError}
-use Rattle.xet_core_structures.specs.declared.file_structs.MDBFileInfo.{MDBFileInfo}
 use Rattle.xet_core_structures.specs.declared.merklehash.DataHash.{DataHash}
 use Rattle.xet_core_structures.specs.declared.shard_format.MDBShardInfo.{MDBShardInfo}
 use Rattle.xet_core_structures.specs.declared.shard_format.MDBShardFileFooter.{MDBShardFileFooter}
 use Rattle.xet_core_structures.specs.ChunkQuery.{Run}
 use Rattle.xet_core_structures.specs.Ends.{HasHeaderAndFooter}
 use Rattle.xet_core_structures.specs.Lookup.{FindRecordFails, IndexFinds, IsRowAndIndex, LookupAnswer, LooksUpRecord, Visits, row_at}
-use Rattle.xet_core_structures.specs.RunReading.{AnswerAt, QueryAnswer, Queries, TriedAnswer, keyed_word, query_at}
+use Rattle.xet_core_structures.specs.RunReading.{AnswerAt, QueryAnswer, TriedAnswer, keyed_word, query_at}
 use Rattle.xet_core_structures.specs.Source.{Source}
-use Rattle.xet_core_structures.specs.Table.{Table, table_at, FitsTable, Finds, Hit, IsHit, NoFailure}
+use Rattle.xet_core_structures.specs.Table.{Table, table_at, FitsTable, Finds, Hit, NoFailure}
 use Rattle.xet_records.specs.RecordKind.{RecordKind}
 use Rattle.xet_shards.specs.Read.SectionReading.{MayRead}
 use Rattle.xet_shards.specs.Write.Tables.{hash_in}
@@ -26,7 +24,7 @@ use Rattle.shard_bytes.specs.Parts.{FindsRowsIn, RefusesRows}
 use Rattle.shard_bytes.specs.Query.{AnswersQueryAt}
 use Rattle.shard_bytes.specs.RangeReads.{AnswersAtPlaces, AnswersAtRows, HasRowsWith, QueriesInParts, chunk_table_in}
 use Rattle.shard_bytes.specs.Walking.{IsAtRow, WithEnds}
-use Rattle.shard_bytes.proofs.CutOut.{collides_of, fits_there, places_of, rows_of, same_hits, sorted_part}
+use Rattle.shard_bytes.proofs.CutOut.{collides_of, places_of, rows_of, same_hits, sorted_part}
 use Rattle.shard_bytes.proofs.Reading.{source_of}
 use Rattle.shard_bytes.proofs.Walks.{said_of}
 

@@ -1,11 +1,10 @@
 -- What is found in parts of a shard's bytes is what the shard has.
-use Rattle.std.proofs.Common.{◌≡◌, inl, inr, refl, ℕ, zero, suc, ◌+◌, ◌≤◌, ◌<◌, List, [], ◌∷◌, ◌++◌, length, map, take, drop, get_or, Ok, Err, Option, None, Some, sym, ap, ◌∙◌, subst, append_assoc, append-nil, arith}
+use Rattle.std.proofs.Common.{◌≡◌, inl, inr, refl, ℕ, zero, suc, ◌≤◌, ◌<◌, List, [], ◌∷◌, ◌++◌, length, map, take, drop, get_or, Ok, Err, Option, Some, sym, ap, ◌∙◌, subst, append_assoc, append-nil, arith}
 use Rattle.std.specs.Prelude.{Contains, MatchResult}
 use Rattle.std.specs.FinMap.{entries, get, values}
 use Rattle.std.proofs.lemmas.List.{take-append-drop, take-append-le}
 use Rattle.std.proofs.lemmas.List.Elements.{All-contains}
 use Rattle.xet_base.proofs.Lists.{front_is}
-use Rattle.xet_core_structures.specs.declared.error.CoreError.{CoreError}
 use Rattle.xet_core_structures.specs.declared.error.CoreError.TheVariants.{OutOfMemory}
 use Rattle.xet_core_structures.specs.declared.file_structs.MDBFileInfo.{MDBFileInfo}
 use Rattle.xet_core_structures.specs.declared.merklehash.DataHash.{DataHash}
@@ -21,7 +20,7 @@ use Rattle.xet_core_structures.specs.SectionReading.{files_of}
 use Rattle.xet_core_structures.specs.Shard.{Shard}
 use Rattle.xet_core_structures.specs.Source.{Source}
 use Rattle.xet_core_structures.specs.Table.{FitsTable, IsSorted}
-use Rattle.xet_core_structures.specs.Version.{number_of, version_of}
+use Rattle.xet_core_structures.specs.Version.{version_of}
 use Rattle.xet_core_structures.specs.WrittenQueries.{RunAmong}
 use Rattle.xet_core_structures.specs.WrittenShard.{IsBytesWithInfo}
 use Rattle.xet_core_structures.specs.XorbRecord.{xorb_record_bytes, xorb_records}

@@ -1,5 +1,5 @@
 -- What is made in the version with a number.
-use Rattle.std.proofs.Common.{◌≡◌, inl, inr, ℕ, List, Ok, Err, Result, MatchResult}
+use Rattle.std.proofs.Common.{◌≡◌, inr, ℕ, List, Ok, Err, Result, MatchResult}
 use Rattle.std.specs.declared.vec.Vec.{Vec}
 use Rattle.xet_core_structures.specs.declared.error.CoreError.{CoreError}
 use Rattle.xet_core_structures.specs.declared.set_operations.FormatVersion.{FormatVersion}

@@ -1,4 +1,4 @@
-use Rattle.std.proofs.Common.{◌+◌, ◌*◌, true, drop, refl, sym, ap, ◌∙◌, subst, arith}
+use Rattle.std.proofs.Common.{◌+◌, ◌*◌, drop, refl, sym, ap, ◌∙◌, subst, arith}
 use Rattle.xet_core_structures.specs.declared.file_structs.FileDataSequenceHeader.{FileDataSequenceHeader}
 use Rattle.xet_core_structures.specs.FileRecord.{file_records, has_aux_ext}
 use Rattle.shard_bytes.proofs.AuxRows.{none_left, file_has, file_has_none}

@@ -1,6 +1,6 @@
 use Rattle.std.proofs.Common.{◌≡◌, ℕ, List, length, refl, sym, ap, subst, arith}
 use Rattle.xet_core_structures.specs.Hash.{IsHash}
-use Rattle.xet_core_structures.specs.Source.{Source, bytes_left}
+use Rattle.xet_core_structures.specs.Source.{bytes_left}
 use Rattle.shard_bytes.specs.Completing.{Completes}
 use Rattle.shard_bytes.specs.Sizes.{IsRewriteSize}
 use Rattle.xet_shards.specs.Export.InARow.{options_under}

@@ -1,4 +1,4 @@
-use Rattle.std.proofs.Common.{◌≡◌, ℕ, List, sym, subst}
+use Rattle.std.proofs.Common.{sym, subst}
 use Rattle.std.specs.Prelude.{MatchResult}
 use Rattle.shard_bytes.specs.Parts.{HasFileIn, RefusesFileIn}
 use Rattle.shard_bytes.proofs.InParts.{file_at_place}

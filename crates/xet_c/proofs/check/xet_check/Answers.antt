@@ -1,7 +1,6 @@
-use Rattle.std.proofs.Common.{◌≡◌, List, Ok, Err, MatchResult}
+use Rattle.std.proofs.Common.{◌≡◌, Ok, Err, MatchResult}
 use Rattle.std.specs.Prelude.{IfOk, IfErr}
 use Rattle.std.specs.declared.result.Result.{Result}
-use Rattle.xet_core_structures.specs.declared.error.CoreError.{CoreError}
 use Rattle.xet_core_structures.specs.declared.error.CoreError.TheVariants.{OutOfMemory}
 use Rattle.xet_c.specs.Checking.{ShowsFindings}
 use Rattle.xet_c.proofs.Outcomes.{outcome}
