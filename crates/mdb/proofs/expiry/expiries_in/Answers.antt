@@ -11,7 +11,7 @@ use Rattle.mdb.proofs.expiry.expiries_in.Goals as goal
 abbrev HasItsExpiry : Bor (List ℕ) × Bor (List ℕ) → Option ℕ → Type 0
 HasItsExpiry p expiry = IsExpiryOf p.1.now expiry
 
-pushed : (c : goal.Else-is_err) → c.push.new.self.items ≡ c.loop-file.expiries.items ++ c.expiry_of.result ∷ []
+pushed : (c : goal.Else-is_err) → c.push.new.self.items ≡ c.loop-file.expiries.items ++ c.expiry_of-expiry.result ∷ []
 pushed c = search rules
 
 -- one more expiry, of the shard of this turn
@@ -31,7 +31,7 @@ loop-file-preserved c =
     let count = length-append yielded ((c.in-Some.file, c.in-Some.bytes) ∷ []) in
     let longer =
     all_zipped_more HasItsExpiry (take (length yielded) (zip files inputs)) c.loop-file.expiries.items pair
-    c.expiry_of.result c.loop-file.invariant (c.in-Ok.info, c.in-Ok.ensures, c.expiry_of.ensures) in
+    c.expiry_of-expiry.result c.loop-file.invariant (c.in-Ok.info, c.in-Ok.ensures, c.expiry_of-expiry.ensures) in
     subst (λ l. AllZip HasItsExpiry l c.push.new.self.items)
     (sym more ∙ ap (λ n. take n (zip files inputs)) (sym count)) (
     subst (AllZip HasItsExpiry (take (length yielded) (zip files inputs) ++ pair ∷ [])) (sym (pushed c)) longer
