@@ -1,6 +1,6 @@
 #!/bin/sh
-# Builds libxet.a and libxet.so of the static library crates/xet_c, whose archive `rt lib` makes if it isn't there or a
-# source is newer.
+# Builds libxet.a and libxet.so of the static library crates/xet_c, whose archive `rt lib` makes unless it was built of
+# the very sources that are here.
 #
 #   build.sh           puts libxet.a into bindings/out, and libxet.so.0 beside the Python module
 #   build.sh PREFIX    installs PREFIX/include/xet.h, PREFIX/lib/libxet.a and libxet.so, and PREFIX/lib/pkgconfig/xet.pc;
@@ -20,8 +20,11 @@ case "$1" in
 esac
 
 command -v rt >/dev/null || { echo "build.sh: rt is not on the path" >&2; exit 1; }
-if [ ! -f "$archive" ] || [ -n "$(find "$top"/crates/*/src "$top/crates.txt" -newer "$archive" | head -n 1)" ]; then
+sources=$(PYTHONPATH="$top/.ci" python3 -B -m library.archive)
+if [ ! -f "$archive" ] || [ "$(cat "$archive.of" 2>/dev/null)" != "$sources" ]; then
+    rm -f "$archive.of"
     (cd "$top/crates/xet_c" && rt lib)
+    echo "$sources" >"$archive.of"
 fi
 
 # The library's heap, over malloc, realloc and free, is a file of the toolchain.

@@ -4,12 +4,14 @@ import io
 import os
 import re
 import stat
+import sys
 import tarfile
 
 from . import kit, pages
 from .common import NAME, SONAME, TOP, VERSION, Fault, ran, read
 
 PROGRAMS = ("mdb", "shardtool")
+ARCHIVE = "crates/xet_c/out/libxet_c.a"
 DOCUMENTS = {
     "LICENSE": "LICENSE", "NOTICE": "NOTICE", "CHANGELOG.md": "CHANGELOG.md", "README.md": "release/README.md",
     "SECURITY.md": "SECURITY.md", "example.c": "bindings/c/example.c",
@@ -32,13 +34,15 @@ def changed(crates):
 def built():
     """Returns the programs that the gate ran, and the archive that it tested, by their paths in the repository."""
     times = {f"crates/{it}/out/{it}": changed(kit.crates((it,))[0]) for it in PROGRAMS}
-    # Where the code of any crate is newer, bindings/build.sh would begin to prove the archive's anew.
-    times["crates/xet_c/out/libxet_c.a"] = changed(kit.used())
     made = {it: os.path.getmtime(f"{TOP}/{it}") if os.path.isfile(f"{TOP}/{it}") else 0 for it in times}
     stale = [it for it, time in times.items() if made[it] < time]
+    # Of other sources bindings/build.sh would begin to prove the archive's anew.
+    sources = ran(sys.executable, "-B", "-m", "library.archive", cwd=f"{TOP}/.ci")
+    if not all(map(os.path.isfile, (f"{TOP}/{ARCHIVE}", f"{TOP}/{ARCHIVE}.of"))) or read(f"{TOP}/{ARCHIVE}.of") != sources:
+        stale.append(ARCHIVE)
     if stale:
-        raise Fault(f"{', '.join(stale)}: not there, or older than a source: .ci/run builds them")
-    return list(times)
+        raise Fault(f"{', '.join(stale)}: not there, or not of the sources that are here: .ci/run builds them")
+    return [*times, ARCHIVE]
 
 
 def installed(room):
