@@ -665,7 +665,7 @@ enum xet_finding_kind {
     XET_CUT,              /* the bytes end before the section `part` does */
     XET_REFUSED,          /* the section has a header that the version does not have, or more than 4294967295 rows */
     XET_OUT_OF_ORDER,     /* the hash of record `number` of the section, from 0 on, is not above the one before */
-    XET_DIFFERS,          /* the part is not the one that the records give; of a section this is its end */
+    XET_DIFFERS,          /* the part is not what the records imply; of a section, its end is not */
     XET_OTHER_SIZE,       /* the size is not `number`, which the records give */
     XET_MALFORMED_RECORD, /* no shard may have the record `number` of the section, from 0 on: a file with flags beside
                            * those of its parts, or with a reserved word that is not 0 in its header or in a row of an

@@ -1,4 +1,4 @@
-//! What a command line asks for.
+//! Reading a request from the arguments of a command line.
 
 use crate::files::STANDARD_STREAM;
 use crate::gc::DEFAULT_MEMORY;

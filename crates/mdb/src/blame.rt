@@ -1,4 +1,4 @@
-//! Which file is why shards cannot be combined.
+//! Finding the file because of which shards cannot be combined.
 
 ghost use Rattle.std.specs.Prelude.{◌≡◌, [], map, slice_get, MatchOption, MatchResult};
 ghost use Rattle.xet_core_structures.specs.Agreement.Agreement.{HoldShards, HasAllDisagreements};

@@ -1,4 +1,4 @@
-//! Shards that are merged by their keys.
+//! Grouping shards by their keys, each group for a merge of its own.
 
 ghost use Rattle.std.specs.Prelude.{◌≡◌, IfOk};
 ghost use Rattle.mdb.specs.Keys.{distinct, under};

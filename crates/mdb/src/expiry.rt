@@ -1,4 +1,4 @@
-//! Expiries: shards whose expiry has come, and the earliest of some.
+//! Expiries: which shards have expired, and the earliest expiry of several.
 
 ghost use Rattle.std.specs.Prelude.{◌≡◌, ◌↔◌, zip, IsTrue, IfOk, MatchResult};
 ghost use Rattle.std.specs.List.{AllZip};

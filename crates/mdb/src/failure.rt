@@ -1,4 +1,4 @@
-//! Why a command ends without what was asked for.
+//! Failures: why a command did not do what was asked for.
 
 ghost use Rattle.std.specs.Prelude.{◌≡◌};
 

@@ -1,7 +1,7 @@
-//! The lock of a folder, by which two runs do not work there at once.
+//! The lock of a folder, which keeps a second run out of it.
 //!
-//! It is a file that a run locks: the system takes the lock away when the run ends, however that is.
-//! So a file that a killed run left locks nothing.
+//! A run locks a file in the folder. The system releases the lock when the run ends, however it
+//! ends, so the file that a killed run left keeps nobody out.
 
 use crate::inputs::path_in;
 use crate::stamp::FileId;

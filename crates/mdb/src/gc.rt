@@ -1,8 +1,8 @@
-//! Finding what does not fit together in the records of shards, of which only parts are in memory.
+//! Finding what does not fit together in the records of shards, with only a part of them in memory.
 //!
-//! The hashes of xorbs are gone through in ranges, in ascending order. For each range all files are
-//! read, and the segments kept that name a xorb in it; then all xorbs are read. Where too much would
-//! be kept, the range is made smaller at its end.
+//! The search takes one range of xorb hashes after another, in ascending order. For each range it
+//! reads all files, and keeps the segments that name a xorb in the range; then it reads all xorbs.
+//! If it would keep too much, it lowers the end of the range.
 
 use crate::failure::Failure;
 use crate::inputs::Inputs;

@@ -1,4 +1,4 @@
-//! The order in which shards are asked.
+//! The order in which `info --brief` lists shards.
 
 ghost use Rattle.std.specs.List.Sorted.{IsPermutation};
 

@@ -1,4 +1,4 @@
-//! What is asked for by a command line.
+//! Requests: the commands as values, with all that their arguments say.
 
 use mdb_report::inquiry::Inquiry;
 use mdb_report::line::Style;

@@ -1,4 +1,4 @@
-//! What the system says of a file, to know it again.
+//! Stamps of files, by which a file that was changed or replaced is noticed.
 
 use std::fs::Metadata;
 use std::os::unix::fs::MetadataExt;

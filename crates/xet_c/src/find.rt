@@ -1,4 +1,4 @@
-//! Files.
+//! Lookups of files.
 
 ghost use Rattle.std.specs.Prelude.{◌≡◌, ◌⊎◌, Option, IfOk, IfErr};
 ghost use Rattle.xet_core_structures.specs.declared.file_structs.MDBFileInfo.{MDBFileInfo};

@@ -1,4 +1,4 @@
-//! Shards whose records come one after another, put together to one.
+//! Concatenation: one shard made of many whose records follow one another.
 
 ghost use Rattle.std.specs.Prelude.{◌≡◌, ◌<◌, ⊤, List, All, None, map, length};
 ghost use Rattle.std.specs.List.{AllZip};

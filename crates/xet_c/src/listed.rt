@@ -1,4 +1,5 @@
-//! Files and xorbs of lists, whose segments and chunks are in lists of their own.
+//! The structs for lists of records: files and xorbs, with all segments and all chunks in two other
+//! lists.
 
 ghost use Rattle.std.specs.Prelude.{◌≡◌, [], ◌∷◌};
 ghost use Rattle.xet_core_structures.specs.Hash.{words_of};
