@@ -1,0 +1,67 @@
+"""Checks of the words of pages: how many there are, and that no two pages have the same sentence."""
+import glob
+import os
+import re
+
+from .common import TOP, read
+
+# All pages together, and the lines of README.md.
+MOST_WORDS, MOST_LINES = 28000, 100
+# So many words in a row stand in two pages only if both say the same.
+SHARED = 10
+
+
+def pages():
+    """Returns the texts of all pages by their paths in the repository."""
+    found = [it for depth in ("*", "*/*", "*/*/*") for it in glob.glob(f"{TOP}/{depth}.md")]
+    return {os.path.relpath(it, TOP): read(it) for it in sorted(found)}
+
+
+def sentences(page):
+    """Returns the sentences of a page as lists of words, without code, names in code, the targets of links and quotations."""
+    text = re.sub(r"^```.*?^```|^>.*?$", "\n\n", page, flags=re.S | re.M)
+    text = re.sub(r"`[^`]*`|\]\([^)]*\)", " ", text)
+    # A sentence ends at its mark, and with its paragraph, its entry of a list or its cell.
+    parts = re.split(r"[.:;?!](?=\s)|\||\n\s*\n|\n\s*(?:[-#]|\d+\.) ", text)
+    return [re.findall(r"[^\W\d_]+(?:['-][^\W\d_]+)*", it.lower()) for it in parts]
+
+
+def repeated(texts):
+    """Returns, of pages by name, the words that stand in a sentence of two: of each sentence the first run, and both names."""
+    known, found = {}, []
+    for name, page in texts.items():
+        for words in sentences(page):
+            runs = [" ".join(words[at : at + SHARED]) for at in range(len(words) - SHARED + 1)]
+            found += [(it, known[it], name) for it in runs if known.setdefault(it, name) != name][:1]
+    return found
+
+
+def check_words():
+    """The pages have no more words, and README.md no more lines, than a reader has time for."""
+    texts = pages()
+    words, lines = sum(len(it.split()) for it in texts.values()), len(texts["README.md"].splitlines())
+    if words > MOST_WORDS or lines > MOST_LINES:
+        return f"the pages have {words} words, README.md {lines} lines; there may be {MOST_WORDS} and {MOST_LINES}"
+    return None
+
+
+def check_repeated():
+    """No sentence stands in two pages."""
+    found = [f"{one} and {other}: {words}" for words, one, other in repeated(pages())]
+    return f"these words stand in two pages: {'; '.join(found)}" if found else None
+
+
+def check_finding():
+    """A made-up pair of pages shows that repeated sentences are found, and nothing else."""
+    said = "A shard that is read twice\ngives `the same` answer each [time](FORMAT.md) it is asked."
+    cases = {
+        said: True,
+        f"- Before it: {said.lower()}": True,
+        f"```\n{said}\n```": False,
+        f"> {said.replace(chr(10), ' ')}": False,
+        said.replace("answer", "reply"): False,
+        said.replace("twice\n", "twice.\n"): False,
+        said.replace("twice\n", "twice\n\n"): False,
+    }
+    wrong = [it for it, is_found in cases.items() if bool(repeated({"one.md": said, "other.md": it})) != is_found]
+    return f"a repeated sentence is found or not found in: {wrong}" if wrong or repeated({"one.md": 2 * said}) else None
