@@ -9,6 +9,7 @@ import sys
 import tarfile
 import zipfile
 
+from . import commands
 from .c import CC, WARNINGS
 from .common import BINDINGS, TOP, Skip, ran, read
 from .python import SONAME, TESTS
@@ -309,5 +310,5 @@ def check_systems(release):
 
 CHECKS = (
     check_hidden, check_sums, check_gate, check_programs, check_pages, check_c, check_wheel, check_crates, check_debian,
-    check_systems,
+    check_systems, commands.check_release,
 )
