@@ -4,7 +4,6 @@ import json
 import os
 import re
 import shutil
-import subprocess
 import sys
 import tarfile
 import zipfile
@@ -27,8 +26,8 @@ def digest(path):
         return hashlib.sha256(file.read()).hexdigest()
 
 
-def make(folder, **named):
-    return ran(sys.executable, f"{TOP}/release/make", folder, **named)
+def make(folder, *words, **named):
+    return ran(sys.executable, f"{TOP}/release/make", folder, *words, **named)
 
 
 def check_same(room):
@@ -165,6 +164,22 @@ def check_gate(release):
         except fault:
             taken.append(False)
     return None if taken == [True] + [False] * 7 else f"outputs of a gate are taken or not: {taken}"
+
+
+def check_made_of_log(release):
+    """Of the output of a gate that passed a release is made, unless the tree is not as in the commit."""
+    log, folder, sources = f"{release.room}/whole.log", f"{release.room}/of_log", release.manifest["sources"]
+    with open(log, "w", encoding="utf-8") as file:
+        print("rt: ok", *stated(release), "1 passed, 0 failed", sep="\n", file=file)
+    why = make(folder, "--gate", log)[1]
+    if not sources or sources["changed"]:
+        is_refused = why and re.search("not as in the commit|no git repository", why)
+        return None if is_refused else f"release/make --gate takes a tree with changes: {why}"
+    if why:
+        return why
+    same = json.loads(read(f"{folder}/MANIFEST.json"))["gate"]["sha256"] == digest(log)
+    same = same and sorted(os.listdir(folder)) == sorted(os.listdir(release.folder))
+    return None if same else "release/make --gate makes other files, or does not name the output"
 
 
 def check_programs(release):
@@ -309,6 +324,6 @@ def check_systems(release):
 
 
 CHECKS = (
-    check_hidden, check_sums, check_gate, check_programs, check_pages, check_c, check_wheel, check_crates, check_debian,
-    check_systems, commands.check_release,
+    check_hidden, check_sums, check_gate, check_made_of_log, check_programs, check_pages, check_c, check_wheel,
+    check_crates, check_debian, check_systems, commands.check_release,
 )
