@@ -1,4 +1,4 @@
-"""What of the repository's and the toolchain's crates is in the binaries of a release."""
+"""The crates whose code is in the binaries of a release, of the repository and of the toolchain, and their licences."""
 import os
 import re
 import shutil

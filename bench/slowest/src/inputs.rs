@@ -1,4 +1,4 @@
-//! What the calls are made on.
+//! The inputs of the measured calls.
 
 use crate::kinds::{Kind, Made, Slot, KINDS, ONE_FILE, SMALL_FILES};
 use crate::shard::{Parts, EMPTY, ROW};

@@ -1,4 +1,4 @@
-//! What calls cost.
+//! Measuring the time of a call.
 
 use crate::clock::time;
 use crate::inputs::Input;

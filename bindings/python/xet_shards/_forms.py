@@ -1,4 +1,4 @@
-"""Other forms of a shard."""
+"""Other forms of a shard: exports, minimal shards, subsets, version 2, completed shards; eligible chunks."""
 from __future__ import annotations
 
 from ctypes import byref

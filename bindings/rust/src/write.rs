@@ -1,4 +1,4 @@
-//! Exports, minimal shards and subsets.
+//! Other forms of a shard: exports, minimal shards, subsets, version 2, completed shards.
 
 use crate::output::bytes_of;
 use crate::{calls, Hash, Result};

@@ -1,4 +1,4 @@
-//! What no script of vectors/ shows of the calls.
+//! Tests of what no script of vectors/ shows of a call.
 
 mod common;
 
