@@ -17,6 +17,8 @@ PAGES = (
     "bindings/README.md", "README.md", "bindings/python/README.md", "bindings/rust/README.md", "crates/mdb/README.md",
 )
 RELEASE = "release/README.md"
+# The program, in crates.
+MDB = "mdb/out/mdb"
 # Commands of README.md that use a release.
 OF_RELEASE = (
     "tar xzf xet-shards-*-linux-x86_64.tar.gz && xet-shards-*/bin/mdb --help",
@@ -97,9 +99,11 @@ class Tree:
         self.room, self.folder = room, f"{room}/tree"
         left_out = shutil.ignore_patterns(".git", "out", "target", "libxet.so*", "__pycache__")
         shutil.copytree(TOP, self.folder, ignore=left_out)
-        for path in ("xet_c/out/libxet_c.a", "xet_c/out/libxet_c.a.of", "mdb/out/mdb"):
+        for path in ("xet_c/out/libxet_c.a", "xet_c/out/libxet_c.a.of", MDB):
             os.makedirs(os.path.dirname(f"{self.folder}/crates/{path}"), exist_ok=True)
-            shutil.copy(f"{TOP}/crates/{path}", f"{self.folder}/crates/{path}")
+            # .ci/bindings may run alone, where only the library is built.
+            if path != MDB or os.path.exists(f"{TOP}/crates/{MDB}"):
+                shutil.copy(f"{TOP}/crates/{path}", f"{self.folder}/crates/{path}")
         write_files(self.folder, shard)
         self.variables = {
             **names(room, ""), "HASH": HASH, "XET_LIBRARY": "", "PYTHONPATH": "",
@@ -128,6 +132,8 @@ def check_command(tree, page, command):
     for tool in ("cargo", "pkg-config"):
         if re.search(rf"\b{tool}\b", command) and not shutil.which(tool):
             raise Skip(f"{tool} is not there, so this command of {page} was not run: {command}")
+    if re.search(r"\bmdb\b", command) and not os.path.exists(f"{tree.folder}/crates/{MDB}"):
+        raise Skip(f"crates/{MDB} is not there, so this command of {page} was not run: {command}")
     if command.startswith("pip "):
         tree.give_pip()
     return tree.run(page, "sh", "-ec", command)
