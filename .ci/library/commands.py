@@ -141,8 +141,9 @@ def check_command(tree, page, command):
 
 def check_python(tree, page, block):
     """A block of Python in a page runs."""
-    modules = ", ".join(sorted({"sys", *re.findall(r"\b(?:numpy|pandas)\b", block)}))
-    python = python_for(f"import {modules}", f"no Python here has {modules}, so a block of {page} was not run")
+    modules = sorted(set(re.findall(r"\b(?:numpy|pandas)\b", block)))
+    why = f"no Python here has {' and '.join(modules)}, so a block of Python in {page} was not run"
+    python = python_for(f"import {', '.join(['sys', *modules])}", why)
     return tree.run(page, python, "-c", PYTHON + block, PYTHONPATH="bindings/python")
 
 
