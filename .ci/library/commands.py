@@ -27,7 +27,7 @@ OF_RELEASE = (
 # Commands that no check runs, with the reason.
 NOT_RUN = {
     "sudo apt install ./xet-mdb_*.deb ./libxet0_*.deb ./libxet-dev_*.deb": "root alone may; the packages are unpacked",
-    "(cd crates/mdb && rt try -- info data/plain.mdb)": "rt ci runs the program with these words, and this takes minutes",
+    "(cd crates/mdb && rt try -- info data/plain.mdb)": "it takes minutes, and rt ci runs the program so",
     "(cd crates/mdb && rt run -- --help)": "it would prove again what rt ci has proved",
     ".ci/run": "it is the gate itself",
     "cargo run --manifest-path bindings/rust/Cargo.toml --example range_reads -- URL file HASH":

@@ -18,7 +18,7 @@ def pages():
 
 
 def sentences(page):
-    """Returns the sentences of a page as lists of words, without code, names in code, the targets of links and quotations."""
+    """Returns the sentences of a page as lists of words, without code, the targets of links, and quotations."""
     text = re.sub(r"^```.*?^```|^>.*?$", "\n\n", page, flags=re.S | re.M)
     text = re.sub(r"`[^`]*`|\]\([^)]*\)", " ", text)
     # A sentence ends at its mark, and with its paragraph, its entry of a list or its cell.
@@ -27,7 +27,7 @@ def sentences(page):
 
 
 def repeated(texts):
-    """Returns, of pages by name, the words that stand in a sentence of two: of each sentence the first run, and both names."""
+    """Returns the words that sentences of two pages share: of each sentence the first run, with both pages' names."""
     known, found = {}, []
     for name, page in texts.items():
         for words in sentences(page):

@@ -38,7 +38,8 @@ def built():
     stale = [it for it, time in times.items() if made[it] < time]
     # Of other sources bindings/build.sh would begin to prove the archive's anew.
     sources = ran(sys.executable, "-B", "-m", "library.archive", cwd=f"{TOP}/.ci")
-    if not all(map(os.path.isfile, (f"{TOP}/{ARCHIVE}", f"{TOP}/{ARCHIVE}.of"))) or read(f"{TOP}/{ARCHIVE}.of") != sources:
+    archive = f"{TOP}/{ARCHIVE}"
+    if not all(map(os.path.isfile, (archive, f"{archive}.of"))) or read(f"{archive}.of") != sources:
         stale.append(ARCHIVE)
     if stale:
         raise Fault(f"{', '.join(stale)}: not there, or not of the sources that are here: .ci/run builds them")

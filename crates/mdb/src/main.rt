@@ -1,5 +1,5 @@
-//! Looks into `.mdb` files, checks them, and makes new ones of them. The libraries do the work; this
-//! crate reads arguments and files, and prints or writes the results.
+//! Looks into `.mdb` files, checks them, and makes new ones of them. The libraries do the work;
+//! this crate reads arguments and files, and prints or writes the results.
 #![tactic(auto)]
 
 mod arguments;
