@@ -8,6 +8,8 @@ use Rattle.xet_core_structures.specs.declared.set_operations.agreement.Disagreem
 use Rattle.xet_core_structures.specs.declared.set_operations.agreement.MalformedRecord.{MalformedRecord}
 use Rattle.xet_core_structures.specs.Agreement.Agreement.{HoldShards, IsFirstMalformed, InputsAgree, InputsRefusal}
 use Rattle.xet_core_structures.specs.Agreement.Agreement.{HasAllDisagreements}
+use Rattle.xet_core_structures.specs.Trees.InVersions.{MadeIn, RefusedIn}
+use Rattle.xet_records.specs.declared.record_reader.FormatVersion.{FormatVersion}
 use Rattle.shard_bytes.specs.Agreeing.{IsMergeOfAgreeing}
 use Rattle.shard_bytes.specs.Merging.{MergesBytes, RefusesMerge}
 use Rattle.mdb_report.specs.declared.fault.Fault.TheVariants.{OutOfMemory, Disagree, Malformed}
@@ -16,12 +18,13 @@ use Rattle.mdb.specs.declared.failure.Subject.TheVariants.{File, StandardOutput}
 use Rattle.mdb.specs.declared.request.Strictness.{Strictness}
 use Rattle.mdb.specs.declared.request.Strictness.TheVariants.{Lenient, Strict}
 
--- the bytes of the merge of inputs; of a strict one each input holds a well-formed shard, these
--- agree pairwise, and the bytes are those of their join
-abbrev pub UnitesTo : Strictness → List (List ℕ) → List ℕ → Type 0
-UnitesTo Lenient inputs out = MergesBytes inputs out
-UnitesTo Strict inputs out =
-    HoldShards inputs × InputsAgree inputs × MergesBytes inputs out × IsMergeOfAgreeing inputs out
+-- the bytes of the merge of inputs in a version; of a strict one each input holds a well-formed
+-- shard, these agree pairwise, and the bytes are those of their join
+abbrev pub UnitesTo : Strictness → FormatVersion → List (List ℕ) → List ℕ → Type 0
+UnitesTo Lenient version inputs out = MadeIn version (MergesBytes inputs) out
+UnitesTo Strict version inputs out =
+    HoldShards inputs × InputsAgree inputs × MadeIn version (MergesBytes inputs) out
+    × MadeIn version (IsMergeOfAgreeing inputs) out
 
 -- the failure names a record that no shard may have, and the file that has it
 abbrev pub SaysMalformed : List (Bor (List ℕ)) → List (List ℕ) → Failure → Type 0
@@ -36,14 +39,20 @@ SaysDisagree inputs failure =
     (first : Disagreement) × (others : List Disagreement) × HasAllDisagreements inputs (first ∷ others)
     × (failure.fault ≡ Disagree (length (first ∷ others)) first.record_hash)
 
--- the inputs are not merged, for an error of the merge; a lack of memory is reported as such
-abbrev pub SaysNotMerged : List (List ℕ) → Failure → Type 0
-SaysNotMerged inputs failure =
-    (e : CoreError) × (InputsRefusal inputs e ⊎ RefusesMerge inputs e)
-    × (e ≡ no_memory → failure.fault ≡ OutOfMemory)
+-- there is an error of such a cause; a lack of memory is reported as such
+abbrev pub SaysCause : (CoreError → Type 0) → Failure → Type 0
+SaysCause IsCause failure =
+    (e : CoreError) × IsCause e × (e ≡ no_memory → failure.fault ≡ OutOfMemory)
 
--- why inputs have no merge
-abbrev pub RefusesUnion : Strictness → List (Bor (List ℕ)) → List (List ℕ) → Failure → Type 0
-RefusesUnion Lenient files inputs failure = SaysNotMerged inputs failure
-RefusesUnion Strict files inputs failure =
-    SaysMalformed files inputs failure ⊎ SaysDisagree inputs failure ⊎ SaysNotMerged inputs failure
+-- an input is not read, or there is another cause why the inputs have no merge in a version
+abbrev pub SaysNotMerged : FormatVersion → List (List ℕ) → Failure → Type 0
+SaysNotMerged version inputs = SaysCause
+    (λ e. InputsRefusal inputs e ⊎ RefusedIn version (MergesBytes inputs) (RefusesMerge inputs) e)
+
+-- why inputs have no merge in a version
+abbrev pub RefusesUnion : Strictness → FormatVersion → List (Bor (List ℕ)) → List (List ℕ) → Failure
+    → Type 0
+RefusesUnion Lenient version files inputs failure = SaysNotMerged version inputs failure
+RefusesUnion Strict version files inputs failure =
+    SaysMalformed files inputs failure ⊎ SaysDisagree inputs failure
+    ⊎ SaysNotMerged version inputs failure

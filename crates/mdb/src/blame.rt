@@ -1,11 +1,12 @@
 //! Finding the file because of which shards cannot be combined.
 
-ghost use Rattle.std.specs.Prelude.{◌≡◌, [], map, slice_get, MatchOption, MatchResult};
-ghost use Rattle.xet_core_structures.specs.Agreement.Agreement.{HoldShards, HasAllDisagreements};
-ghost use Rattle.mdb.specs.Merging.{SaysMalformed, SaysDisagree, SaysNotMerged};
+ghost use Rattle.std.specs.Prelude.{◌≡◌, [], map, slice_get, IsTrue, MatchOption, MatchResult};
+ghost use Rattle.xet_core_structures.specs.Agreement.Agreement.{HoldShards, HasAllDisagreements, InputsRefusal};
+ghost use Rattle.mdb.specs.Merging.{SaysMalformed, SaysDisagree, SaysCause};
 
 use crate::failure::{Failure, Subject};
 use crate::files::read_shard;
+use crate::request::Target;
 use mdb_report::fault::{Fault, first_obstacle, has_wrong_footer};
 use shard_bytes::check::{Finding, Part};
 use shard_bytes::combine::{Operation, combine_bytes};
@@ -17,6 +18,7 @@ use xet_core_structures::merklehash::MerkleHash;
 use xet_core_structures::set_operations::{
     Disagreement, MalformedRecord, find_disagreements, find_malformed,
 };
+use xet_records::record_reader::FormatVersion;
 
 /// Why a union or a difference failed: the first input that cannot be read, else what is wrong with
 /// the inputs together.
@@ -44,22 +46,63 @@ pub fn blamed<'a>(
     misplaced(alloc, files, inputs)
 }
 
+/// Why a union or a difference in the version of a target failed: the version lacks a file, or else as
+/// [`blamed`] says.
+pub fn blamed_in<'a>(
+    alloc: Global,
+    files: &[&'a str],
+    inputs: &[&[u8]],
+    target: Target<'a>,
+    error: CoreError,
+) -> Failure<'a>
+    ensures { error ≡ CoreError.OutOfMemory → result.fault ≡ Fault.OutOfMemory }
+{
+    if lacks_files(alloc, inputs, target.version, &error) {
+        return Failure::on_target(target.path, Fault::HasAuxRow);
+    }
+    blamed(alloc, files, inputs, error)
+}
+
+/// Whether a union or a difference in a version failed since the version lacks a file. The same
+/// error is that of inputs under different keys.
+pub fn lacks_files(
+    alloc: Global,
+    inputs: &[&[u8]],
+    version: FormatVersion,
+    error: &CoreError,
+) -> bool
+    ensures version { IsTrue result → version ≡ FormatVersion.V2 }
+    ensures error { IsTrue result → error.now ≡ CoreError.InvalidArguments }
+{
+    version == FormatVersion::V2
+        && matches!(error, CoreError::InvalidArguments)
+        && other_key(alloc, inputs).is_none()
+}
+
 // The failure of inputs under different keys: that of the first two, whose shards are under
 // different ones.
 fn with_other_key<'a>(alloc: Global, files: &[&'a str], inputs: &[&[u8]]) -> Failure<'a> {
-    let mut first: Option<(&'a str, MerkleHash)> = None;
-    for (file, bytes) in files.iter().zip(inputs) {
-        let Ok(info) = load_bytes(alloc, bytes) else {
-            break;
-        };
-        let key = info.metadata.chunk_hash_hmac_key;
-        match first {
-            None => first = Some((*file, key)),
-            Some((_, its)) if its == key => {}
-            Some((other, _)) => return under_other_key(other, file),
-        }
+    if let (Some(first), Some(at)) = (files.first(), other_key(alloc, inputs))
+        && let Some(other) = files.get(at)
+    {
+        return under_other_key(first, other);
     }
     on_all(files, Fault::KeysDiffer)
+}
+
+// The place of the first input whose shard is under another key than that of the first input. The
+// inputs before it can be loaded.
+fn other_key(alloc: Global, inputs: &[&[u8]]) -> Option<usize> {
+    let mut first: Option<MerkleHash> = None;
+    for (at, bytes) in inputs.iter().enumerate() {
+        let key = load_bytes(alloc, bytes).ok()?.metadata.chunk_hash_hmac_key;
+        match first {
+            None => first = Some(key),
+            Some(its) if its == key => {}
+            Some(_) => return Some(at),
+        }
+    }
+    None
 }
 
 /// The failure of two files whose shards are under different keys.
@@ -132,7 +175,7 @@ pub fn disagreement<'a>(
     ensures { MatchResult result
         (λ found. MatchOption found (HasAllDisagreements (map (λ x. x.now) inputs.now) [])
         (SaysDisagree (map (λ x. x.now) inputs.now)))
-        (SaysNotMerged (map (λ x. x.now) inputs.now)) }
+        (SaysCause (InputsRefusal (map (λ x. x.now) inputs.now))) }
 {
     let found = match find_disagreements(alloc, inputs) {
         Ok(found) => found,
@@ -163,7 +206,7 @@ pub fn malformed<'a>(
     ensures { MatchResult result
         (λ found. MatchOption found (HoldShards (map (λ x. x.now) inputs.now))
         (SaysMalformed files.now (map (λ x. x.now) inputs.now)))
-        (SaysNotMerged (map (λ x. x.now) inputs.now)) }
+        (SaysCause (InputsRefusal (map (λ x. x.now) inputs.now))) }
 {
     let found = match find_malformed(alloc, inputs) {
         Ok(found) => found,

@@ -4,7 +4,7 @@ ghost use Rattle.std.specs.Prelude.{MatchResult};
 ghost use Rattle.mdb.specs.Writing.{IsInVersion, RefusesVersion};
 
 use crate::beside::leftovers;
-use crate::blame::blamed;
+use crate::blame::blamed_in;
 use crate::expiry::{expiring, new_expiry};
 use crate::failure::Failure;
 use crate::files::{Contents, STANDARD_STREAM, read_shard, write};
@@ -12,7 +12,7 @@ use crate::record_lines::shard_of_lines;
 use crate::record_removal::remove_records;
 use crate::request::{Making, NewExpiry, Target};
 use mdb_report::fault::{Fault, export_fault, fault_of, minimal_fault, version_2_fault};
-use shard_bytes::combine::{Operation, combine_bytes};
+use shard_bytes::combine::{Operation, combine_bytes_in};
 use shard_bytes::export::{Export, export_bytes};
 use shard_bytes::minimal::{KeptXorbs, Subset, hashes_without_xorb, minimal_bytes, subset_bytes};
 use shard_bytes::version::version_2_bytes;
@@ -35,16 +35,13 @@ pub fn make<'a, R: Files + Input + Print + Eprint + RandomSource + AllocGlobal +
     if terminal && target.path == STANDARD_STREAM {
         return Err(Failure::on_output(Fault::Terminal));
     }
-    let bytes = in_version(rt.alloc(), made(rt, making)?, target)?;
+    let bytes = made(rt, making, target)?;
     put(rt, target.path, bytes.as_slice())
 }
 
-/// The bytes of a shard in the version of a target, from those in version 3.
-pub fn in_version<'a>(
-    alloc: Global,
-    bytes: Vec<u8>,
-    target: Target<'a>,
-) -> Result<Vec<u8>, Failure<'a>>
+// The bytes of a shard in the version of a target, from those in version 3. For exports, minimal
+// shards and subsets, since the library writes these in version 3 alone.
+fn in_version<'a>(alloc: Global, bytes: Vec<u8>, target: Target<'a>) -> Result<Vec<u8>, Failure<'a>>
     ensures { MatchResult result
         (λ out. IsInVersion target.entry.version bytes.items out.items)
         (λ failure. RefusesVersion target.entry.version bytes.items failure.fault) }
@@ -94,19 +91,23 @@ pub fn report_leftovers<R: Files + Eprint + AllocGlobal + Clone + Drop>(rt: &R, 
     }
 }
 
-// The bytes of the shard that a command makes.
+// The bytes of the shard that a command makes, in the version of a target.
 fn made<'a, R: Files + Input + Eprint + AllocGlobal>(
     rt: &R,
     making: &Making<'a>,
+    target: Target<'a>,
 ) -> Result<Vec<u8>, Failure<'a>> {
-    match making {
-        Making::Combine(operation, first, second) => combined(rt, *operation, first, second),
-        Making::Export(file, export) => exported(rt, file, export),
-        Making::Minimal(file, now, kept) => minimal(rt, file, *now, *kept),
-        Making::Subset(file, kept, _, expiry) => subset(rt, file, kept, *expiry),
-        Making::Drop(removal) => remove_records(rt, removal),
-        Making::Records(list, expiry) => shard_of_lines(rt, list, *expiry),
-    }
+    let bytes = match making {
+        Making::Combine(operation, first, second) => {
+            return combined(rt, *operation, first, second, target);
+        }
+        Making::Drop(removal) => return remove_records(rt, removal, target),
+        Making::Records(list, expiry) => return shard_of_lines(rt, list, *expiry, target),
+        Making::Export(file, export) => exported(rt, file, export)?,
+        Making::Minimal(file, now, kept) => minimal(rt, file, *now, *kept)?,
+        Making::Subset(file, kept, _, expiry) => subset(rt, file, kept, *expiry)?,
+    };
+    in_version(rt.alloc(), bytes, target)
 }
 
 /// What is read of the shard in a file, or in standard input if it is `-`.
@@ -210,15 +211,14 @@ fn combined<'a, R: Files + Input + AllocGlobal>(
     operation: Operation,
     first: &'a str,
     second: &'a str,
+    target: Target<'a>,
 ) -> Result<Vec<u8>, Failure<'a>> {
     let alloc = rt.alloc();
     let one = bytes_of(rt, first)?;
     let other = bytes_of(rt, second)?;
-    match combine_bytes(alloc, operation, one.as_slice(), other.as_slice()) {
+    let inputs = [one.as_slice(), other.as_slice()];
+    match combine_bytes_in(alloc, operation, inputs[0], inputs[1], target.version) {
         Ok(bytes) => Ok(bytes),
-        Err(error) => {
-            let inputs = [one.as_slice(), other.as_slice()];
-            Err(blamed(alloc, &[first, second], &inputs, error))
-        }
+        Err(error) => Err(blamed_in(alloc, &[first, second], &inputs, target, error)),
     }
 }

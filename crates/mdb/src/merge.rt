@@ -3,21 +3,24 @@
 ghost use Rattle.std.specs.Prelude.{◌≡◌, List, ℕ, Option, zip, map, IfOk, MatchResult};
 ghost use Rattle.std.specs.List.{AllZip};
 ghost use Rattle.shard_bytes.specs.Merging.{MergesBytes};
+ghost use Rattle.xet_core_structures.specs.Trees.InVersions.{MadeIn};
 ghost use Rattle.mdb.specs.Expiries.{IsNewExpiry};
 ghost use Rattle.mdb.specs.Keys.{IsKeyOf, NoKeys};
 ghost use Rattle.mdb.specs.Merging.{UnitesTo, RefusesUnion, SaysNotMerged};
-ghost use Rattle.mdb.specs.Writing.{HasExpiry, IsInVersion};
+ghost use Rattle.mdb.specs.Writing.{HasExpiry};
 
-use crate::blame::{blamed, disagreement, disagreement_under, malformed, malformed_in, on_all};
+use crate::blame::{
+    blamed_in, disagreement, disagreement_under, lacks_files, malformed, malformed_in, on_all,
+};
 use crate::by_key::{distinct_keys, path_under, values_under};
 use crate::compaction::merge_groups;
 use crate::expiry::{expiring, new_expiry, report_expired_in, without_expired};
 use crate::failure::Failure;
 use crate::files::{Contents, STANDARD_STREAM, is_worth_reading, open_sized, read_ends};
 use crate::free_memory::free_memory;
-use crate::make::{contents_of, in_version, put};
+use crate::make::{contents_of, put};
 use crate::progress::{Progress, Stage};
-use crate::request::{Merge, Strictness};
+use crate::request::{Merge, Strictness, Target};
 use crate::rounds::merge_in_rounds;
 use crate::terminals::Terminals;
 use mdb_report::fault::{Fault, fault_of};
@@ -30,7 +33,6 @@ use std::fs;
 use std::random::RandomSource;
 use std::rt::{Clock, Files};
 use xet_core_structures::merklehash::HMACKey;
-use xet_records::record_reader::FormatVersion;
 
 /// Writes the merge of the shards in some files to a target. With `by_key` it writes a merge of
 /// those under each key to the folder at the target's path, by the digits of the key; with `memory`
@@ -276,37 +278,39 @@ pub fn merged<'a, R: Eprint + AllocGlobal>(
     merge: Merge<'a>,
     progress: &mut Progress,
 ) -> Result<Vec<u8>, Failure<'a>>
-    ensures { IfOk result (λ written. (union expiring : List ℕ) × (expiry : Option ℕ)
-        × UnitesTo merge.entry.strictness (map (λ x. x.now) inputs.now) union
+    ensures { IfOk result (λ written. (union : List ℕ) × (expiry : Option ℕ)
+        × UnitesTo merge.entry.strictness merge.entry.target.version
+        (map (λ x. x.now) inputs.now) union
         × IsNewExpiry merge.entry.expiry (zip files.now inputs.now) expiry
-        × HasExpiry expiry union expiring
-        × IsInVersion merge.entry.target.version expiring written.items) }
+        × HasExpiry expiry union written.items) }
 {
-    let bytes = united(rt, files, inputs, merge.strictness, progress)?;
+    let bytes = united(rt, files, inputs, merge.strictness, merge.target, progress)?;
     progress.clear(rt);
     let expiry = new_expiry(rt.alloc(), merge.expiry, files, inputs)?;
     match expiring(rt.alloc(), bytes, expiry) {
-        Ok(bytes) => in_version(rt.alloc(), bytes, merge.target),
+        Ok(bytes) => Ok(bytes),
         Err(_) => Err(on_all(files, Fault::OutOfMemory)),
     }
 }
 
-// The union of the inputs. A record that no shard may have, and records that differ, are a failure,
-// even if there is no union, or reported.
+// The union of the inputs in the version of a target. A record that no shard may have, and records
+// that differ, are a failure, even if there is no union, or reported.
 fn united<'a, R: Eprint + AllocGlobal>(
     rt: &R,
     files: &[&'a str],
     inputs: &[&[u8]],
     strictness: Strictness,
+    target: Target<'a>,
     progress: &mut Progress,
 ) -> Result<Vec<u8>, Failure<'a>>
     ensures { MatchResult result
-        (λ bytes. UnitesTo strictness (map (λ x. x.now) inputs.now) bytes.items)
-        (RefusesUnion strictness files.now (map (λ x. x.now) inputs.now)) }
+        (λ bytes. UnitesTo strictness target.entry.version (map (λ x. x.now) inputs.now)
+        bytes.items)
+        (RefusesUnion strictness target.entry.version files.now (map (λ x. x.now) inputs.now)) }
 {
     match strictness {
-        Strictness::Strict => united_agreeing(rt.alloc(), files, inputs),
-        Strictness::Lenient => united_leniently(rt, files, inputs, progress),
+        Strictness::Strict => united_agreeing(rt.alloc(), files, inputs, target),
+        Strictness::Lenient => united_leniently(rt, files, inputs, target, progress),
     }
 }
 
@@ -315,18 +319,21 @@ fn united_agreeing<'a>(
     alloc: Global,
     files: &[&'a str],
     inputs: &[&[u8]],
+    target: Target<'a>,
 ) -> Result<Vec<u8>, Failure<'a>>
     ensures { MatchResult result
-        (λ bytes. UnitesTo Strictness.Strict (map (λ x. x.now) inputs.now) bytes.items)
-        (RefusesUnion Strictness.Strict files.now (map (λ x. x.now) inputs.now)) }
+        (λ bytes. UnitesTo Strictness.Strict target.entry.version (map (λ x. x.now) inputs.now)
+        bytes.items)
+        (RefusesUnion Strictness.Strict target.entry.version files.now
+        (map (λ x. x.now) inputs.now)) }
 {
-    match merge_agreeing_bytes(alloc, inputs, FormatVersion::V3) {
+    match merge_agreeing_bytes(alloc, inputs, target.version) {
         Ok(AgreeingMerge::Bytes(bytes)) => Ok(bytes),
         Ok(AgreeingMerge::Disagreements(found)) => {
             Err(disagreement_under(files, &found[0], found.len()))
         }
         Ok(AgreeingMerge::Malformed(malformed)) => Err(malformed_in(files, &malformed)),
-        Err(error) => Err(blamed(alloc, files, inputs, error)),
+        Err(error) => Err(blamed_in(alloc, files, inputs, target, error)),
     }
 }
 
@@ -335,28 +342,44 @@ fn united_leniently<'a, R: Eprint + AllocGlobal>(
     rt: &R,
     files: &[&'a str],
     inputs: &[&[u8]],
+    target: Target<'a>,
     progress: &mut Progress,
 ) -> Result<Vec<u8>, Failure<'a>>
     ensures { MatchResult result
-        (λ bytes. MergesBytes (map (λ x. x.now) inputs.now) bytes.items)
-        (SaysNotMerged (map (λ x. x.now) inputs.now)) }
+        (λ bytes. MadeIn target.entry.version (MergesBytes (map (λ x. x.now) inputs.now))
+        bytes.items)
+        (SaysNotMerged target.entry.version (map (λ x. x.now) inputs.now)) }
 {
     let alloc = rt.alloc();
     let oddity = malformed(alloc, files, inputs)?;
     let choice = disagreement(alloc, files, inputs)?;
-    match merge_bytes(alloc, inputs, FormatVersion::V3) {
+    match merge_bytes(alloc, inputs, target.version) {
         Ok(bytes) => {
-            if let Some(malformed) = &oddity {
-                progress.clear(rt);
-                report_oddity(rt, malformed);
-            }
-            if let Some(disagreement) = &choice {
-                progress.clear(rt);
-                report_choice(rt, disagreement);
-            }
+            report_findings(rt, &oddity, &choice, progress);
             Ok(bytes)
         }
-        Err(error) => Err(blamed(alloc, files, inputs, error)),
+        Err(error) => {
+            if lacks_files(alloc, inputs, target.version, &error) {
+                report_findings(rt, &oddity, &choice, progress);
+            }
+            Err(blamed_in(alloc, files, inputs, target, error))
+        }
+    }
+}
+
+/// Reports a record that no shard may have, and records that differ, if a merge has met some.
+pub fn report_findings<R: Eprint>(
+    rt: &R,
+    malformed: &Option<Failure<'_>>,
+    disagreement: &Option<Failure<'_>>,
+    progress: &mut Progress,
+) {
+    progress.clear(rt);
+    if let Some(malformed) = malformed {
+        report_oddity(rt, malformed);
+    }
+    if let Some(disagreement) = disagreement {
+        report_choice(rt, disagreement);
     }
 }
 
@@ -366,15 +389,15 @@ pub fn report_size<R: Eprint>(rt: &R, file: &str, bytes: u64) {
     let _ = rt.eprintln(format_args!("{file}: {bytes} bytes"));
 }
 
-/// Says of a record that no shard may have what it means for a merge.
-pub fn report_oddity<R: Eprint>(rt: &R, malformed: &Failure<'_>) {
+// Says of a record that no shard may have what it means for a merge.
+fn report_oddity<R: Eprint>(rt: &R, malformed: &Failure<'_>) {
     let _ = rt.eprintln(format_args!(
         "{malformed}; what the merge writes may depend on the order of the files"
     ));
 }
 
-/// Says which of two records that differ a merge keeps.
-pub fn report_choice<R: Eprint>(rt: &R, disagreement: &Failure<'_>) {
+// Says which of two records that differ a merge keeps.
+fn report_choice<R: Eprint>(rt: &R, disagreement: &Failure<'_>) {
     let _ = rt.eprintln(format_args!(
         "{disagreement}; of xorbs the first is kept, of files the one with more parts"
     ));

@@ -2,6 +2,7 @@
 
 use crate::failure::Failure;
 use crate::files::read;
+use crate::request::Target;
 use mdb_report::fault::Fault;
 use mdb_report::record_line::{LineFault, Record, record_of};
 use shard_bytes::records::{Records, write_records};
@@ -11,12 +12,13 @@ use xet_core_structures::error::CoreError;
 use xet_core_structures::shard_in_memory::MDBInMemoryShard;
 use xet_records::record_reader::FormatVersion;
 
-/// The bytes of the shard that has the records in a file, in version 3, with an expiry in seconds or
-/// none. Of two files, or two xorbs, with one hash the later one counts.
+/// The bytes of the shard that has the records in a file, in the version of a target, with an expiry
+/// in seconds or none. Of two files, or two xorbs, with one hash the later one counts.
 pub fn shard_of_lines<'a, R: Files + Input + AllocGlobal>(
     rt: &R,
     file: &'a str,
     expiry: Option<u64>,
+    target: Target<'a>,
 ) -> Result<Vec<u8>, Failure<'a>> {
     let alloc = rt.alloc();
     let list = match read(rt, file) {
@@ -25,18 +27,17 @@ pub fn shard_of_lines<'a, R: Files + Input + AllocGlobal>(
     };
     let list = list.as_slice();
     let written = match records_in(alloc, list) {
-        Ok(Records { files, xorbs }) => write_records(
-            alloc,
-            files,
-            xorbs,
-            FormatVersion::V3,
-            expiry,
-        ),
+        Ok(Records { files, xorbs }) => write_records(alloc, files, xorbs, target.version, expiry),
         Err(fault) => return Err(Failure::on_file(file, fault)),
     };
     match written {
         Ok(bytes) => Ok(bytes),
-        Err(CoreError::InvalidArguments) => Err(Failure::on_file(file, refused_line(alloc, list))),
+        Err(CoreError::InvalidArguments) => Err(match refused_line(alloc, list) {
+            None if target.version == FormatVersion::V2 => {
+                Failure::on_target(target.path, Fault::HasAuxRow)
+            }
+            fault => Failure::on_file(file, fault.unwrap_or(Fault::OutOfMemory)),
+        }),
         Err(_) => Err(Failure::on_file(file, Fault::OutOfMemory)),
     }
 }
@@ -59,8 +60,8 @@ fn records_in(alloc: Global, list: &[u8]) -> Result<Records, Fault> {
     Ok(Records { files, xorbs })
 }
 
-// The first line whose record a shard of those before it does not take.
-fn refused_line(alloc: Global, list: &[u8]) -> Fault {
+// The first line whose record a shard of those before it does not take. `None` if it takes all.
+fn refused_line(alloc: Global, list: &[u8]) -> Option<Fault> {
     let mut shard = MDBInMemoryShard::new(alloc);
     for (before, line) in list.split(|byte| *byte == b'\n').enumerate() {
         let added = match record_of(alloc, line) {
@@ -69,12 +70,12 @@ fn refused_line(alloc: Global, list: &[u8]) -> Fault {
             Err(_) => continue,
         };
         match added {
-            Err(CoreError::OutOfMemory) => return Fault::OutOfMemory,
-            Err(_) => return Fault::NoRecordOfShard(number_of(before)),
+            Err(CoreError::OutOfMemory) => return Some(Fault::OutOfMemory),
+            Err(_) => return Some(Fault::NoRecordOfShard(number_of(before))),
             Ok(_) => {}
         }
     }
-    Fault::OutOfMemory
+    None
 }
 
 // The number of a line, from 1 on.

@@ -1,14 +1,14 @@
 //! The command that takes records out of a shard.
 
-use crate::blame::blamed;
+use crate::blame::{blamed, blamed_in};
 use crate::expiry::{expiring, new_expiry};
 use crate::failure::Failure;
 use crate::make::bytes_of;
-use crate::request::Removal;
+use crate::request::{Removal, Target};
 use crate::rounds::block::{put_bookend, put_footer};
 use mdb_report::fault::{Fault, fault_of};
 use mdb_report::section::Section;
-use shard_bytes::combine::{Operation, combine_bytes};
+use shard_bytes::combine::{Operation, combine_bytes_in};
 use shard_bytes::load::load_bytes;
 use std::alloc::Global;
 use std::rt::Files;
@@ -19,11 +19,13 @@ use xet_core_structures::shard_format::{MDBShardFileHeader, MDBShardInfo};
 use xet_core_structures::xorb_structs::XorbChunkSequenceHeader;
 use xet_records::record_reader::FormatVersion;
 
-/// The bytes of a shard without the files and xorbs that have some hashes: its difference from a
-/// shard of records with these hashes. A hash that no record has is reported, and is a failure.
+/// The bytes of a shard without the files and xorbs that have some hashes, in the version of a
+/// target: its difference from a shard of records with these hashes. A hash that no record has is
+/// reported, and is a failure.
 pub fn remove_records<'a, R: Files + Input + Eprint + AllocGlobal>(
     rt: &R,
     removal: &Removal<'a>,
+    target: Target<'a>,
 ) -> Result<Vec<u8>, Failure<'a>> {
     let alloc = rt.alloc();
     let file = removal.file;
@@ -36,24 +38,37 @@ pub fn remove_records<'a, R: Files + Input + Eprint + AllocGlobal>(
     };
     has_records(rt, file, bytes, &info, hashes)?;
     let expiry = new_expiry(alloc, removal.expiry, &[file], &[bytes])?;
-    match difference(alloc, bytes, &info, hashes, expiry) {
-        Ok(rest) => Ok(rest),
-        Err(error) => Err(blamed(alloc, &[file], &[bytes], error)),
+    match difference(
+        alloc,
+        bytes,
+        info.metadata.chunk_hash_hmac_key,
+        hashes,
+        target.version,
+    ) {
+        Ok(rest) => match expiring(alloc, rest, expiry) {
+            Ok(rest) => Ok(rest),
+            Err(_) => Err(Failure::on_file(file, Fault::OutOfMemory)),
+        },
+        Err(error) => Err(blamed_in(alloc, &[file], &[bytes], target, error)),
     }
 }
 
-// The difference of a shard, which has this header and footer, from a shard of these hashes, with an
-// expiry if one is wanted.
+// The difference of a shard under a key from a shard of these hashes, in a version.
 fn difference(
     alloc: Global,
     bytes: &[u8],
-    info: &MDBShardInfo,
+    key: HMACKey,
     hashes: &[MerkleHash],
-    expiry: Option<u64>,
+    version: FormatVersion,
 ) -> ShardResult<Vec<u8>> {
-    let removed = hash_shard(alloc, hashes, info.metadata.chunk_hash_hmac_key)?;
-    let rest = combine_bytes(alloc, Operation::Difference, removed.as_slice(), bytes)?;
-    expiring(alloc, rest, expiry)
+    let removed = hash_shard(alloc, hashes, key)?;
+    combine_bytes_in(
+        alloc,
+        Operation::Difference,
+        removed.as_slice(),
+        bytes,
+        version,
+    )
 }
 
 // Reports each hash that no record of the shard has, and fails if there is one.

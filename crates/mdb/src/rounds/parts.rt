@@ -8,11 +8,12 @@ use super::block::{Block, Mark};
 use super::findings::Findings;
 use super::shard_file::{Cursor, ShardFile};
 use super::{Stop, share_of};
-use crate::blame::{obstacle_in_files, on_all, under_other_key, unreadable_file, without_union};
+use crate::blame::{
+    lacks_files, obstacle_in_files, on_all, under_other_key, unreadable_file, without_union,
+};
 use crate::expiry::{earlier, expiry_of};
 use crate::failure::Failure;
-use crate::make::in_version;
-use crate::merge::{report_choice, report_oddity};
+use crate::merge::report_findings;
 use crate::progress::{Progress, Stage};
 use crate::request::{Merge, NewExpiry, Strictness};
 use mdb_report::fault::Fault;
@@ -23,7 +24,6 @@ use std::io::{Read, Seek, Write};
 use std::rt::{Clock, Files};
 use xet_core_structures::error::CoreError;
 use xet_core_structures::merklehash::MerkleHash;
-use xet_records::record_reader::FormatVersion;
 
 /// A round reads a quarter of the memory for a merge: the union, and the places of the records, take
 /// the rest.
@@ -160,16 +160,14 @@ impl<'a, F: Read + Write + Seek + Drop> Rounds<'a, F> {
         if !self.has_one_key || (strict && !self.findings.is_empty()) {
             return Ok(());
         }
-        let bytes = match merge_bytes(alloc, inputs, FormatVersion::V3) {
-            Ok(bytes) => bytes,
-            Err(error) => return Err(self.read_failure(rt, inputs, error)),
-        };
-        match in_version(alloc, bytes, self.merge.target) {
+        let target = self.merge.target;
+        match merge_bytes(alloc, inputs, target.version) {
             Ok(part) => self.write_part(section, part),
-            Err(failure) => {
-                self.refusal = Some(failure);
+            Err(error) if lacks_files(alloc, inputs, target.version, &error) => {
+                self.refusal = Some(Failure::on_target(target.path, Fault::HasAuxRow));
                 Ok(())
             }
+            Err(error) => Err(self.read_failure(rt, inputs, error)),
         }
     }
 
@@ -226,8 +224,7 @@ impl<'a, F: Read + Write + Seek + Drop> Rounds<'a, F> {
             (Some(malformed), _, Strictness::Strict) => return Err(malformed),
             (None, Some(disagreement), Strictness::Strict) => return Err(disagreement),
             (malformed, disagreement, _) => {
-                progress.clear(rt);
-                report_findings(rt, malformed, disagreement);
+                report_findings(rt, &malformed, &disagreement, progress);
             }
         }
         self.write_tables(shards, memory)
@@ -261,19 +258,6 @@ impl<'a, F: Read + Write + Seek + Drop> Rounds<'a, F> {
             }
             Err(error) => Err(Failure::on_target(merge.target.path, Fault::Other(error))),
         }
-    }
-}
-
-fn report_findings<R: Eprint>(
-    rt: &R,
-    malformed: Option<Failure<'_>>,
-    disagreement: Option<Failure<'_>>,
-) {
-    if let Some(malformed) = &malformed {
-        report_oddity(rt, malformed);
-    }
-    if let Some(disagreement) = &disagreement {
-        report_choice(rt, disagreement);
     }
 }
 

@@ -3,7 +3,6 @@ use Rattle.std.specs.List.{slice_get}
 use Rattle.std.specs.Option.{MatchOption}
 use Rattle.xet_core_structures.specs.Agreement.Agreement.{IsFirstMalformed}
 use Rattle.xet_core_structures.specs.declared.set_operations.agreement.MalformedRecord.{MalformedRecord}
-use Rattle.xet_core_structures.specs.declared.set_operations.FormatVersion.TheVariants.{V3}
 use Rattle.shard_bytes.specs.Agreeing.{MergesAgreeing}
 use Rattle.mdb_report.specs.declared.fault.Fault.TheVariants.{Malformed}
 use Rattle.mdb.specs.declared.failure.Subject.TheVariants.{File, StandardOutput}
@@ -13,7 +12,7 @@ use Rattle.mdb.proofs.merge.united_agreeing.Goals as goal
 pub returns-in-Ok-Malformed : goal.returns-in-Ok-Malformed
 returns-in-Ok-Malformed c =
     let held : IsFirstMalformed (map (λ x. x.now) c.args.inputs.now) c.in-Ok-Malformed.malformed =
-    subst (MergesAgreeing V3 (map (λ x. x.now) c.args.inputs.now)) c.in-Ok-Malformed.field-0-is
+    subst (MergesAgreeing c.args.target.version (map (λ x. x.now) c.args.inputs.now)) c.in-Ok-Malformed.field-0-is
     c.in-Ok-Malformed.ensures.any_bytes in
     let same = c.in-Ok-Malformed.malformed-is in
     inl (
