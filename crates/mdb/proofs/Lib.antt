@@ -1,3 +1,5 @@
 pub mod Earliest
 pub mod Keys
+pub mod Parts
+pub mod RowNumbers
 pub mod Zipped

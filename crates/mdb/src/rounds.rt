@@ -10,8 +10,11 @@ ghost use Rattle.std.specs.Prelude.{◌≡◌, map, IfOk};
 
 mod assembly;
 pub mod block;
+mod counts;
 mod findings;
+mod part_ranges;
 mod parts;
+mod row_numbers;
 mod runs;
 pub mod shard_file;
 

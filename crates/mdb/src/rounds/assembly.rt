@@ -1,6 +1,19 @@
 //! A shard that is written in parts: first the rows of all its files, then those of all its xorbs,
 //! then the tables, whose rows wait in another file.
 
+ghost use Rattle.std.specs.Prelude.{◌≡◌, ◌+◌, ◌-◌, ◌/◌, ◌++◌, ◌≤◌, ℕ, List, All, length, map, flat_map, drop, slice_range, IfOk, OnOk};
+ghost use Rattle.std.specs.Io.KnownBytes.{Appends};
+ghost use Rattle.xet_records.specs.XorbRow.{xorb_header_row};
+ghost use Rattle.xet_records.specs.XorbRecord.{xorb_bookend};
+ghost use Rattle.xet_shards.specs.Read.TableReading.{FitsStart, FitsTriple, triple_of};
+ghost use Rattle.xet_shards.specs.Write.Ranges.{start_later, chunk_row_later};
+ghost use Rattle.xet_shards.specs.Write.Tables.{start_row, chunk_table_row_bytes};
+ghost use Rattle.xet_shards.specs.declared.shard_format.write.xorb_writer.ChunkTableRow.{ChunkTableRow};
+ghost use Rattle.mdb.specs.Assembly.{WithFiles, WithXorbs};
+
+use super::counts::{Counts, sum, with_rows};
+use super::part_ranges::{before_bookend, check_range, range};
+use super::row_numbers::{TABLE_ROW_SIZE, shift_chunk_rows, shift_starts};
 use super::runs::{CHUNK_ROW_SIZE, Extent, merge_runs};
 use super::share_of;
 use crate::files::HEADER_SIZE;
@@ -8,21 +21,11 @@ use shard_bytes::check::Section;
 use shard_bytes::load::load_bytes;
 use std::alloc::Global;
 use std::io::{BufWriter, Read, Seek, SeekFrom, Write};
-use xet_base::fields::{put_u32, split_u32};
 use xet_core_structures::error::{CoreError, Result};
 use xet_core_structures::merklehash::HMACKey;
 use xet_core_structures::rows::ROW_SIZE;
 use xet_core_structures::shard_format::MDBShardFileFooter;
 use xet_core_structures::xorb_structs::XorbChunkSequenceHeader;
-
-/// The size of a row of the file table and of the xorb table, in bytes.
-const TABLE_ROW_SIZE: usize = 12;
-
-/// The offset of the row number in a row of any table, in bytes.
-const NUMBER_OFFSET: usize = 8;
-
-/// The size of a row number, in bytes.
-const NUMBER_SIZE: usize = 4;
 
 /// The least bytes of a table that are read at once.
 const LEAST_READ: u64 = 4096;
@@ -36,17 +39,6 @@ const OUTPUT_SIZE: usize = 1 << 16;
 /// The chunk tables are merged with a quarter of the memory, since other values need some too.
 const MEMORY_PARTS: u64 = 4;
 
-/// The rows of a section that were written.
-#[derive(Drop)]
-struct SectionRows {
-    /// The rows of the section.
-    count: u32,
-    /// The rows of its table: one a record.
-    records: u64,
-    /// The ranges of the table's rows in the file in which they wait.
-    table: Vec<Extent>,
-}
-
 /// A shard that is written in parts.
 #[derive(Drop)]
 pub struct Assembly<F: Read + Write + Seek + Drop> {
@@ -56,15 +48,13 @@ pub struct Assembly<F: Read + Write + Seek + Drop> {
     tables_size: u64,
     /// Whether the header is written.
     has_header: bool,
-    files: SectionRows,
-    xorbs: SectionRows,
-    /// The rows of the chunk table.
-    chunks: u64,
-    /// The ranges of the parts' chunk tables in the file in which they wait.
+    counts: Counts,
+    /// The ranges of the parts' file tables in the file in which they wait.
+    file_tables: Vec<Extent>,
+    /// Those of the xorb tables.
+    xorb_tables: Vec<Extent>,
+    /// Those of the chunk tables.
     runs: Vec<Extent>,
-    stored_bytes_on_disk: u64,
-    materialized_bytes: u64,
-    stored_bytes: u64,
 }
 
 impl<F: Read + Write + Seek + Drop> Assembly<F> {
@@ -76,13 +66,10 @@ impl<F: Read + Write + Seek + Drop> Assembly<F> {
             tables,
             tables_size: 0,
             has_header: false,
-            files: SectionRows::none(alloc),
-            xorbs: SectionRows::none(alloc),
-            chunks: 0,
+            counts: Counts::none(),
+            file_tables: Vec::new(alloc),
+            xorb_tables: Vec::new(alloc),
             runs: Vec::new(alloc),
-            stored_bytes_on_disk: 0,
-            materialized_bytes: 0,
-            stored_bytes: 0,
         }
     }
 
@@ -91,71 +78,147 @@ impl<F: Read + Write + Seek + Drop> Assembly<F> {
     pub fn add(&mut self, section: Section, part: &mut [u8]) -> Result<()> {
         let footer = load_bytes(self.alloc, part)?.metadata;
         if !self.has_header {
-            self.output
-                .write_all(range(self.alloc, part, 0, HEADER_SIZE as u64)?)?;
+            let header = range(self.alloc, part, 0, HEADER_SIZE as u64)?;
+            self.output.write_all(header)?;
             self.has_header = true;
         }
-        self.add_sums(&footer)?;
+        self.counts = self.counts.with_sums(self.alloc, &footer)?;
         match section {
             Section::Files => self.add_files(&footer, part),
             Section::Xorbs => self.add_xorbs(&footer, part),
         }
     }
 
-    // Adds the sums of bytes of a part, which has files or xorbs alone.
-    fn add_sums(&mut self, footer: &MDBShardFileFooter) -> Result<()> {
-        let alloc = self.alloc;
-        self.stored_bytes_on_disk = sum(
-            alloc,
-            self.stored_bytes_on_disk,
-            footer.stored_bytes_on_disk,
-        )?;
-        self.materialized_bytes = sum(alloc, self.materialized_bytes, footer.materialized_bytes)?;
-        self.stored_bytes = sum(alloc, self.stored_bytes, footer.stored_bytes)?;
-        Ok(())
-    }
-
-    fn add_files(&mut self, footer: &MDBShardFileFooter, part: &mut [u8]) -> Result<()> {
-        let alloc = self.alloc;
-        let end = before_bookend(alloc, footer.xorb_info_offset)?;
-        let rows = range(alloc, part, footer.file_info_offset, end)?;
-        self.output.write_all(rows)?;
-        let first = self.files.count;
-        self.files.count = with_rows(alloc, first, rows.len())?;
+    // Writes the rows of the files of a part with this footer, and keeps those of its file table.
+    fn add_files(&mut self, footer: &MDBShardFileFooter, part: &mut [u8]) -> Result<()>
+        ensures rows { OnOk result
+            (Appends (F.contents self.old.output) (F.contents self.new.output)
+            (slice_range part.old footer.now.file_info_offset
+            (footer.now.xorb_info_offset - 48))) }
+        ensures table { (starts : List (ℕ × ℕ)) → All FitsStart starts
+            → slice_range part.old footer.now.file_lookup_offset footer.now.xorb_lookup_offset
+            ≡ flat_map start_row starts
+            → OnOk result
+            (Appends (F.contents self.old.tables) (F.contents self.new.tables)
+            (flat_map start_row (map (start_later self.old.counts.file_rows) starts))) }
+        ensures counts { OnOk result
+            (WithFiles (footer.now.xorb_info_offset - 48 - footer.now.file_info_offset)
+            (footer.now.xorb_lookup_offset - footer.now.file_lookup_offset)
+            self.old.counts self.new.counts) }
+    {
+        let before = self.counts;
+        let rows = self.write_rows(part, footer.file_info_offset, footer.xorb_info_offset)?;
         let (from, to) = (footer.file_lookup_offset, footer.xorb_lookup_offset);
-        let extent = self.add_table(part, from, to, TABLE_ROW_SIZE, first)?;
-        self.files.add(extent)
-    }
-
-    fn add_xorbs(&mut self, footer: &MDBShardFileFooter, part: &mut [u8]) -> Result<()> {
-        let alloc = self.alloc;
-        let end = before_bookend(alloc, footer.file_lookup_offset)?;
-        let rows = range(alloc, part, footer.xorb_info_offset, end)?;
-        self.output.write_all(rows)?;
-        let first = self.xorbs.count;
-        self.xorbs.count = with_rows(alloc, first, rows.len())?;
-        let (from, to) = (footer.xorb_lookup_offset, footer.chunk_lookup_offset);
-        let extent = self.add_table(part, from, to, TABLE_ROW_SIZE, first)?;
-        self.xorbs.add(extent)?;
-        let (from, to) = (footer.chunk_lookup_offset, footer.footer_offset);
-        let run = self.add_table(part, from, to, CHUNK_ROW_SIZE, first)?;
-        self.chunks = sum(alloc, self.chunks, run.size / CHUNK_ROW_SIZE as u64)?;
-        self.runs.push(run)?;
+        let table = self.keep_starts(part, from, to, before.file_rows)?;
+        self.file_tables.push(table)?;
+        self.counts = Counts {
+            file_rows: with_rows(self.alloc, before.file_rows, rows, ROW_SIZE as u64)?,
+            files: with_rows(self.alloc, before.files, table.size, TABLE_ROW_SIZE as u64)?,
+            ..before
+        };
         Ok(())
     }
 
-    // Keeps the rows of a table between two offsets of a part, whose section has `first` rows before
-    // it in the whole.
-    fn add_table(
-        &mut self,
-        part: &mut [u8],
-        from: u64,
-        to: u64,
-        row_size: usize,
-        first: u32,
-    ) -> Result<Extent> {
-        let rows = range_mut(self.alloc, part, from, to)?;
-        shift_row_numbers(self.alloc, rows, row_size, first)?;
+    // Writes the rows of the xorbs of a part with this footer, and keeps those of its xorb table and
+    // of its chunk table.
+    fn add_xorbs(&mut self, footer: &MDBShardFileFooter, part: &mut [u8]) -> Result<()>
+        ensures rows { OnOk result
+            (Appends (F.contents self.old.output) (F.contents self.new.output)
+            (slice_range part.old footer.now.xorb_info_offset
+            (footer.now.file_lookup_offset - 48))) }
+        ensures tables { (starts : List (ℕ × ℕ)) → (chunks : List ChunkTableRow)
+            → All FitsStart starts → All (λ row. FitsTriple (triple_of row)) chunks
+            → slice_range part.old footer.now.xorb_lookup_offset footer.now.chunk_lookup_offset
+            ≡ flat_map start_row starts
+            → slice_range part.old footer.now.chunk_lookup_offset footer.now.footer_offset
+            ≡ flat_map chunk_table_row_bytes chunks
+            → OnOk result
+            (Appends (F.contents self.old.tables) (F.contents self.new.tables)
+            (flat_map start_row (map (start_later self.old.counts.xorb_rows) starts)
+            ++ flat_map chunk_table_row_bytes
+            (map (chunk_row_later self.old.counts.xorb_rows) chunks))) }
+        ensures counts { OnOk result
+            (WithXorbs (footer.now.file_lookup_offset - 48 - footer.now.xorb_info_offset)
+            (footer.now.chunk_lookup_offset - footer.now.xorb_lookup_offset)
+            (footer.now.footer_offset - footer.now.chunk_lookup_offset)
+            self.old.counts self.new.counts) }
+    {
+        let before = self.counts;
+        let rows = self.write_rows(part, footer.xorb_info_offset, footer.file_lookup_offset)?;
+        let (from, to) = (footer.xorb_lookup_offset, footer.chunk_lookup_offset);
+        let table = self.keep_starts(part, from, to, before.xorb_rows)?;
+        let (from, to) = (footer.chunk_lookup_offset, footer.footer_offset);
+        let run = self.keep_chunk_rows(part, from, to, before.xorb_rows)?;
+        self.xorb_tables.push(table)?;
+        self.runs.push(run)?;
+        self.counts = Counts {
+            xorb_rows: with_rows(self.alloc, before.xorb_rows, rows, ROW_SIZE as u64)?,
+            xorbs: with_rows(self.alloc, before.xorbs, table.size, TABLE_ROW_SIZE as u64)?,
+            chunks: with_rows(self.alloc, before.chunks, run.size, CHUNK_ROW_SIZE as u64)?,
+            ..before
+        };
+        Ok(())
+    }
+
+    // Writes the rows of a section between two offsets of a part, without the bookend, and returns
+    // their size in bytes.
+    fn write_rows(&mut self, part: &[u8], from: u64, end: u64) -> Result<u64>
+        ensures rows { OnOk result
+            (Appends (F.contents self.old.output) (F.contents self.new.output)
+            (slice_range part.now from (end - 48))) }
+        ensures size { IfOk result (λ size. size ≡ end - 48 - from) }
+        ensures others { (self.new.tables ≡ self.old.tables) × (self.new.counts ≡ self.old.counts) }
+    {
+        let end = before_bookend(self.alloc, end)?;
+        let rows = range(self.alloc, part, from, end)?;
+        self.output.write_all(rows)?;
+        Ok(end - from)
+    }
+
+    // Keeps the rows of a file table or a xorb table between two offsets of a part, whose section has
+    // `first` rows before it in the whole.
+    fn keep_starts(&mut self, part: &mut [u8], from: u64, to: u64, first: u32) -> Result<Extent>
+        ensures written { (starts : List (ℕ × ℕ)) → All FitsStart starts
+            → slice_range part.old from to ≡ flat_map start_row starts
+            → OnOk result
+            (Appends (F.contents self.old.tables) (F.contents self.new.tables)
+            (flat_map start_row (map (start_later first) starts))) }
+        ensures size { IfOk result (λ extent. extent.size ≡ to - from) }
+        ensures elsewhere { (i : ℕ) → to ≤ i → drop i part.new ≡ drop i part.old }
+        ensures others { (self.new.output ≡ self.old.output) × (self.new.counts ≡ self.old.counts) }
+    {
+        check_range(self.alloc, part.len(), from, to)?;
+        let rows = &mut part[from as usize..to as usize];
+        shift_starts(self.alloc, rows, first)?;
+        self.keep_rows(rows)
+    }
+
+    // The same of a chunk table.
+    fn keep_chunk_rows(&mut self, part: &mut [u8], from: u64, to: u64, first: u32) -> Result<Extent>
+        ensures written { (chunks : List ChunkTableRow)
+            → All (λ row. FitsTriple (triple_of row)) chunks
+            → slice_range part.old from to ≡ flat_map chunk_table_row_bytes chunks
+            → OnOk result
+            (Appends (F.contents self.old.tables) (F.contents self.new.tables)
+            (flat_map chunk_table_row_bytes (map (chunk_row_later first) chunks))) }
+        ensures size { IfOk result (λ extent. extent.size ≡ to - from) }
+        ensures others { (self.new.output ≡ self.old.output) × (self.new.counts ≡ self.old.counts) }
+    {
+        check_range(self.alloc, part.len(), from, to)?;
+        let rows = &mut part[from as usize..to as usize];
+        shift_chunk_rows(self.alloc, rows, first)?;
+        self.keep_rows(rows)
+    }
+
+    // Keeps rows of a table in the file in which they wait, and returns their range there.
+    fn keep_rows(&mut self, rows: &[u8]) -> Result<Extent>
+        ensures written { OnOk result
+            (Appends (F.contents self.old.tables) (F.contents self.new.tables) rows.now) }
+        ensures extent { IfOk result (λ extent. (extent.start ≡ self.old.tables_size)
+            × (extent.size ≡ length rows.now)
+            × (self.new.tables_size ≡ self.old.tables_size + length rows.now)) }
+        ensures others { (self.new.output ≡ self.old.output) × (self.new.counts ≡ self.old.counts) }
+    {
         self.tables.write_all(rows)?;
         let extent = Extent {
             start: self.tables_size,
@@ -166,7 +229,11 @@ impl<F: Read + Write + Seek + Drop> Assembly<F> {
     }
 
     /// Ends a section, whose parts are all written.
-    pub fn end_section(&mut self) -> Result<()> {
+    pub fn end_section(&mut self) -> Result<()>
+        ensures { OnOk result
+            (Appends (F.contents self.old.output) (F.contents self.new.output)
+            (xorb_header_row xorb_bookend)) }
+    {
         XorbChunkSequenceHeader::bookend().serialize(&mut self.output)?;
         Ok(())
     }
@@ -174,167 +241,49 @@ impl<F: Read + Write + Seek + Drop> Assembly<F> {
     /// Writes the tables and the footer of the shard, with this key and this expiry in seconds, and
     /// returns its file. The chunk tables take about a quarter of `memory`, in bytes.
     pub fn finish(self, key: HMACKey, expiry: Option<u64>, memory: u64) -> Result<F> {
-        let footer = self.footer(key, expiry);
         let Assembly {
             alloc,
             output,
             mut tables,
-            files,
-            xorbs,
+            counts,
+            file_tables,
+            xorb_tables,
             runs,
             ..
         } = self;
         let mut output = BufWriter::with_capacity(alloc, OUTPUT_SIZE, output)?;
-        for extent in &files.table {
+        for extent in &file_tables {
             copy(&mut tables, *extent, &mut output)?;
         }
-        for extent in &xorbs.table {
+        for extent in &xorb_tables {
             copy(&mut tables, *extent, &mut output)?;
         }
         let each = share_of(memory / MEMORY_PARTS, runs.len() as u64)
             .max(LEAST_READ)
             .min(MOST_READ);
         merge_runs(alloc, &mut tables, runs.as_slice(), each, &mut output)?;
-        footer.serialize(&mut output)?;
+        counts.footer(key, expiry).serialize(&mut output)?;
         match output.into_inner() {
             Ok(output) => Ok(output),
             Err(error) => Err(CoreError::Io(error.into_error())),
         }
     }
-
-    fn footer(&self, key: HMACKey, expiry: Option<u64>) -> MDBShardFileFooter {
-        let file_info_offset = HEADER_SIZE as u64;
-        let xorb_info_offset = file_info_offset.saturating_add(section_size(self.files.count));
-        let file_lookup_offset = xorb_info_offset.saturating_add(section_size(self.xorbs.count));
-        let table_row = TABLE_ROW_SIZE as u64;
-        let file_table = table_row.saturating_mul(self.files.records);
-        let xorb_table = table_row.saturating_mul(self.xorbs.records);
-        let xorb_lookup_offset = file_lookup_offset.saturating_add(file_table);
-        let chunk_lookup_offset = xorb_lookup_offset.saturating_add(xorb_table);
-        let chunk_table = self.chunks.saturating_mul(CHUNK_ROW_SIZE as u64);
-        MDBShardFileFooter {
-            file_info_offset,
-            xorb_info_offset,
-            file_lookup_offset,
-            file_lookup_num_entry: self.files.records,
-            xorb_lookup_offset,
-            xorb_lookup_num_entry: self.xorbs.records,
-            chunk_lookup_offset,
-            chunk_lookup_num_entry: self.chunks,
-            chunk_hash_hmac_key: key,
-            shard_key_expiry: expiry.unwrap_or(u64::MAX),
-            stored_bytes_on_disk: self.stored_bytes_on_disk,
-            materialized_bytes: self.materialized_bytes,
-            stored_bytes: self.stored_bytes,
-            footer_offset: chunk_lookup_offset.saturating_add(chunk_table),
-            ..MDBShardFileFooter::default()
-        }
-    }
-}
-
-impl SectionRows {
-    fn none(alloc: Global) -> SectionRows {
-        SectionRows {
-            count: 0,
-            records: 0,
-            table: Vec::new(alloc),
-        }
-    }
-
-    // Adds the range of more rows of the table.
-    fn add(&mut self, extent: Extent) -> Result<()> {
-        let records = extent.size / TABLE_ROW_SIZE as u64;
-        self.records = self.records.saturating_add(records);
-        self.table.push(extent)?;
-        Ok(())
-    }
-}
-
-// The size in bytes of a section with so many rows and a bookend.
-fn section_size(rows: u32) -> u64 {
-    u64::from(rows)
-        .saturating_add(1)
-        .saturating_mul(ROW_SIZE as u64)
-}
-
-fn invalid_shard(alloc: Global) -> CoreError {
-    CoreError::InvalidShard(String::new(alloc))
-}
-
-fn sum(alloc: Global, one: u64, other: u64) -> Result<u64> {
-    match one.checked_add(other) {
-        Some(sum) => Ok(sum),
-        None => Err(invalid_shard(alloc)),
-    }
-}
-
-// The number of rows, and of those in so many bytes more.
-fn with_rows(alloc: Global, rows: u32, bytes: usize) -> Result<u32> {
-    let Ok(more) = u32::try_from(bytes / ROW_SIZE) else {
-        return Err(invalid_shard(alloc));
-    };
-    match rows.checked_add(more) {
-        Some(rows) => Ok(rows),
-        None => Err(invalid_shard(alloc)),
-    }
-}
-
-// The offset of the bookend of a section that ends at an offset.
-fn before_bookend(alloc: Global, end: u64) -> Result<u64> {
-    match end.checked_sub(ROW_SIZE as u64) {
-        Some(start) => Ok(start),
-        None => Err(invalid_shard(alloc)),
-    }
-}
-
-fn range(alloc: Global, part: &[u8], from: u64, to: u64) -> Result<&[u8]> {
-    if from > to || to > part.len() as u64 {
-        return Err(invalid_shard(alloc));
-    }
-    Ok(&part[from as usize..to as usize])
-}
-
-fn range_mut(alloc: Global, part: &mut [u8], from: u64, to: u64) -> Result<&mut [u8]> {
-    if from > to || to > part.len() as u64 {
-        return Err(invalid_shard(alloc));
-    }
-    Ok(&mut part[from as usize..to as usize])
-}
-
-// Adds a number of rows to the row number in each row of a table.
-fn shift_row_numbers(alloc: Global, rows: &mut [u8], row_size: usize, first: u32) -> Result<()> {
-    let mut at = NUMBER_OFFSET;
-    for _ in 0..rows.len() {
-        let Some(bytes) = rows.get_mut(at..at.saturating_add(NUMBER_SIZE)) else {
-            break;
-        };
-        if bytes.len() < NUMBER_SIZE {
-            break;
-        }
-        let (number, _) = split_u32(bytes);
-        let Some(shifted) = number.checked_add(first) else {
-            return Err(invalid_shard(alloc));
-        };
-        put_u32(bytes, 0, shifted);
-        at = at.saturating_add(row_size);
-    }
-    Ok(())
 }
 
 // Copies a range of the tables to the output.
-fn copy<F: Read + Seek, W: Write>(tables: &mut F, extent: Extent, output: &mut W) -> Result<()> {
+fn copy<F: Read + Seek, W: Write>(tables: &mut F, extent: Extent, output: &mut W) -> Result<()>
+    ensures { OnOk result ((bytes : List ℕ) × (length bytes ≡ extent.size)
+        × Appends (W.contents output.old) (W.contents output.new) bytes) }
+{
     let mut block = [0u8; LEAST_READ as usize];
     tables.seek(SeekFrom::Start(extent.start))?;
     let mut left = extent.size;
-    for _ in 0..extent.size {
-        if left == 0 {
-            break;
-        }
+    while left > 0 {
         let next = left.min(LEAST_READ) as usize;
         let part = &mut block[..next];
         tables.read_exact(part)?;
         output.write_all(part)?;
-        left = left.saturating_sub(next as u64);
+        left -= next as u64;
     }
     Ok(())
 }
