@@ -1,6 +1,7 @@
 -- The earliest of expiries, one after the other.
-use Rattle.std.proofs.Common.{arith, ℕ, ◌≡◌, ◌≤◌, ◌⊎◌, List, [], ◌∷◌, ◌++◌, inl, inr, refl, sym, subst, ◌∙◌, ap}
+use Rattle.std.proofs.Common.{arith, ℕ, ◌≡◌, ◌≤◌, ◌⊎◌, List, [], ◌∷◌, ◌++◌, inl, inr, refl, sym, subst, ◌∙◌, ap, ◌+◌, ◌<◌, length, take, map, get_or}
 use Rattle.std.specs.Prelude.{Option, Some, None, All, Contains, IfSome, IsNone, min}
+use Rattle.std.proofs.lemmas.List.{take_more, map-append}
 use Rattle.std.proofs.lemmas.List.Elements.{All-append, Contains-append_left, Contains-append_right}
 use Rattle.mdb.specs.Expiries.{earlier_of, IsEarliest}
 
@@ -52,3 +53,15 @@ earliest_more xs (Some a) (Some b) h = (
       (λ k d below. not_before_less (min a b) a _ (omega arith) (h.1 k d below))
       (one (NotBefore (min a b)) (Some b) (omega arith)),
 )
+
+-- one more value that has an expiry
+pub earliest_with : {X : Type 0} (its : X → Option ℕ) (xs : List X) (i : ℕ) (d : X) (found next : Option ℕ)
+    → i < length xs → IsEarliest (map its (take i xs)) found → next ≡ earlier_of found (its (get_or xs i d))
+    → IsEarliest (map its (take (i + 1) xs)) next
+earliest_with {X} its xs i d found next below earliest is =
+    let x : X = get_or xs i d in
+    let more : map its (take (i + 1) xs) ≡ map its (take i xs) ++ its x ∷ [] =
+    ap (map its) (take_more xs i d below) ∙ map-append its (take i xs) (x ∷ []) in
+    subst (IsEarliest (map its (take (i + 1) xs))) (sym is)
+    (subst (λ l. IsEarliest l (earlier_of found (its x))) (sym more)
+    (earliest_more (map its (take i xs)) found (its x) earliest))

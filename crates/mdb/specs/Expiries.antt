@@ -1,6 +1,6 @@
 -- The expiry of a shard, and the earliest of some.
 use Rattle.std.specs.Prelude.{ℕ, ◌≡◌, ◌≤◌, ◌-◌, ◌^◌, ◌==◌, ◌||◌, Option, Some, None, if◌then◌else◌}
-use Rattle.std.specs.Prelude.{List, [], ◌∷◌, All, Contains, IfSome, IsNone, min}
+use Rattle.std.specs.Prelude.{List, [], ◌∷◌, All, Contains, IfSome, IsNone, map, min}
 use Rattle.std.specs.Borrow.{Bor}
 use Rattle.std.specs.List.{AllZip}
 use Rattle.xet_core_structures.specs.declared.shard_format.MDBShardInfo.{MDBShardInfo}
@@ -32,16 +32,11 @@ IsEarliest expiries None = All (λ x. IsNone x) expiries
 IsEarliest expiries (Some expiry) =
     Contains expiries (Some expiry) × All (λ x. IfSome x (λ other. expiry ≤ other)) expiries
 
--- the bytes have a header and a footer with this expiry
-abbrev pub IsExpiryOf : List ℕ → Option ℕ → Type 0
-IsExpiryOf bytes expiry =
-    (info : MDBShardInfo) × HasHeaderAndFooter bytes info × (expiry ≡ expiry_in info)
-
 -- the expiry of what is made of inputs, each with its file: of the earliest, none is before it that an
 -- input has
 abbrev pub IsNewExpiry : NewExpiry → List (Bor (List ℕ) × Bor (List ℕ)) → Option ℕ → Type 0
 IsNewExpiry Unset inputs expiry = expiry ≡ None
 IsNewExpiry (At time) inputs expiry = expiry ≡ Some time
 IsNewExpiry Earliest inputs expiry =
-    (expiries : List (Option ℕ)) × AllZip (λ p e. IsExpiryOf p.1.now e) inputs expiries
-    × IsEarliest expiries expiry
+    (infos : List MDBShardInfo) × AllZip (λ p info. HasHeaderAndFooter p.1.now info) inputs infos
+    × IsEarliest (map expiry_in infos) expiry

@@ -3,8 +3,6 @@ use Rattle.std.specs.Prelude.{ℕ, ◌≡◌, ◌⊎◌, List, [], ◌∷◌, ma
 use Rattle.std.specs.Borrow.{Bor}
 use Rattle.xet_core_structures.specs.declared.error.CoreError.{CoreError}
 use Rattle.xet_core_structures.specs.declared.merklehash.DataHash.{DataHash}
-use Rattle.xet_core_structures.specs.declared.shard_format.MDBShardInfo.{MDBShardInfo}
-use Rattle.xet_core_structures.specs.Ends.{HasHeaderAndFooter}
 use Rattle.xet_core_structures.specs.Hash.{hash_eq}
 use Rattle.xet_core_structures.specs.TwoShards.ByteResults.{LoadRefusal}
 use Rattle.mdb_report.specs.Faults.{IsFaultOf}
@@ -21,16 +19,10 @@ distinct (key ∷ keys) = key ∷ filter (λ other. not (hash_eq other key)) (di
 abbrev pub under : {T : Type 0} → DataHash → List T → List DataHash → List T
 under key values keys = map (λ p. p.0) (filter (λ p. hash_eq p.1 key) (zip values keys))
 
--- the bytes have a header and a footer with this key
-abbrev pub IsKeyOf : List ℕ → DataHash → Type 0
-IsKeyOf bytes key =
-    (info : MDBShardInfo) × HasHeaderAndFooter bytes info
-    × (info.metadata.chunk_hash_hmac_key ≡ key)
-
--- why the keys of inputs are not known: memory is lacking, or header and footer of an input are not
+-- why headers and footers of inputs are not known: memory is lacking, or those of an input are not
 -- read, and the failure is on its file
-abbrev pub NoKeys : List (Bor (List ℕ) × Bor (List ℕ)) → Failure → Type 0
-NoKeys inputs failure =
+abbrev pub NoInfos : List (Bor (List ℕ) × Bor (List ℕ)) → Failure → Type 0
+NoInfos inputs failure =
     (failure.fault ≡ OutOfMemory)
     ⊎ ((file bytes : Bor (List ℕ)) × Contains inputs (file, bytes) × (failure.subject ≡ File file)
     × ((e : CoreError) × LoadRefusal bytes.now e × IsFaultOf bytes.now e failure.fault))

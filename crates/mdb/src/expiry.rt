@@ -1,19 +1,19 @@
 //! Expiries: which shards have expired, and the earliest expiry of several.
 
-ghost use Rattle.std.specs.Prelude.{◌≡◌, ◌↔◌, zip, IsTrue, IfOk, MatchResult};
-ghost use Rattle.std.specs.List.{AllZip};
+ghost use Rattle.std.specs.Prelude.{◌≡◌, ◌↔◌, map, zip, IsTrue, IfOk, MatchResult};
 ghost use Rattle.xet_core_structures.specs.Layout.{layout};
 ghost use Rattle.xet_core_structures.specs.Shard.{Shard};
 ghost use Rattle.xet_core_structures.specs.WrittenShard.{IsBytesWithoutExpiry};
-ghost use Rattle.mdb.specs.Expiries.{expiry_in, earlier_of, HasCome, IsEarliest, IsExpiryOf, IsNewExpiry};
+ghost use Rattle.mdb.specs.Expiries.{expiry_in, earlier_of, HasCome, IsEarliest, IsNewExpiry};
 ghost use Rattle.mdb.specs.Writing.{HasExpiry, RefusesExpiry};
 
 use crate::blame::on_all;
 use crate::failure::Failure;
 use crate::files::{STANDARD_STREAM, read_ends};
+use crate::infos::infos_of;
 use crate::progress::Progress;
 use crate::request::NewExpiry;
-use mdb_report::fault::{Fault, fault_of};
+use mdb_report::fault::Fault;
 use mdb_report::moment::Moment;
 use mdb_report::shown::Shown;
 use shard_bytes::expiry::with_expiry;
@@ -57,37 +57,15 @@ pub fn earlier(one: Option<u64>, other: Option<u64>) -> Option<u64>
     }
 }
 
-/// The earliest of some expiries.
-pub fn earliest(expiries: &[Option<u64>]) -> Option<u64>
-    ensures { IsEarliest expiries.now result }
+// The earliest of the expiries that some footers say.
+fn earliest_in(infos: &[MDBShardInfo]) -> Option<u64>
+    ensures { IsEarliest (map expiry_in infos.now) result }
 {
     let mut found = None;
-    for expiry in expiries {
-        found = earlier(found, *expiry);
+    for info in infos {
+        found = earlier(found, expiry_of(info));
     }
     found
-}
-
-// The expiries of the shards in some inputs.
-fn expiries_in<'a>(
-    alloc: Global,
-    files: &[&'a str],
-    inputs: &[&[u8]],
-) -> Result<Vec<Option<u64>>, Failure<'a>>
-    ensures { IfOk result (λ expiries. AllZip (λ p expiry. IsExpiryOf p.1.now expiry)
-        (zip files.now inputs.now) expiries.items) }
-{
-    let mut expiries = Vec::new(alloc);
-    for (file, bytes) in files.iter().zip(inputs) {
-        let expiry = match load_bytes(alloc, bytes) {
-            Ok(info) => expiry_of(&info),
-            Err(error) => return Err(Failure::on_file(file, fault_of(alloc, bytes, error))),
-        };
-        if expiries.push(expiry).is_err() {
-            return Err(Failure::on_file(file, Fault::OutOfMemory));
-        }
-    }
-    Ok(expiries)
 }
 
 /// The expiry of what is made of the shards in some inputs.
@@ -103,8 +81,8 @@ pub fn new_expiry<'a>(
         NewExpiry::Unset => Ok(None),
         NewExpiry::At(time) => Ok(Some(time)),
         NewExpiry::Earliest => {
-            let expiries = expiries_in(alloc, files, inputs)?;
-            Ok(earliest(expiries.as_slice()))
+            let infos = infos_of(alloc, files, inputs)?;
+            Ok(earliest_in(infos.as_slice()))
         }
     }
 }

@@ -18,6 +18,7 @@ mod gc;
 mod hash_list;
 mod help;
 mod id;
+mod infos;
 mod input_removal;
 mod inputs;
 mod inspect;

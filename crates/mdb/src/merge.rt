@@ -1,11 +1,9 @@
 //! The command that merges shards.
 
 ghost use Rattle.std.specs.Prelude.{◌≡◌, List, ℕ, Option, zip, map, IfOk, MatchResult};
-ghost use Rattle.std.specs.List.{AllZip};
 ghost use Rattle.shard_bytes.specs.Merging.{MergesBytes};
 ghost use Rattle.xet_core_structures.specs.Trees.InVersions.{MadeIn};
 ghost use Rattle.mdb.specs.Expiries.{IsNewExpiry};
-ghost use Rattle.mdb.specs.Keys.{IsKeyOf, NoKeys};
 ghost use Rattle.mdb.specs.Merging.{UnitesTo, RefusesUnion, SaysNotMerged};
 ghost use Rattle.mdb.specs.Writing.{HasExpiry};
 
@@ -18,15 +16,15 @@ use crate::expiry::{expiring, new_expiry, report_expired_in, without_expired};
 use crate::failure::Failure;
 use crate::files::{Contents, STANDARD_STREAM, is_worth_reading, open_sized, read_ends};
 use crate::free_memory::free_memory;
+use crate::infos::{infos_of, keys_in};
 use crate::make::{contents_of, put};
 use crate::progress::{Progress, Stage};
 use crate::request::{Merge, Strictness, Target};
 use crate::rounds::merge_in_rounds;
 use crate::terminals::Terminals;
-use mdb_report::fault::{Fault, fault_of};
+use mdb_report::fault::Fault;
 use mdb_report::shown::Shown;
 use shard_bytes::agree::{AgreeingMerge, merge_agreeing_bytes};
-use shard_bytes::load::load_bytes;
 use shard_bytes::merge::merge_bytes;
 use std::alloc::{AllocError, Global};
 use std::fs;
@@ -205,7 +203,10 @@ fn merge_by_key<'a, R: Files + Print + Eprint + RandomSource + AllocGlobal + Clo
     progress: &mut Progress,
 ) -> Result<(), Failure<'a>> {
     let alloc = rt.alloc();
-    let keys = keys_of(alloc, files, inputs)?;
+    let infos = infos_of(alloc, files, inputs)?;
+    let Ok(keys) = keys_in(alloc, infos.as_slice()) else {
+        return Err(on_all(files, Fault::OutOfMemory));
+    };
     let Ok(distinct) = distinct_keys(alloc, keys.as_slice()) else {
         return Err(on_all(files, Fault::OutOfMemory));
     };
@@ -245,29 +246,6 @@ fn write_under<'a, R: Files + Print + Eprint + RandomSource + AllocGlobal + Clon
         Ok(()) => Ok(()),
         Err(failure) => Err(Failure::on_file(folder, failure.fault)),
     }
-}
-
-// The key of the shard in each input.
-fn keys_of<'a>(
-    alloc: Global,
-    files: &[&'a str],
-    inputs: &[&[u8]],
-) -> Result<Vec<HMACKey>, Failure<'a>>
-    ensures { MatchResult result
-        (λ keys. AllZip (λ p key. IsKeyOf p.1.now key) (zip files.now inputs.now) keys.items)
-        (NoKeys (zip files.now inputs.now)) }
-{
-    let mut keys = Vec::new(alloc);
-    for (file, bytes) in files.iter().zip(inputs) {
-        let key = match load_bytes(alloc, bytes) {
-            Ok(info) => info.metadata.chunk_hash_hmac_key,
-            Err(error) => return Err(Failure::on_file(file, fault_of(alloc, bytes, error))),
-        };
-        if keys.push(key).is_err() {
-            return Err(Failure::on_file(file, Fault::OutOfMemory));
-        }
-    }
-    Ok(keys)
 }
 
 /// The union of the inputs, with an expiry if one is wanted, in the version of the target.

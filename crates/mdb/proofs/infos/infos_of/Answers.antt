@@ -1,17 +1,17 @@
-use Rattle.std.proofs.Common.{arith, rules, List, ℕ, Bor, refl, ◌≡◌, length}
+use Rattle.std.proofs.Common.{arith, rules, List, ℕ, Bor, ◌≡◌, length}
 use Rattle.std.proofs.Common.{[], ◌∷◌, ◌++◌, take, zip, ap, sym, subst, ◌∙◌, inr}
 use Rattle.std.specs.List.{AllZip}
 use Rattle.std.proofs.lemmas.List.{take_all, length-append}
 use Rattle.std.proofs.lemmas.Slice.Zip.{zip_turn, zip_end, length-zip, all_zipped_more}
 use Rattle.xet_core_structures.specs.TwoShards.ByteResults.{LoadRefusal}
 use Rattle.mdb_report.specs.Faults.{IsFaultOf}
-use Rattle.xet_base.specs.declared.merklehash.DataHash.{DataHash}
-use Rattle.mdb.specs.Keys.{IsKeyOf}
+use Rattle.xet_core_structures.specs.Ends.{HasHeaderAndFooter}
+use Rattle.xet_core_structures.specs.declared.shard_format.MDBShardInfo.{MDBShardInfo}
 use Rattle.mdb.proofs.Zipped.{take_turn, contains_turn}
-use Rattle.mdb.proofs.merge.keys_of.Goals as goal
+use Rattle.mdb.proofs.infos.infos_of.Goals as goal
 
-abbrev HasKey : Bor (List ℕ) × Bor (List ℕ) → DataHash → Type 0
-HasKey p key = IsKeyOf p.1.now key
+abbrev HasInfo : Bor (List ℕ) × Bor (List ℕ) → MDBShardInfo → Type 0
+HasInfo p info = HasHeaderAndFooter p.1.now info
 
 -- the failure is on the file of this turn
 pub returns-in-Err : goal.returns-in-Err
@@ -31,10 +31,10 @@ returns-in-Err c =
     inr (c.in-Some.file.now, c.in-Some.bytes.now, found, c.on_file.ensures.subject, (c.in-Err.error, refusal, fault))
 
 pushed : (c : goal.Else-is_err)
-    → c.push.new.self.items ≡ c.loop-file.keys.items ++ c.in-Ok.info.metadata.chunk_hash_hmac_key ∷ []
+    → c.push.new.self.items ≡ c.loop-file.infos.items ++ c.in-Ok.info ∷ []
 pushed c = search rules
 
--- one more key, of the shard of this turn
+-- one more header and footer, of the shard of this turn
 pub loop-file-preserved : goal.loop-file-preserved
 loop-file-preserved c =
     let files = c.args.files.now in
@@ -50,10 +50,10 @@ loop-file-preserved c =
     (turn.2 c.in-Some.file.now) (turn.3 c.in-Some.bytes.now) in
     let count = length-append yielded ((c.in-Some.file, c.in-Some.bytes) ∷ []) in
     let longer =
-    all_zipped_more HasKey (take (length yielded) (zip files inputs)) c.loop-file.keys.items pair
-    c.in-Ok.info.metadata.chunk_hash_hmac_key c.loop-file.invariant (c.in-Ok.info, c.in-Ok.ensures, refl) in
-    subst (λ l. AllZip HasKey l c.push.new.self.items) (sym more ∙ ap (λ n. take n (zip files inputs)) (sym count)) (
-    subst (AllZip HasKey (take (length yielded) (zip files inputs) ++ pair ∷ [])) (sym (pushed c)) longer
+    all_zipped_more HasInfo (take (length yielded) (zip files inputs)) c.loop-file.infos.items pair
+    c.in-Ok.info c.loop-file.invariant c.in-Ok.ensures in
+    subst (λ l. AllZip HasInfo l c.push.new.self.items) (sym more ∙ ap (λ n. take n (zip files inputs)) (sym count)) (
+    subst (AllZip HasInfo (take (length yielded) (zip files inputs) ++ pair ∷ [])) (sym (pushed c)) longer
     )
 
 -- all shards were met
@@ -64,6 +64,6 @@ returns c =
     zip_end c.args.files.now c.args.inputs.now c.loop-file.yielded c.into_iter-file-iterator.result
     c.loop-file.file-iterator c.next.new.self c.next.result (search rules) (search rules) c.loop-file.yielded_by
     c.in-None.is c.next.ensures.steps in
-    subst (λ l. AllZip (λ p key. IsKeyOf p.1.now key) l c.loop-file.keys.items) (
+    subst (λ l. AllZip (λ p info. HasHeaderAndFooter p.1.now info) l c.loop-file.infos.items) (
     take_all (length c.loop-file.yielded) zipped (omega (arith, count, length-zip c.args.files.now c.args.inputs.now))
     ) c.loop-file.invariant
