@@ -6,7 +6,7 @@
 //! rows are written at once. The rows of the tables wait in a second file, which is removed from its
 //! folder as soon as it is made.
 
-ghost use Rattle.std.specs.Prelude.{◌≡◌, map, IfOk};
+ghost use Rattle.std.specs.Prelude.{◌≡◌, ◌/◌, ◌<◌, map, IfOk};
 
 mod assembly;
 pub mod block;
@@ -241,7 +241,10 @@ fn unlinked_file<R: Files + RandomSource + AllocGlobal>(
 }
 
 // The quotient of a number by a number of parts; the number itself if there is no part.
-fn share_of(number: u64, parts: u64) -> u64 {
+fn share_of(number: u64, parts: u64) -> u64
+    ensures none { parts ≡ 0 → result ≡ number }
+    ensures some { 0 < parts → result ≡ number / parts }
+{
     match number.checked_div(parts) {
         Some(share) => share,
         None => number,

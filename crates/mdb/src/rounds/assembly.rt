@@ -1,7 +1,7 @@
 //! A shard that is written in parts: first the rows of all its files, then those of all its xorbs,
 //! then the tables, whose rows wait in another file.
 
-ghost use Rattle.std.specs.Prelude.{◌≡◌, ◌+◌, ◌-◌, ◌/◌, ◌++◌, ◌≤◌, ℕ, List, All, length, map, flat_map, drop, slice_range, IfOk, OnOk};
+ghost use Rattle.std.specs.Prelude.{◌≡◌, ◌+◌, ◌-◌, ◌/◌, ◌++◌, ◌≤◌, ℕ, List, All, length, map, flat_map, drop, slice_range, true, false, IfOk, OnOk};
 ghost use Rattle.std.specs.Io.KnownBytes.{Appends};
 ghost use Rattle.xet_records.specs.XorbRow.{xorb_header_row};
 ghost use Rattle.xet_records.specs.XorbRecord.{xorb_bookend};
@@ -77,16 +77,30 @@ impl<F: Read + Write + Seek + Drop> Assembly<F> {
     /// if there are more rows than a section may have.
     pub fn add(&mut self, section: Section, part: &mut [u8]) -> Result<()> {
         let footer = load_bytes(self.alloc, part)?.metadata;
-        if !self.has_header {
-            let header = range(self.alloc, part, 0, HEADER_SIZE as u64)?;
-            self.output.write_all(header)?;
-            self.has_header = true;
-        }
+        self.write_header(part)?;
         self.counts = self.counts.with_sums(self.alloc, &footer)?;
         match section {
             Section::Files => self.add_files(&footer, part),
             Section::Xorbs => self.add_xorbs(&footer, part),
         }
+    }
+
+    // Writes the header of a part, unless one is written.
+    fn write_header(&mut self, part: &[u8]) -> Result<()>
+        ensures first { self.old.has_header ≡ false → OnOk result
+            (Appends (F.contents self.old.output) (F.contents self.new.output)
+            (slice_range part.now 0 48)) }
+        ensures later { self.old.has_header ≡ true
+            → OnOk result (self.new.output ≡ self.old.output) }
+        ensures written { OnOk result (self.new.has_header ≡ true) }
+        ensures others { (self.new.tables ≡ self.old.tables) × (self.new.counts ≡ self.old.counts) }
+    {
+        if !self.has_header {
+            let header = range(self.alloc, part, 0, HEADER_SIZE as u64)?;
+            self.output.write_all(header)?;
+            self.has_header = true;
+        }
+        Ok(())
     }
 
     // Writes the rows of the files of a part with this footer, and keeps those of its file table.

@@ -1,5 +1,7 @@
 //! Findings on which a merge may depend, or for which a strict one is refused.
 
+ghost use Rattle.std.specs.Prelude.{◌≡◌, ◌<◌, ◌≤◌, ◌↔◌, None, IsTrue, MatchOption};
+
 use crate::blame::{disagreement_under, malformed_in};
 use crate::failure::Failure;
 use std::alloc::Global;
@@ -29,7 +31,9 @@ impl Findings {
     }
 
     /// Whether there is none.
-    pub fn is_empty(&self) -> bool {
+    pub fn is_empty(&self) -> bool
+        ensures { IsTrue result ↔ ((self.now.malformed ≡ None) × (self.now.differing ≡ None)) }
+    {
         self.malformed.is_none() && self.differing.is_none()
     }
 
@@ -64,7 +68,10 @@ impl Findings {
 }
 
 // The record that was found earlier, unless the other is of a shard before its.
-fn first_of(earlier: Option<MalformedRecord>, found: MalformedRecord) -> MalformedRecord {
+fn first_of(earlier: Option<MalformedRecord>, found: MalformedRecord) -> MalformedRecord
+    ensures { MatchOption earlier (result ≡ found)
+        (λ e. (e.input ≤ found.input → result ≡ e) × (found.input < e.input → result ≡ found)) }
+{
     match earlier {
         Some(earlier) if earlier.input <= found.input => earlier,
         _ => found,
