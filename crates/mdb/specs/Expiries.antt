@@ -1,6 +1,6 @@
 -- The expiry of a shard, and the earliest of some.
 use Rattle.std.specs.Prelude.{ℕ, ◌≡◌, ◌≤◌, ◌-◌, ◌^◌, ◌==◌, ◌||◌, Option, Some, None, if◌then◌else◌}
-use Rattle.std.specs.Prelude.{List, [], ◌∷◌, All, Contains, IfSome, IsNone, map, min}
+use Rattle.std.specs.Prelude.{List, All, Contains, IfSome, IsNone, map, min}
 use Rattle.std.specs.Borrow.{Bor}
 use Rattle.std.specs.List.{AllZip}
 use Rattle.xet_core_structures.specs.declared.shard_format.MDBShardInfo.{MDBShardInfo}

@@ -1,4 +1,4 @@
-use Rattle.std.proofs.Common.{◌≡◌, ◌∙◌, map}
+use Rattle.std.proofs.Common.{◌∙◌, map}
 use Rattle.std.proofs.lemmas.Result.{MatchResult-weaker}
 use Rattle.mdb.proofs.RowNumbers.{chunk_as_row, chunks_as_rows, chunks_later, chunks_are_rows, chunks_fit}
 use Rattle.mdb.proofs.rounds.row_numbers.shift_chunk_rows.Goals as goal

@@ -1,4 +1,4 @@
-use Rattle.std.proofs.Common.{arith, rules, ap, subst, sym, ◌∙◌, ◌≡◌, ◌+◌, ◌++◌}
+use Rattle.std.proofs.Common.{arith, rules, subst, ◌≡◌, ◌+◌, ◌++◌}
 use Rattle.xet_base.specs.Bytes.{u32_bytes}
 use Rattle.mdb.proofs.RowNumbers.{number_read, number_put}
 use Rattle.mdb.proofs.rounds.row_numbers.shift_row_number.Goals as goal

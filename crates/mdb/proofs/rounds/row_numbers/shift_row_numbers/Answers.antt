@@ -1,6 +1,6 @@
-use Rattle.std.proofs.Common.{arith, rules, ◌≡◌, ◌+◌, ◌≤◌, length}
+use Rattle.std.proofs.Common.{arith, ◌≡◌, ◌+◌, ◌≤◌, length}
 use Rattle.std.proofs.lemmas.Result.{err_from_is_err_and}
-use Rattle.mdb.proofs.RowNumbers.{none_raised, one_more_raised, number_passes, all_raised}
+use Rattle.mdb.proofs.RowNumbers.{one_more_raised, number_passes, all_raised}
 use Rattle.mdb.proofs.rounds.row_numbers.shift_row_numbers.Goals as goal
 
 pub loop-rows-preserved : goal.loop-rows-preserved

@@ -1,4 +1,4 @@
-use Rattle.std.proofs.Common.{◌≡◌, ◌∙◌, map}
+use Rattle.std.proofs.Common.{◌∙◌, map}
 use Rattle.std.proofs.lemmas.Result.{MatchResult-weaker}
 use Rattle.mdb.proofs.RowNumbers.{start_as_row, starts_as_rows, starts_later, starts_are_rows, starts_fit}
 use Rattle.mdb.proofs.rounds.row_numbers.shift_starts.Goals as goal
