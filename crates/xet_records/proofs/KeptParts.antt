@@ -1,10 +1,9 @@
 -- The parts of a record that are written, in the bytes of a view.
-use Rattle.std.proofs.Common.{◌≡◌, ℕ, ◌+◌, ◌≤◌, ◌-◌, List, [], ◌∷◌, ◌++◌, length, flat_map, Bool, true, false, refl, sym, ap, ◌∙◌, arith, append-nil, subst, ◌≢◌, if◌then◌else◌}
-use Rattle.std.specs.Prelude.{not, ◌&&◌, ◌||◌, ◌==◌, All}
+use Rattle.std.proofs.Common.{◌≡◌, ℕ, ◌+◌, ◌≤◌, ◌-◌, List, [], ◌∷◌, ◌++◌, length, flat_map, Bool, true, false, refl, sym, ap, ◌∙◌, arith, subst, ◌≢◌, true≢false, if◌then◌else◌}
+use Rattle.std.specs.Prelude.{not, ◌&&◌, ◌||◌, ◌==◌, IsTrue, All}
 use Rattle.std.specs.Int.{bit_at}
 use Rattle.std.proofs.lemmas.List.{append_assoc}
 use Rattle.std.proofs.lemmas.List.Elements.{All-nil}
-use Rattle.std.proofs.lemmas.List.Concat.{length-flat_map}
 use Rattle.xet_records.specs.declared.file_structs.header.FileDataSequenceHeader.{FileDataSequenceHeader}
 use Rattle.xet_records.specs.declared.file_structs.part.OptionalPart.{OptionalPart}
 use Rattle.xet_records.specs.declared.file_structs.part.OptionalPart.TheVariants.{Verification, MetadataExt, AuxExt}
@@ -15,7 +14,7 @@ use Rattle.xet_records.specs.Part.{parts, with_parts, announces, flags_of, size_
 use Rattle.xet_records.specs.FileRecord.{has_verification, has_aux_ext, file_record_bytes, file_rows_bytes, row_count, FitsItsHeader, FitsRecord, IsStored, IsWellFormed}
 use Rattle.xet_records.specs.View.{KeptParts, keeping, without_verification, without_aux, as_wanted, aux_as_wanted, as_kept}
 use Rattle.xet_records.specs.Steps.View.{keeps}
-use Rattle.xet_records.proofs.Merging.{one, one_announced, part_absent}
+use Rattle.xet_records.proofs.Merging.{one, one_announced, part_absent, announces-flags_of}
 use Rattle.xet_records.proofs.Parts.{for_parts, rows_bytes, fewer, fewer_rows, rows_of-keeping, same_record, All-part, All-parts}
 
 -- the segments and the rows of each part
@@ -80,22 +79,13 @@ fewer-kept kept r part = either kept.aux_ext (has_verification r.metadata.file_f
         let s = if leaves_out then without_verification r else r in
         omega (arith, dropped (all_but AuxExt) (without_aux s).metadata s, first leaves_out)
 
--- their number
-pub row_count-parts : (r : MDBFileInfo) → row_count r ≡ 1 + length r.segments + (length (rows_of Verification r) + length (rows_of MetadataExt r) + length (rows_of AuxExt r))
-row_count-parts r = omega (arith, length-flat_map (λ part. rows_of part r) parts)
-
--- and their bytes
-five : (a b c d e : List ℕ) → (((a ++ b) ++ c) ++ d) ++ e ≡ a ++ (b ++ (c ++ (d ++ (e ++ []))))
-five a b c d e = simp (append_assoc, append-nil)
-
+-- their bytes
 pub parts_joined : (s : MDBFileInfo) (header_bytes segment_bytes : List ℕ) → header_bytes ≡ header_row s.metadata → segment_bytes ≡ flat_map segment_row s.segments
-    → (((header_bytes ++ segment_bytes) ++ flat_map hash_row (rows_of Verification s)) ++ flat_map hash_row (rows_of MetadataExt s)) ++ flat_map hash_row (rows_of AuxExt s)
-    ≡ file_record_bytes s
+    → (header_bytes ++ segment_bytes) ++ flat_map (λ part. flat_map hash_row (rows_of part s)) parts ≡ file_record_bytes s
 unfolding file_record_bytes file_rows_bytes
 parts_joined s header_bytes segment_bytes header_is segments_are =
-    (λ i. (((header_is i ++ segments_are i) ++ flat_map hash_row (rows_of Verification s)) ++ flat_map hash_row (rows_of MetadataExt s)) ++ flat_map hash_row (rows_of AuxExt s))
-    ∙ five (header_row s.metadata) (flat_map segment_row s.segments) (flat_map hash_row (rows_of Verification s)) (flat_map hash_row (rows_of MetadataExt s)) (flat_map hash_row (rows_of AuxExt s))
-    ∙ ap (λ bs. header_row s.metadata ++ (flat_map segment_row s.segments ++ bs)) (sym (rows_bytes hash_row (λ part. rows_of part s) parts))
+    (λ i. (header_is i ++ segments_are i) ++ sym (rows_bytes hash_row (λ part. rows_of part s) parts) i)
+    ∙ append_assoc (header_row s.metadata) (flat_map segment_row s.segments) (flat_map hash_row (optional_rows s))
 
 -- a record of which all parts are kept is as it is
 no_aux : (r : MDBFileInfo) → FitsItsHeader r → has_aux_ext r.metadata.file_flags ≡ false → without_aux r ≡ r
@@ -105,26 +95,22 @@ no_aux r whole none =
     (λ part. rows_of-keeping (all_but AuxExt) _ r part
     ∙ for_parts (λ p. (if all_but AuxExt p then rows_of p r else []) ≡ rows_of p r) refl refl (sym (part_absent r whole AuxExt none)) part)
 
-pub all_kept : (kept : KeptParts) (r : MDBFileInfo) → FitsItsHeader r → (kept.verification || not (has_verification r.metadata.file_flags)) ≡ true
-    → (kept.aux_ext || not (has_aux_ext r.metadata.file_flags)) ≡ true → as_kept kept r ≡ r
-all_kept kept r whole verification aux =
-    ap (λ b. aux_as_wanted kept.aux_ext (if b then without_verification r else r)) (none_out (has_verification r.metadata.file_flags) kept.verification verification)
-    ∙ aux_in kept.aux_ext (has_aux_ext r.metadata.file_flags) refl aux
+pub all_kept : (kept : KeptParts) (r : MDBFileInfo) → FitsItsHeader r → ((part : OptionalPart) → IsTrue (announces r.metadata.file_flags part) → IsTrue (keeps kept part)) → as_kept kept r ≡ r
+all_kept kept r whole keeps_all =
+    ap (λ b. aux_as_wanted kept.aux_ext (if b then without_verification r else r)) (none_out (has_verification r.metadata.file_flags) kept.verification kept.aux_ext (keeps_all Verification))
+    ∙ aux_in kept.aux_ext kept.verification (has_aux_ext r.metadata.file_flags) refl (keeps_all AuxExt)
   where
-    none_out : (has wanted : Bool) → (wanted || not has) ≡ true → (has && not wanted) ≡ false
-    none_out false wanted holds = refl
-    none_out true true holds = refl
-    none_out true false holds = cc
+    none_out : (has wanted aux : Bool) → (IsTrue has → IsTrue ((wanted || false) && (aux || true))) → (has && not wanted) ≡ false
+    none_out false wanted aux stays = refl
+    none_out true true aux stays = refl
+    none_out true false aux stays = sym (stays refl)
 
-    aux_in : (wanted has : Bool) → has_aux_ext r.metadata.file_flags ≡ has → (wanted || not has) ≡ true → aux_as_wanted wanted r ≡ r
-    aux_in true has is holds = refl
-    aux_in false false is holds = no_aux r whole is
-    aux_in false true is holds = cc
-
-pub both_true : (a b : Bool) → (a && b) ≡ true → (a ≡ true) × (b ≡ true)
-both_true true true holds = (refl, refl)
-both_true true false holds = cc
-both_true false b holds = cc
+    aux_in : (wanted verification has : Bool) → has_aux_ext r.metadata.file_flags ≡ has → (IsTrue (has_aux_ext r.metadata.file_flags) → IsTrue ((verification || true) && (wanted || false)))
+        → aux_as_wanted wanted r ≡ r
+    aux_in true verification has is stays = refl
+    aux_in false verification false is stays = no_aux r whole is
+    aux_in false true true is stays = absurd (true≢false (sym (stays is)))
+    aux_in false false true is stays = absurd (true≢false (sym (stays is)))
 
 -- a record that keeps some of its parts has no more rows, and fits a header that announces what is kept
 module _ (stays : OptionalPart → Bool) (h : FileDataSequenceHeader) (r : MDBFileInfo) where
@@ -221,3 +207,17 @@ module _ (r : MDBFileInfo) where
     rows = omega (arith, without_aux-rows, formed.rows);
     widths = without_aux-fits formed.widths;
   }
+
+-- a record fits its header with the parts that are kept
+pub kept-whole : (kept : KeptParts) (r : MDBFileInfo) → FitsItsHeader r → FitsItsHeader (as_kept kept r)
+kept-whole kept r whole = either kept.aux_ext (has_verification r.metadata.file_flags && not kept.verification)
+  where
+    first : (leaves_out : Bool) → FitsItsHeader (if leaves_out then without_verification r else r)
+    first true =
+        keeping-whole (all_but Verification) (without_verification r).metadata r whole refl
+        (announces-flags_of (λ part. all_but Verification part && announces r.metadata.file_flags part))
+    first false = whole
+
+    either : (aux leaves_out : Bool) → FitsItsHeader (aux_as_wanted aux (if leaves_out then without_verification r else r))
+    either true leaves_out = first leaves_out
+    either false leaves_out = without_aux-whole (if leaves_out then without_verification r else r) (first leaves_out)

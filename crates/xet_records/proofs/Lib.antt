@@ -4,6 +4,7 @@ pub mod Flags
 pub mod RecordsAsRead
 pub mod Lengths
 pub mod Parts
+pub mod PartSets
 pub mod Processing
 pub mod Reading
 pub mod Record

@@ -25,7 +25,7 @@ one_small : (b : Bool) → one b < 2
 one_small true = omega arith
 one_small false = omega arith
 
-flag_is : (b : Bool) (n : ℕ) → (if b then n else 0) ≡ one b * n
+pub flag_is : (b : Bool) (n : ℕ) → (if b then n else 0) ≡ one b * n
 flag_is true n = omega arith
 flag_is false n = omega arith
 
@@ -73,7 +73,7 @@ announces-flags_of wanted part =
     none AuxExt = refl
 
 -- flags whose other bits are zero are those of the parts that they announce
-flags_are_known : (wanted : OptionalPart → Bool) → flags_of wanted ≡ flags_of (announces (flags_of wanted))
+pub flags_are_known : (wanted : OptionalPart → Bool) → flags_of wanted ≡ flags_of (announces (flags_of wanted))
 flags_are_known wanted = λ i. flags_of (λ part. sym (announces-flags_of wanted part) i)
 
 -- sums over parts
@@ -98,6 +98,20 @@ no_rows (x ∷ xs) none = absurd (omega (arith, none))
 pub part_absent : (r : MDBFileInfo) → FitsItsHeader r → (part : OptionalPart) → has_part r part ≡ false → rows_of part r ≡ []
 part_absent r whole part absent =
     no_rows (rows_of part r) (whole.parts part ∙ ap (λ (b : Bool). if b then size_of_part part r.metadata.num_entries else 0) absent)
+
+-- a record takes nothing from one whose parts it has
+pub nothing_taken : (a b : MDBFileInfo) → ((part : OptionalPart) → IsTrue (has_part b part) → IsTrue (has_part a part)) → merged a b ≡ a
+nothing_taken a b has_all =
+    let none : (part : OptionalPart) → (has_part b part && not (has_part a part)) ≡ false = λ part. none_gained (has_part a part) (has_part b part) (has_all part) in
+    let flags : a.metadata.file_flags + flags_of (λ part. has_part b part && not (has_part a part)) ≡ a.metadata.file_flags =
+    (λ i. a.metadata.file_flags + flags_of (λ part. none part i)) ∙ omega arith in
+    (λ i. with_parts (record a.metadata { file_flags = flags i }) a.segments (λ part. if none part i then rows_of part b else rows_of part a)) ∙ with_parts-rows_of a
+  where
+    none_gained : (has gives : Bool) → (IsTrue gives → IsTrue has) → (gives && not has) ≡ false
+    none_gained true true has_it = refl
+    none_gained true false has_it = refl
+    none_gained false true has_it = sym (has_it refl)
+    none_gained false false has_it = refl
 
 -- one of two parts
 module _ {X : Type 0} where

@@ -1,6 +1,8 @@
 -- The rows of each optional part among the rows of all parts, and the record that has given parts.
-use Rattle.std.proofs.Common.{◌≡◌, ℕ, ◌+◌, ◌≤◌, List, [], ◌∷◌, ◌++◌, length, take, drop, flat_map, Bool, true, false, Option, None, Some, refl, sym, ap, ◌∙◌, arith, if◌then◌else◌}
-use Rattle.std.specs.Prelude.{All, map, sum_by, slice_get, option_map, option_to_list}
+use Rattle.std.proofs.Common.{◌≡◌, ℕ, ◌+◌, ◌≤◌, List, [], ◌∷◌, ◌++◌, length, take, drop, flat_map, Bool, true, false, Option, None, Some, refl, sym, ap, ◌∙◌, arith, true≢false, if◌then◌else◌}
+use Rattle.std.specs.Prelude.{All, IsTrue, ◌↔◌, ◌<◌, map, sum_by, slice_get, slice_index_or, option_map, option_to_list}
+use Rattle.std.specs.Bool.{MatchBool}
+use Rattle.std.specs.List.{AllWithin, HoldsAt}
 use Rattle.std.proofs.lemmas.List.{length-append, length-map, length-take-le, length-drop, take-append-drop, take-map, drop-map, drop-drop, drop_all}
 use Rattle.std.proofs.lemmas.List.Concat.{length-flat_map}
 use Rattle.std.proofs.lemmas.List.Elements.{All-append, All-take, All-drop, All-same}
@@ -22,6 +24,12 @@ pub for_parts : (P : OptionalPart → Type 0) → P Verification → P MetadataE
 for_parts P v m a Verification = v
 for_parts P v m a MetadataExt = m
 for_parts P v m a AuxExt = a
+
+-- a test of each part is one of all
+pub every_part : (P : OptionalPart → Type 0) (b : Bool) → MatchBool b (AllWithin P parts 0 (length parts)) ((k : ℕ) × (k < length parts) × HoldsAt (λ part. ¬ P part) parts k)
+    → IsTrue b ↔ ((part : OptionalPart) → P part)
+every_part P true all = (λ yes. for_parts P (all 0 Verification (omega arith) (omega arith)) (all 1 Verification (omega arith) (omega arith)) (all 2 Verification (omega arith) (omega arith)), λ each. refl)
+every_part P false (k, below, not_there) = (λ no. absurd (true≢false (sym no)), λ each. absurd (not_there Verification (each (slice_index_or parts k Verification))))
 
 -- the rows of parts that are told one by one
 abbrev pub these_rows : List HashRow → List HashRow → List HashRow → OptionalPart → List HashRow

@@ -4,7 +4,7 @@ use Rattle.xet_records.specs.declared.file_structs.header.FileDataSequenceHeader
 use Rattle.xet_records.specs.declared.file_structs.part.OptionalPart.TheVariants.{Verification, MetadataExt, AuxExt}
 use Rattle.xet_records.specs.declared.file_structs.rows.HashRow.{HashRow}
 use Rattle.xet_records.specs.declared.file_structs.MDBFileInfo.{MDBFileInfo}
-use Rattle.xet_records.specs.Part.{flags_of, these_parts, rows_before, rows_of, optional_rows, with_parts}
+use Rattle.xet_records.specs.Part.{is_part, flags_of, these_parts, rows_before, rows_of, optional_rows, with_parts}
 use Rattle.xet_records.proofs.Parts.{these_rows}
 
 row : ℕ → HashRow
@@ -17,8 +17,8 @@ header = record { file_hash = record { word0 = 7; word1 = 0; word2 = 0; word3 = 
 whole : MDBFileInfo
 whole = record { metadata = header; segments = []; verification = row 1 ∷ row 2 ∷ []; metadata_ext = Some (row 3); aux_ext = Some (row 4) }
 
-flags : (flags_of (these_parts true false false) ≡ 2147483648) × (flags_of (these_parts false true false) ≡ 1073741824)
-    × (flags_of (these_parts false false true) ≡ 536870912) × (flags_of (these_parts true true true) ≡ 3758096384)
+flags : (flags_of (these_parts true false) ≡ 2147483648) × (flags_of (these_parts false true) ≡ 1073741824)
+    × (flags_of (is_part AuxExt) ≡ 536870912) × (flags_of (λ part. true) ≡ 3758096384)
 flags = (refl, refl, refl, refl)
 
 rows : (rows_of Verification whole ≡ row 1 ∷ row 2 ∷ []) × (rows_of MetadataExt whole ≡ row 3 ∷ []) × (rows_of AuxExt whole ≡ row 4 ∷ [])

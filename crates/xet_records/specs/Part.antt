@@ -1,5 +1,5 @@
 -- The optional parts of a file's record: the flag that announces each, and its rows.
-use Rattle.std.specs.Prelude.{ℕ, ◌+◌, ◌-◌, ◌^◌, ◌==◌, Bool, not, List, [], ◌∷◌, take, drop, flat_map, sum_by, slice_get, option_to_list, if◌then◌else◌}
+use Rattle.std.specs.Prelude.{ℕ, ◌+◌, ◌-◌, ◌^◌, ◌==◌, Bool, false, not, List, [], ◌∷◌, take, drop, flat_map, sum_by, slice_get, option_to_list, if◌then◌else◌}
 use Rattle.std.specs.Int.{bit_at}
 use Rattle.xet_records.specs.declared.file_structs.header.FileDataSequenceHeader.{FileDataSequenceHeader}
 use Rattle.xet_records.specs.declared.file_structs.part.OptionalPart.{OptionalPart}
@@ -23,6 +23,10 @@ abbrev pub bit_of : OptionalPart → ℕ
 bit_of Verification = 31
 bit_of MetadataExt = 30
 bit_of AuxExt = 29
+
+-- whether two parts are the same
+abbrev pub is_part : OptionalPart → OptionalPart → Bool
+is_part one other = bit_of other == bit_of one
 
 -- whether flags announce the part
 abbrev pub announces : ℕ → OptionalPart → Bool
@@ -74,11 +78,11 @@ with_parts h segments rows = record {
 abbrev pub part_of : OptionalPart → FileDataSequenceHeader → List HashRow → List HashRow
 part_of part h rows = take (part_rows part h) (drop (rows_before part h) rows)
 
--- the parts that these say are there
-abbrev pub these_parts : Bool → Bool → Bool → OptionalPart → Bool
-these_parts verification metadata aux Verification = verification
-these_parts verification metadata aux MetadataExt = metadata
-these_parts verification metadata aux AuxExt = aux
+-- verification rows and a metadata row, as these say, and no other part
+abbrev pub these_parts : Bool → Bool → OptionalPart → Bool
+these_parts verification metadata Verification = verification
+these_parts verification metadata MetadataExt = metadata
+these_parts verification metadata _ = false
 
 -- flags with the bit of a part set or cleared, and the other 31 bits as they are
 abbrev pub with_flag : OptionalPart → Bool → ℕ → ℕ
@@ -88,4 +92,4 @@ with_flag part wanted flags =
 
 -- all parts but one
 abbrev pub all_but : OptionalPart → OptionalPart → Bool
-all_but dropped part = not (bit_of part == bit_of dropped)
+all_but dropped part = not (is_part dropped part)

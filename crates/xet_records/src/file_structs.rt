@@ -18,7 +18,7 @@ use crate::record_reader::{FormatVersion, MAX_ROWS_OF_RECORD, SectionRecord, rea
 use crate::row_reader;
 use crate::rows::{ROW_SIZE, Rows, write_optional, write_row, write_rows};
 pub use header::{FileDataSequenceHeader, SupersetResult};
-pub use part::OptionalPart;
+pub use part::{OptionalPart, Parts};
 pub use rows::{
     FileAuxExt, FileDataSequenceEntry, FileMetadataExt, FileVerificationEntry, HashRow,
 };
@@ -185,10 +185,11 @@ impl MDBFileInfo {
     }
 
     // Whether only `other` has a part.
+    #[tactic(auto, using(crate::proofs::PartSets::in_set))]
     fn takes(&self, other: &Self, part: OptionalPart) -> bool
         ensures { result ≡ (has_part other.now part && not (has_part self.now part)) }
     {
-        self.metadata.gains(&other.metadata, part)
+        self.metadata.gained_parts(&other.metadata).contains(part)
     }
 
     /// A copy of the record, or `OutOfMemory`.

@@ -38,7 +38,7 @@ use Rattle.xet_core_structures.specs.Steps.Differing.{Covers}
 use Rattle.xet_core_structures.specs.Steps.Parts.{PlacesShard}
 use Rattle.xet_core_structures.specs.Steps.Placed.{Places, MakesPlaced, MakesNothing}
 use Rattle.xet_core_structures.proofs.LawProofs.FileLookups.{union_under}
-use Rattle.xet_core_structures.proofs.Records.Equalities.{announces_more}
+use Rattle.xet_core_structures.proofs.Records.Equalities.{announces_more, agrees_too}
 use Rattle.xet_core_structures.proofs.Records.ListMaps.{get-list_map, shard_of, lists_hold}
 use Rattle.xet_core_structures.proofs.Records.ShardContents.{only_shard}
 use Rattle.xet_core_structures.proofs.Trees.TreeXorbs.{shard_under}
@@ -54,6 +54,10 @@ module _ {H R : Type 0} (K : RecordKind H R) (agree : R → R → Type 0) (makes
   made_if_agreed None agrees none = λ r s one other t (agreed, made). none r s one other t made
   made_if_agreed (Some p) agrees (hash, makes_it) = (hash, λ r s one other. let made = makes_it r s one other in (made.0, made.1, (agrees r s one other, made.2)))
 
+-- two files agree either way
+turned : (a b : MDBFileInfo) → Agree a b → Agree b a
+turned a b agree = record { segments = sym agree.segments; parts = λ part has also. sym (agree.parts part also has) }
+
 -- the union of two files that agree covers both
 module _ (a b c : MDBFileInfo) (agree : Agree a b) where
   has_mixed : (part : OptionalPart) → has_part (mixed a b) part ≡ (has_part a part || has_part b part)
@@ -65,13 +69,7 @@ module _ (a b c : MDBFileInfo) (agree : Agree a b) where
   covers_first : IsUnitedFile a b c → Covers Agree c a
   covers_first (inl (more, is)) t agrees = subst (λ r. Agree r t) is agrees
   covers_first (inr (inl (lacks, more, is))) t agrees =
-      let other = subst (λ r. Agree r t) is agrees in
-      record {
-        segments = agree.segments ∙ other.segments;
-        parts = λ part has also.
-            let both = announces_more b.metadata.file_flags a.metadata.file_flags part more has in
-            agree.parts part has both ∙ other.parts part both also;
-      }
+      agrees_too b a t (λ part. announces_more b.metadata.file_flags a.metadata.file_flags part more) (turned a b agree) (subst (λ r. Agree r t) is agrees)
   covers_first (inr (inr (lacks, wants, count, is))) t agrees =
       let mix = subst (λ r. Agree r t) is agrees in
       record {
@@ -91,13 +89,7 @@ module _ (a b c : MDBFileInfo) (agree : Agree a b) where
 
   covers_second : IsUnitedFile a b c → Covers Agree c b
   covers_second (inl (more, is)) t agrees =
-      let one = subst (λ r. Agree r t) is agrees in
-      record {
-        segments = sym agree.segments ∙ one.segments;
-        parts = λ part has also.
-            let both = announces_more a.metadata.file_flags b.metadata.file_flags part more has in
-            sym (agree.parts part both has) ∙ one.parts part both also;
-      }
+      agrees_too a b t (λ part. announces_more a.metadata.file_flags b.metadata.file_flags part more) agree (subst (λ r. Agree r t) is agrees)
   covers_second (inr (inl (lacks, more, is))) t agrees = subst (λ r. Agree r t) is agrees
   covers_second (inr (inr (lacks, wants, count, is))) t agrees =
       let mix = subst (λ r. Agree r t) is agrees in
@@ -124,9 +116,6 @@ further s t u one other = record {
       (second.0, second.1, λ r agrees. first.2 r (second.2 r agrees));
   xorbs = λ q a at. other.xorbs q a (one.xorbs q a at);
 }
-
-turned : (a b : MDBFileInfo) → Agree a b → Agree b a
-turned a b agree = record { segments = sym agree.segments; parts = λ part has also. sym (agree.parts part also has) }
 
 covered_agree : (s t u v : Shard) → IsCovered s u → IsCovered t v → ShardsAgree u v → ShardsAgree s t
 covered_agree s t u v one other agree = record {

@@ -1,13 +1,12 @@
 -- Derived equality of rows decides whether they are equal.
-use Rattle.std.proofs.Common.{◌≡◌, ℕ, Bool, true, false, List, [], ◌∷◌, Option, None, Some, refl, sym, ap, subst, arith, true≢false, rules}
+use Rattle.std.proofs.Common.{◌≡◌, ℕ, Bool, true, false, List, [], ◌∷◌, Option, None, Some, refl, sym, ap, ◌∙◌, subst, arith, true≢false, rules}
 use Rattle.std.specs.Prelude.{◌↔◌, IsTrue, option_to_list}
 use Rattle.std.specs.Bool.{Decides}
 use Rattle.std.specs.Int.{bit_at}
 use Rattle.xet_records.specs.declared.file_structs.part.OptionalPart.{OptionalPart}
-use Rattle.xet_records.specs.declared.file_structs.part.OptionalPart.TheVariants.{Verification, MetadataExt, AuxExt}
 use Rattle.xet_records.specs.declared.file_structs.MDBFileInfo.{MDBFileInfo}
 use Rattle.xet_records.specs.Merging.{IncludesBits, Agree, has_part}
-use Rattle.xet_records.specs.Part.{bit_of, announces, rows_of}
+use Rattle.xet_records.specs.Part.{bit_of, announces}
 use Rattle.xet_records.proofs.Merging.{one, one_announced, bit_within}
 use Rattle.xet_records.specs.declared.file_structs.rows.FileDataSequenceEntry.{FileDataSequenceEntry}
 use Rattle.xet_records.specs.declared.file_structs.rows.HashRow.{HashRow}
@@ -44,35 +43,14 @@ option_is (Some x) (Some y) same = ap (λ l. first_of x l) same where
 pub row_agreed : {X : Type 0} (o p : Option X) (same : Bool) → (IsTrue same ↔ (o ≡ p)) → IsTrue same ↔ (option_to_list o ≡ option_to_list p)
 row_agreed o p same is = (λ yes. ap option_to_list (is.0 yes), λ equal. is.1 (option_is o p equal))
 
--- a part of two files agrees
-pub part_agreed : (a b : MDBFileInfo) (part : OptionalPart) (h k same v : Bool) → h ≡ has_part a part → k ≡ has_part b part → (IsTrue same ↔ (rows_of part a ≡ rows_of part b))
-    → (IsTrue v ↔ (IsTrue h → IsTrue k → IsTrue same)) → IsTrue v ↔ (IsTrue (has_part a part) → IsTrue (has_part b part) → rows_of part a ≡ rows_of part b)
-part_agreed a b part h k same v h_is k_is same_is v_is = (
-  λ yes p q. same_is.0 (v_is.0 yes (subst IsTrue (sym h_is) p) (subst IsTrue (sym k_is) q)),
-  λ all. v_is.1 (λ p q. same_is.1 (all (subst IsTrue h_is p) (subst IsTrue k_is q))),
-)
-
--- two files agree
-pub files_agreed : (a b : MDBFileInfo) (r s v m x : Bool) → (IsTrue r ↔ (IsTrue s × IsTrue v × IsTrue m × IsTrue x)) → (IsTrue s ↔ (a.segments ≡ b.segments))
-    → (IsTrue v ↔ (IsTrue (has_part a Verification) → IsTrue (has_part b Verification) → rows_of Verification a ≡ rows_of Verification b))
-    → (IsTrue m ↔ (IsTrue (has_part a MetadataExt) → IsTrue (has_part b MetadataExt) → rows_of MetadataExt a ≡ rows_of MetadataExt b))
-    → (IsTrue x ↔ (IsTrue (has_part a AuxExt) → IsTrue (has_part b AuxExt) → rows_of AuxExt a ≡ rows_of AuxExt b)) → IsTrue r ↔ Agree a b
-files_agreed a b r s v m x r_is s_is v_is m_is x_is = (
-  λ yes. let all = r_is.0 yes in record {
-    segments = s_is.0 all.0;
-    parts = each (v_is.0 all.1) (m_is.0 all.2) (x_is.0 all.3);
-  },
-  λ agree. r_is.1 (s_is.1 agree.segments, v_is.1 (agree.parts Verification), m_is.1 (agree.parts MetadataExt), x_is.1 (agree.parts AuxExt)),
-) where
-  each : (IsTrue (has_part a Verification) → IsTrue (has_part b Verification) → rows_of Verification a ≡ rows_of Verification b)
-      → (IsTrue (has_part a MetadataExt) → IsTrue (has_part b MetadataExt) → rows_of MetadataExt a ≡ rows_of MetadataExt b)
-      → (IsTrue (has_part a AuxExt) → IsTrue (has_part b AuxExt) → rows_of AuxExt a ≡ rows_of AuxExt b)
-      → (part : OptionalPart) → IsTrue (has_part a part) → IsTrue (has_part b part) → rows_of part a ≡ rows_of part b
-  each one two three Verification = one
-  each one two three MetadataExt = two
-  each one two three AuxExt = three
-
 -- what agrees with a file agrees with one that has no other parts, if these agree
+pub agrees_too : (a b r : MDBFileInfo) → ((part : OptionalPart) → IsTrue (has_part b part) → IsTrue (has_part a part)) → Agree a b → Agree a r → Agree b r
+agrees_too a b r has_all both also = record {
+  segments = sym both.segments ∙ also.segments;
+  parts = λ part has in_r. sym (both.parts part (has_all part has) has) ∙ also.parts part (has_all part has) in_r;
+}
+
+-- flags announce each part that flags within them announce
 pub announces_more : (f g : ℕ) (part : OptionalPart) → IncludesBits f g → IsTrue (announces g part) → IsTrue (announces f part)
 announces_more f g part includes = of (announces g part) (announces f part) (one_announced g part) (one_announced f part) where
   of : (v w : Bool) → bit_at g (bit_of part) ≡ one v → bit_at f (bit_of part) ≡ one w → IsTrue v → IsTrue w

@@ -1,8 +1,10 @@
 -- A mix of two files, written part by part while both are read; and why it is not.
-use Rattle.std.proofs.Common.{◌≡◌, ◌==◌, ℕ, ◌+◌, ◌*◌, ◌≤◌, if◌then◌else◌, List, [], ◌∷◌, ◌++◌, length, flat_map, sum_by, Option, Some, refl, sym, ap, ◌∙◌, subst, arith, append-nil}
+use Rattle.std.proofs.Common.{◌≡◌, ◌==◌, ℕ, ◌+◌, ◌*◌, ◌≤◌, ◌<◌, if◌then◌else◌, List, [], ◌∷◌, ◌++◌, length, take, get_or, flat_map, sum_by, Option, Some, refl, sym, ap, ◌∙◌, subst, arith, append-nil}
 use Rattle.xet_records.specs.Merging.{mixed_header}
 use Rattle.std.specs.Io.KnownBytes.{Appends}
 use Rattle.std.proofs.KnownBytes.{Appends-trans}
+use Rattle.std.proofs.lemmas.List.{length-append}
+use Rattle.std.proofs.lemmas.List.Sums.{sum_by-cons, sum_by_more_le}
 use Rattle.xet_base.specs.declared.error.CoreError.{CoreError}
 use Rattle.xet_base.specs.declared.error.CoreError.TheVariants.{OutOfMemory}
 use Rattle.xet_base.specs.Errors.{IsWriteError}
@@ -33,7 +35,7 @@ use Rattle.xet_core_structures.specs.Steps.MixedFiles.{WritesMix, WritesMixRows,
 use Rattle.xet_core_structures.specs.Steps.MixedFiles.EitherFails.{output_fails as either_output_fails, first_fails as either_first_fails, second_fails as either_second_fails}
 use Rattle.xet_core_structures.specs.Steps.MergeJoin.{IsRecordHeader, PairFails}
 use Rattle.xet_core_structures.specs.Steps.MergeJoin.PairFails.{output_fails, first_fails, second_fails}
-use Rattle.xet_core_structures.specs.TwoShards.Streams.{streams}
+use Rattle.xet_core_structures.specs.TwoShards.Streams.{Streams, streams}
 use Rattle.xet_core_structures.specs.Steps.Streams.{Sources, sources}
 use Rattle.xet_core_structures.proofs.TwoShards.Mixing.{rows_of_mix, rows_chosen}
 use Rattle.xet_core_structures.proofs.TwoShards.Pairs.{record_of}
@@ -58,16 +60,51 @@ module _ (g h : FileDataSequenceHeader) (Refused : Option MDBFileInfo → Option
   pub not_added : (old_1 new_1 old_2 new_2 : Source) (e : CoreError) → NoFailure old_1 new_1 → NoFailure old_2 new_2 → e ≡ OutOfMemory → PairFails file_records (Some g) (Some h) (sources old_1 old_2) (sources new_1 new_2) Refused (Output e)
   not_added old_1 new_1 old_2 new_2 e first second is = output_fails e refl (subst IsWriteError (sym is) (tt, λ none. none)) first.bytes second.bytes
 
-module _ (g h : FileDataSequenceHeader) (old_1 a_1 b_1 c_1 new_1 old_2 a_2 b_2 c_2 new_2 : Source) (w0 w1 w2 w3 w4 : Option (List ℕ)) where
+-- so many rows were read
+abbrev pub TookRows : Source → Source → ℕ → Type 0
+TookRows old new count = (bytes : List ℕ) × ReadsBytes old new bytes × (length bytes ≡ 48 * count)
+
+more_taken : (a b c : Source) (m n k : ℕ) → m + n ≡ k → TookRows a b m → TookRows b c n → TookRows a c k
+more_taken a b c m n k sum one other =
+    (one.0 ++ other.0, ReadsBytes-trans a b c _ _ one.1 other.1, omega (arith, length-append one.0 other.0, one.2, other.2, sum))
+
+-- they and those of the next part are no more than the header announces
+pub next_within : (k : FileDataSequenceHeader) (i : ℕ) (front bytes : List ℕ) → i < length parts → length front ≡ 48 * k.num_entries → length bytes ≡ 48 * sum_by (λ part. part_rows part k) (take i parts)
+    → length (front ++ bytes) + 48 * part_rows (get_or parts i Verification) k ≤ 48 * rows_after k
+next_within k i front bytes below first second = omega (arith, length-append front bytes, first, second, sum_by_more_le (λ part. part_rows part k) parts i Verification below)
+
+-- parts of two files, mixed one after another
+module _ (g h : FileDataSequenceHeader) where
+  unfoldable pub AreMixed : List OptionalPart → Streams → Streams → Type 0
+  AreMixed [] old new = old ≡ new
+  AreMixed (part ∷ ps) old new = (mid : Streams) × WritesEither hash_row FitsHashRow clear old mid (part_rows part g) (part_rows part h) × AreMixed ps mid new
+
+  pub one_more : (ps : List OptionalPart) (part : OptionalPart) (old mid new : Streams) → AreMixed ps old mid
+      → WritesEither hash_row FitsHashRow clear mid new (part_rows part g) (part_rows part h) → AreMixed (ps ++ part ∷ []) old new
+  unfolding AreMixed
+  one_more [] part old mid new same last = (new, subst (λ s. WritesEither hash_row FitsHashRow clear s new (part_rows part g) (part_rows part h)) (sym same) last, refl)
+  one_more (p ∷ ps) part old mid new (next, first, rest) last = (next, first, one_more ps part next mid new rest last)
+
+  pub both_read : (ps : List OptionalPart) (old new : Streams) → AreMixed ps old new
+      → TookRows old.first new.first (sum_by (λ part. part_rows part g) ps) × TookRows old.second new.second (sum_by (λ part. part_rows part h) ps)
+  unfolding AreMixed
+  both_read [] old new same =
+      let none : (s : Source) → TookRows s s 0 = λ s. ([], ReadsBytes-nil s, omega arith) in
+      subst (λ (s : Streams). TookRows old.first s.first 0 × TookRows old.second s.second 0) same (none old.first, none old.second)
+  both_read (part ∷ ps) old new (mid, both, rest) =
+      let more = both_read ps mid new rest in (
+        more_taken old.first mid.first new.first (part_rows part g) _ _ (sym (sum_by-cons (λ p. part_rows p g) part ps)) (flat_map hash_row both.first.stored, both.first.taken, both.first.size) more.0,
+        more_taken old.second mid.second new.second (part_rows part h) _ _ (sym (sum_by-cons (λ p. part_rows p h) part ps)) (flat_map hash_row both.second.stored, both.second.taken, both.second.size) more.1,
+      )
+
+module _ (g h : FileDataSequenceHeader) (old_1 a_1 new_1 old_2 a_2 new_2 : Source) (w0 w1 w4 : Option (List ℕ)) where
   pub rows_mixed : (ss ts : List FileDataSequenceEntry) (size : ℕ)
       → CopiesRows segment_row FitsSegment (λ s. s) (ReadsBytes old_1 a_1) w0 w1 g.num_entries ss → size ≡ sum_by (λ s. s.unpacked_segment_bytes) ss
-      → ReadsRows segment_row FitsSegment (λ s. s) (ReadsBytes old_2 a_2) h.num_entries ts
-      → WritesEither hash_row FitsHashRow clear (streams a_1 a_2 w1) (streams b_1 b_2 w2) (part_rows Verification g) (part_rows Verification h)
-      → WritesEither hash_row FitsHashRow clear (streams b_1 b_2 w2) (streams c_1 c_2 w3) (part_rows MetadataExt g) (part_rows MetadataExt h)
-      → WritesEither hash_row FitsHashRow clear (streams c_1 c_2 w3) (streams new_1 new_2 w4) (part_rows AuxExt g) (part_rows AuxExt h)
+      → ReadsRows segment_row FitsSegment (λ s. s) (ReadsBytes old_2 a_2) h.num_entries ts → AreMixed g h parts (streams a_1 a_2 w1) (streams new_1 new_2 w4)
       → WritesMixRows g h (streams old_1 old_2 w0) (streams new_1 new_2 w4) size
-  unfolding file_rows_bytes
-  rows_mixed ss ts size segments sized skipped vs ms xs =
+  unfolding file_rows_bytes AreMixed
+  rows_mixed ss ts size segments sized skipped (b, vs, (c, ms, (d, last, same))) =
+      let xs = subst (λ s. WritesEither hash_row FitsHashRow clear c s (part_rows AuxExt g) (part_rows AuxExt h)) same last in
       let firsts = these_rows vs.firsts ms.firsts xs.firsts in
       let seconds = these_rows vs.seconds ms.seconds xs.seconds in
       let one : MDBFileInfo = with_parts g ss firsts in
@@ -85,12 +122,12 @@ module _ (g h : FileDataSequenceHeader) (old_1 a_1 b_1 c_1 new_1 old_2 a_2 b_2 c
       record {
         one = one;
         other = two;
-        reads_first = parts_read (λ a b bytes. ReadsBytes a b bytes) ReadsBytes-nil ReadsBytes-trans g old_1 a_1 b_1 c_1 new_1 ss vs.firsts ms.firsts xs.firsts segments.read vs.first ms.first xs.first;
-        reads_second = parts_read (λ a b bytes. ReadsBytes a b bytes) ReadsBytes-nil ReadsBytes-trans h old_2 a_2 b_2 c_2 new_2 ts vs.seconds ms.seconds xs.seconds skipped vs.second ms.second xs.second;
+        reads_first = parts_read (λ a b bytes. ReadsBytes a b bytes) ReadsBytes-nil ReadsBytes-trans g old_1 a_1 b.first c.first new_1 ss vs.firsts ms.firsts xs.firsts segments.read vs.first ms.first xs.first;
+        reads_second = parts_read (λ a b bytes. ReadsBytes a b bytes) ReadsBytes-nil ReadsBytes-trans h old_2 a_2 b.second c.second new_2 ts vs.seconds ms.seconds xs.seconds skipped vs.second ms.second xs.second;
         rows = λ count. subst (λ bs. Appends w0 w4 (flat_map segment_row ss ++ bs)) (sym (ap (flat_map hash_row) (all count) ∙ rows_bytes hash_row chosen parts))
             (subst (λ bs. Appends w0 w4 (flat_map segment_row ss ++ (flat_map hash_row (chosen Verification) ++ (flat_map hash_row (chosen MetadataExt) ++ bs))))
             (sym (append-nil (flat_map hash_row (chosen AuxExt))))
-            (Appends-trans w0 w1 w4 _ _ segments.written (Appends-trans w1 w2 w4 _ _ vs.bytes (Appends-trans w2 w3 w4 _ _ ms.bytes xs.bytes))));
+            (Appends-trans w0 w1 w4 _ _ segments.written (Appends-trans w1 b.out w4 _ _ vs.bytes (Appends-trans b.out c.out w4 _ _ ms.bytes xs.bytes))));
         size = sym sized;
       }
 

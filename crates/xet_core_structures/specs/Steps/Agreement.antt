@@ -1,10 +1,12 @@
 -- Steps towards what `Agreement` defines, which only contracts inside the crate speak of.
-use Rattle.std.specs.Prelude.{◌≡◌, ⊤, ℕ, ◌<◌, ◌≤◌, List, length, All, Contains, Option, None, Some, MatchOption, slice_get}
+use Rattle.std.specs.Prelude.{◌≡◌, ⊤, ℕ, ◌<◌, ◌≤◌, IsTrue, List, length, All, Contains, Option, None, Some, MatchOption, slice_get}
 use Rattle.xet_base.specs.declared.merklehash.DataHash.{DataHash}
 use Rattle.xet_records.specs.declared.file_structs.header.FileDataSequenceHeader.{FileDataSequenceHeader}
+use Rattle.xet_records.specs.declared.file_structs.part.OptionalPart.{OptionalPart}
 use Rattle.xet_records.specs.declared.file_structs.MDBFileInfo.{MDBFileInfo}
 use Rattle.xet_records.specs.declared.xorb_structs.MDBXorbInfo.{MDBXorbInfo}
-use Rattle.xet_records.specs.Part.{announces, flags_of}
+use Rattle.xet_records.specs.Merging.{has_part}
+use Rattle.xet_records.specs.Part.{announces, flags_of, rows_of}
 use Rattle.xet_records.specs.RecordKind.{RecordKind}
 use Rattle.xet_records.specs.XorbRecord.{size_of_chunks}
 use Rattle.xet_shards.specs.Content.SetOperations.{ShardsAgree}
@@ -29,6 +31,11 @@ use Rattle.xet_core_structures.specs.Steps.Placed.{PlacesAll}
 -- two xorbs agree if they are equal
 abbrev pub AreEqual : MDBXorbInfo → MDBXorbInfo → Type 0
 AreEqual r s = r ≡ s
+
+-- an optional part is equal in two files if both have it
+abbrev pub AgreeOn : OptionalPart → MDBFileInfo → MDBFileInfo → Type 0
+AgreeOn part a b =
+    IsTrue (has_part a part) → IsTrue (has_part b part) → rows_of part a ≡ rows_of part b
 
 -- the flags of a file's header announce optional parts and nothing else, and its reserved word is
 -- zero

@@ -1,17 +1,17 @@
 //! The header row of a file record.
 
-ghost use Rattle.std.specs.Prelude.{◌≡◌, ◌+◌, ◌^◌, ◌<◌, ◌≤◌, ◌&&◌, not, false, ◌↔◌, if◌then◌else◌, IsTrue, IfOk, MatchResult, IfErr};
+ghost use Rattle.std.specs.Prelude.{◌≡◌, ◌+◌, ◌*◌, ◌^◌, ◌<◌, ◌≤◌, ◌&&◌, not, ◌↔◌, if◌then◌else◌, length, sum_by, IsTrue, IfOk, MatchResult, IfErr};
 ghost use Rattle.xet_base.specs.Errors.{IsNoEnd};
 ghost use Rattle.xet_base.specs.Hash.{all_ones};
 ghost use Rattle.xet_records.specs.FileRow.{header_row, FitsHeader};
 ghost use Rattle.xet_records.specs.Decoding.{header_at};
 ghost use Rattle.xet_records.specs.DecodingLaws.{header_spelled};
-ghost use Rattle.xet_records.specs.Part.{bit_of, announces, flags_of, these_parts, with_flag, part_rows, rows_before, optional_rows_after};
+ghost use Rattle.xet_records.specs.Part.{announces, flags_of, these_parts, with_flag, part_rows, rows_before, optional_rows_after};
 ghost use Rattle.xet_records.specs.FileRecord.{has_verification, has_metadata_ext, has_aux_ext, file_bookend, rows_after};
 ghost use Rattle.xet_records.specs.Rows.{WritesRow, ReadsWhole, LacksRow};
 ghost use Rattle.xet_records.specs.Merging.{Compares, IsSameFile, mixed_header};
 
-use super::part::OptionalPart;
+use super::part::{OptionalPart, Parts};
 use super::{MDB_DEFAULT_FILE_FLAG, MDB_FILE_FLAG_WITH_AUX_EXT, MDB_FILE_INFO_ENTRY_SIZE};
 use crate::rows::{Row, read_row, write_row};
 use std::io;
@@ -38,42 +38,29 @@ impl FileDataSequenceHeader {
     ) -> Self
         ensures { result ≡ record {
           file_hash = file_hash;
-          file_flags = flags_of (these_parts contains_verification contains_metadata_ext false);
+          file_flags = flags_of (these_parts contains_verification contains_metadata_ext);
           num_entries = num_entries;
           _unused = 0;
         } }
     {
-        FileDataSequenceHeader::with_parts(
-            file_hash,
-            num_entries,
-            contains_verification,
-            contains_metadata_ext,
-            false,
-        )
+        let parts = OptionalPart::Verification
+            .when(contains_verification)
+            .union(OptionalPart::MetadataExt.when(contains_metadata_ext));
+        FileDataSequenceHeader::with_parts(file_hash, num_entries, parts)
     }
 
-    // The same with any of the optional parts.
-    pub(super) fn with_parts(
-        file_hash: MerkleHash,
-        num_entries: u32,
-        contains_verification: bool,
-        contains_metadata_ext: bool,
-        contains_aux_ext: bool,
-    ) -> Self
+    // The same with any set of optional parts.
+    pub(super) fn with_parts(file_hash: MerkleHash, num_entries: u32, parts: Parts) -> Self
         ensures { result ≡ record {
           file_hash = file_hash;
-          file_flags = flags_of
-              (these_parts contains_verification contains_metadata_ext contains_aux_ext);
+          file_flags = parts;
           num_entries = num_entries;
           _unused = 0;
         } }
     {
         FileDataSequenceHeader {
             file_hash,
-            file_flags: MDB_DEFAULT_FILE_FLAG
-                + OptionalPart::Verification.flag_if(contains_verification)
-                + OptionalPart::MetadataExt.flag_if(contains_metadata_ext)
-                + OptionalPart::AuxExt.flag_if(contains_aux_ext),
+            file_flags: parts.flags(),
             num_entries,
             _unused: 0,
         }
@@ -91,7 +78,7 @@ impl FileDataSequenceHeader {
             self.file_flags
         };
         FileDataSequenceHeader {
-            file_flags: others + OptionalPart::AuxExt.flag_if(contains_aux_ext),
+            file_flags: others + OptionalPart::AuxExt.when(contains_aux_ext).flags(),
             ..self
         }
     }
@@ -115,22 +102,27 @@ impl FileDataSequenceHeader {
         self.file_hash == MerkleHash::from([u64::MAX; 4])
     }
 
-    // Whether the flags announce a part.
-    #[tactic(auto, using(crate::proofs::Flags::masked))]
+    /// The optional parts that the header announces.
     #[inline(always)]
-    fn contains(&self, part: OptionalPart) -> bool
+    pub fn parts(&self) -> Parts
+        ensures { result ≡ flags_of (announces self.now.file_flags) }
+    {
+        Parts::announced(self.file_flags)
+    }
+
+    /// Whether the header announces a part.
+    #[inline(always)]
+    pub fn contains(&self, part: OptionalPart) -> bool
         ensures { result ≡ announces self.now.file_flags part }
     {
-        self.file_flags & part.mask() != 0
+        self.parts().contains(part)
     }
 
     /// The flags of the optional parts that the header announces, and no others.
     pub fn known_flags(&self) -> u32
         ensures { result ≡ flags_of (announces self.now.file_flags) }
     {
-        OptionalPart::Verification.flag_if(self.contains_verification())
-            + OptionalPart::MetadataExt.flag_if(self.contains_metadata_ext())
-            + OptionalPart::AuxExt.flag_if(self.contains_aux_ext())
+        self.parts().flags()
     }
 
     /// Whether each segment has a verification row.
@@ -206,9 +198,7 @@ impl FileDataSequenceHeader {
         ensures rows { result ≡ optional_rows_after self.now }
         ensures bound { result ≤ self.now.num_entries + 2 }
     {
-        u64::from(self.part_rows(OptionalPart::Verification))
-            + u64::from(self.part_rows(OptionalPart::MetadataExt))
-            + u64::from(self.part_rows(OptionalPart::AuxExt))
+        self.rows_of_parts(&OptionalPart::ALL)
     }
 
     // The number of rows of the optional parts before one of them.
@@ -216,14 +206,20 @@ impl FileDataSequenceHeader {
         ensures rows { result ≡ rows_before part self.now }
         ensures bound { result < 2 ^ 33 }
     {
-        match part {
-            OptionalPart::Verification => 0,
-            OptionalPart::MetadataExt => self.part_rows(OptionalPart::Verification) as usize,
-            OptionalPart::AuxExt => {
-                self.part_rows(OptionalPart::Verification) as usize
-                    + self.part_rows(OptionalPart::MetadataExt) as usize
-            }
+        self.rows_of_parts(part.before()) as usize
+    }
+
+    // The number of rows of some parts.
+    fn rows_of_parts(&self, parts: &[OptionalPart]) -> u64
+        requires { length parts.now ≤ 3 }
+        ensures rows { result ≡ sum_by (λ part. part_rows part self.now) parts.now }
+        ensures bound { result ≤ 4294967295 * length parts.now }
+    {
+        let mut rows = 0;
+        for part in parts {
+            rows += u64::from(self.part_rows(*part));
         }
+        rows
     }
 
     /// The number of verification rows that the header announces.
@@ -247,26 +243,16 @@ impl FileDataSequenceHeader {
             (λ part. announces other.now.file_flags part
             && not (announces self.now.file_flags part)) }
     {
-        self.file_flags
-            + self.gained_flag(other, OptionalPart::Verification)
-            + self.gained_flag(other, OptionalPart::MetadataExt)
-            + self.gained_flag(other, OptionalPart::AuxExt)
+        self.file_flags + self.gained_parts(other).flags()
     }
 
-    // Whether only `other` announces a part.
-    pub(super) fn gains(&self, other: &Self, part: OptionalPart) -> bool
-        ensures { result ≡ (announces other.now.file_flags part
+    // The parts that only `other` announces.
+    pub(super) fn gained_parts(&self, other: &Self) -> Parts
+        ensures { result ≡ flags_of
+            (λ part. announces other.now.file_flags part
             && not (announces self.now.file_flags part)) }
     {
-        other.contains(part) & !self.contains(part)
-    }
-
-    // The flag of a part if only `other` announces it, else 0.
-    fn gained_flag(&self, other: &Self, part: OptionalPart) -> u32
-        ensures { result ≡ (if announces other.now.file_flags part
-            && not (announces self.now.file_flags part) then 2 ^ bit_of part else 0) }
-    {
-        part.flag_if(self.gains(other, part))
+        other.parts().without(self.parts())
     }
 
     /// The number of auxiliary rows that the header announces, 1 or 0.
@@ -281,13 +267,8 @@ impl FileDataSequenceHeader {
     pub fn mixed(&self, other: &Self) -> Self
         ensures { result ≡ mixed_header self.now other.now }
     {
-        FileDataSequenceHeader::with_parts(
-            self.file_hash,
-            self.num_entries,
-            self.contains_verification() | other.contains_verification(),
-            self.contains_metadata_ext() | other.contains_metadata_ext(),
-            self.contains_aux_ext() | other.contains_aux_ext(),
-        )
+        let parts = self.parts().union(other.parts());
+        FileDataSequenceHeader::with_parts(self.file_hash, self.num_entries, parts)
     }
 
     /// Whether both headers have the same hash and the same number of segments.

@@ -1,17 +1,17 @@
 //! The optional parts of a file's record.
 //!
-//! Optional parts are said once. `OptionalPart` has the three, and `rows_of`, `with_parts` and
-//! `flags_of` of `specs/Part.antt` are the rows of one, a record of given parts and the flags that
-//! announce some. Definitions and lemmas that merge, join, drop or copy parts are about any of
-//! them, and contracts see the rows of each as `HashRow`s.
+//! Optional parts are said once. `OptionalPart` has the three, `Parts` is a set of them, and
+//! `rows_of`, `with_parts` and `flags_of` of `specs/Part.antt` are the rows of one, a record of
+//! given parts and the flags that announce some. Definitions and lemmas that merge, join, drop or
+//! copy parts are about any of them, and contracts see the rows of each as `HashRow`s.
 
-ghost use Rattle.std.specs.Prelude.{◌≡◌, ◌^◌, if◌then◌else◌};
-ghost use Rattle.xet_records.specs.Part.{bit_of, size_of_part};
+ghost use Rattle.std.specs.Prelude.{◌≡◌, ◌^◌, not, true, ◌&&◌, ◌||◌, IsTrue, ◌↔◌};
+ghost use Rattle.xet_records.specs.Part.{bit_of, is_part, announces, flags_of, parts_before, size_of_part};
 
 use super::{
-    MDB_FILE_FLAG_AUX_EXT_MASK, MDB_FILE_FLAG_METADATA_EXT_MASK, MDB_FILE_FLAG_VERIFICATION_MASK,
     MDB_FILE_FLAG_WITH_AUX_EXT, MDB_FILE_FLAG_WITH_METADATA_EXT, MDB_FILE_FLAG_WITH_VERIFICATION,
 };
+use std::marker::Model;
 
 /// An optional part of a file's record, in the order of their rows.
 #[derive(Clone, Copy, Debug, PartialEq, Eq)]
@@ -25,6 +25,13 @@ pub enum OptionalPart {
 }
 
 impl OptionalPart {
+    /// All parts, in the order of their rows.
+    pub const ALL: [OptionalPart; 3] = [
+        OptionalPart::Verification,
+        OptionalPart::MetadataExt,
+        OptionalPart::AuxExt,
+    ];
+
     /// The flag that announces the part.
     #[inline(always)]
     pub fn flag(self) -> u32
@@ -42,19 +49,25 @@ impl OptionalPart {
     pub fn mask(self) -> u32
         ensures { result ≡ 2 ^ bit_of self }
     {
-        match self {
-            OptionalPart::Verification => MDB_FILE_FLAG_VERIFICATION_MASK,
-            OptionalPart::MetadataExt => MDB_FILE_FLAG_METADATA_EXT_MASK,
-            OptionalPart::AuxExt => MDB_FILE_FLAG_AUX_EXT_MASK,
+        self.flag()
+    }
+
+    /// The set of this part if it is wanted, else the empty set.
+    #[tactic(auto, using(crate::proofs::PartSets::one_part))]
+    #[inline(always)]
+    pub fn when(self, wanted: bool) -> Parts
+        ensures { result ≡ flags_of (λ part. wanted && is_part self part) }
+    {
+        Parts {
+            flags: if wanted { self.flag() } else { 0 },
         }
     }
 
-    // The flag if it is wanted, else 0.
-    #[inline(always)]
-    pub(super) fn flag_if(self, wanted: bool) -> u32
-        ensures { result ≡ (if wanted then 2 ^ bit_of self else 0) }
+    // The parts whose rows come before those of this part.
+    pub(super) fn before(self) -> &'static [OptionalPart]
+        ensures { result.now ≡ parts_before self }
     {
-        if wanted { self.flag() } else { 0 }
+        &OptionalPart::ALL[..self as usize]
     }
 
     /// The number of its rows in a file with so many segments.
@@ -66,5 +79,95 @@ impl OptionalPart {
             OptionalPart::Verification => segments,
             _ => 1,
         }
+    }
+}
+
+// The flags of all parts.
+const ALL_FLAGS: u32 = MDB_FILE_FLAG_WITH_VERIFICATION
+    + MDB_FILE_FLAG_WITH_METADATA_EXT
+    + MDB_FILE_FLAG_WITH_AUX_EXT;
+
+/// A set of optional parts. Contracts see the flags that announce its parts, and no others.
+#[derive(Clone, Copy, Debug)]
+pub struct Parts {
+    flags: u32,
+}
+
+impl Model for Parts {
+    ghost use Rattle.std.specs.Prelude.{◌≡◌, ℕ};
+    ghost use Rattle.xet_records.specs.Part.{announces, flags_of};
+
+    ghost Value = { ℕ };
+
+    ghost view = { λ parts. parts.flags };
+
+    ghost inverse = { λ flags. record { flags = flags } };
+
+    ghost invariant = { λ parts. parts.flags ≡ flags_of (announces parts.flags) };
+}
+
+impl Parts {
+    /// The set of all parts.
+    #[inline(always)]
+    pub fn all() -> Self
+        ensures { result ≡ flags_of (λ part. true) }
+    {
+        Parts { flags: ALL_FLAGS }
+    }
+
+    /// The parts that the flags announce.
+    #[inline(always)]
+    pub fn announced(flags: u32) -> Self
+        ensures { result ≡ flags_of (announces flags) }
+    {
+        Parts {
+            flags: flags & ALL_FLAGS,
+        }
+    }
+
+    /// The flags that announce these parts, and no others.
+    #[inline(always)]
+    pub fn flags(self) -> u32
+        ensures { result ≡ self }
+    {
+        self.flags
+    }
+
+    /// Whether a part is in the set.
+    #[tactic(auto, using(crate::proofs::Flags::masked))]
+    #[inline(always)]
+    pub fn contains(self, part: OptionalPart) -> bool
+        ensures { result ≡ announces self part }
+    {
+        self.flags & part.mask() != 0
+    }
+
+    /// The parts that are in either set.
+    #[inline(always)]
+    pub fn union(self, other: Parts) -> Self
+        ensures { result ≡ flags_of (λ part. announces self part || announces other part) }
+    {
+        Parts {
+            flags: self.flags | other.flags,
+        }
+    }
+
+    /// The parts of this set that are not in the other.
+    #[inline(always)]
+    pub fn without(self, other: Parts) -> Self
+        ensures { result ≡ flags_of (λ part. announces self part && not (announces other part)) }
+    {
+        Parts {
+            flags: self.flags & !other.flags,
+        }
+    }
+
+    /// Whether each part of the other set is in this one.
+    #[inline(always)]
+    pub fn is_superset(self, other: Parts) -> bool
+        ensures { IsTrue result
+            ↔ ((part : OptionalPart) → IsTrue (announces other part) → IsTrue (announces self part)) }
+    {
+        self.flags & other.flags == other.flags
     }
 }

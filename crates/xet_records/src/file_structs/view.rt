@@ -16,15 +16,15 @@ ghost use Rattle.std.specs.Ordering.{on};
 ghost use Rattle.std.specs.Io.KnownBytes.{Appends};
 ghost use Rattle.xet_base.specs.Errors.{IsWriteError, IsNoEnd};
 ghost use Rattle.xet_records.specs.FileRow.{header_row, hash_row, clear};
-ghost use Rattle.xet_records.specs.Part.{rows_of, rows_before};
-ghost use Rattle.xet_records.specs.FileRecord.{has_verification, has_metadata_ext, has_aux_ext, row_count, file_record_bytes, as_read, file_records, rows_after, IsStored};
+ghost use Rattle.xet_records.specs.Part.{flags_of, rows_of, rows_before};
+ghost use Rattle.xet_records.specs.FileRecord.{has_verification, has_metadata_ext, has_aux_ext, row_count, file_record_bytes, as_read, file_records, rows_after, FitsItsHeader, IsStored};
 ghost use Rattle.xet_records.specs.View.{BeginsWithHeaderRow, BeginsWithFile, NoView, without_verification, as_wanted, as_kept, LacksVerification, IsIoOther};
 ghost use Rattle.xet_records.specs.Steps.View.{keeps};
 ghost use Rattle.xet_records.specs.Limits.{MAX_ROWS};
 
 use super::{
     FileAuxExt, FileDataSequenceEntry, FileDataSequenceHeader, FileMetadataExt,
-    FileVerificationEntry, MDB_FILE_INFO_ENTRY_SIZE, MDBFileInfo, OptionalPart,
+    FileVerificationEntry, MDB_FILE_INFO_ENTRY_SIZE, MDBFileInfo, OptionalPart, Parts,
 };
 use crate::record_bytes;
 use crate::rows::{Row, write_row};
@@ -47,15 +47,13 @@ pub struct KeptParts {
 }
 
 impl KeptParts {
-    // Whether the rows of a part are written.
-    fn keeps(self, part: OptionalPart) -> bool
-        ensures { result ≡ keeps self part }
+    // The parts that are written.
+    fn parts(self) -> Parts
+        ensures { result ≡ flags_of (keeps self) }
     {
-        match part {
-            OptionalPart::Verification => self.verification,
-            OptionalPart::MetadataExt => true,
-            OptionalPart::AuxExt => self.aux_ext,
-        }
+        Parts::all()
+            .without(OptionalPart::Verification.when(!self.verification))
+            .without(OptionalPart::AuxExt.when(!self.aux_ext))
     }
 }
 
@@ -253,13 +251,8 @@ impl MDBFileInfoView {
     pub fn byte_size_of_kept(&self, kept: KeptParts) -> usize
         ensures { result ≡ 48 * row_count (as_kept kept self.now) }
     {
-        let segments = self.header.num_entries as usize;
-        let rows = 1
-            + segments
-            + self.kept_rows(kept, OptionalPart::Verification)
-            + self.kept_rows(kept, OptionalPart::MetadataExt)
-            + self.kept_rows(kept, OptionalPart::AuxExt);
-        rows * MDB_FILE_INFO_ENTRY_SIZE
+        let rows = 1 + self.kept_header(kept).rows_after();
+        rows as usize * MDB_FILE_INFO_ENTRY_SIZE
     }
 
     // The number of rows of a part that are written.
@@ -267,7 +260,7 @@ impl MDBFileInfoView {
         ensures rows { result ≡ length (rows_of part (as_kept kept self.now)) }
         ensures bound { result < 2 ^ 32 }
     {
-        if kept.keeps(part) {
+        if kept.parts().contains(part) {
             self.header.part_rows(part) as usize
         } else {
             0
@@ -324,9 +317,7 @@ impl MDBFileInfoView {
     fn is_all(&self, kept: KeptParts) -> bool
         ensures { IsTrue result → as_kept kept self.now ≡ self.now }
     {
-        let all_verification = kept.verification | !self.header.contains_verification();
-        let all_aux_ext = kept.aux_ext | !self.header.contains_aux_ext();
-        all_verification & all_aux_ext
+        kept.parts().is_superset(self.header.parts())
     }
 
     // Appends the parts of the record that are kept.
@@ -340,9 +331,9 @@ impl MDBFileInfoView {
         write_row(&header, writer)?;
         let segments = record_bytes::part(self.bytes.as_slice(), 1, self.num_entries());
         write_bytes(writer, segments)?;
-        self.write_part(writer, kept, OptionalPart::Verification)?;
-        self.write_part(writer, kept, OptionalPart::MetadataExt)?;
-        self.write_part(writer, kept, OptionalPart::AuxExt)?;
+        for part in OptionalPart::ALL {
+            self.write_part(writer, kept, part)?;
+        }
         Ok(())
     }
 
@@ -369,7 +360,8 @@ impl MDBFileInfoView {
 
     // The header of the record that is written.
     fn kept_header(&self, kept: KeptParts) -> FileDataSequenceHeader
-        ensures { result ≡ (as_kept kept self.now).metadata }
+        ensures header { result ≡ (as_kept kept self.now).metadata }
+        ensures fits { FitsItsHeader (as_kept kept self.now) }
     {
         let header = if self.contains_verification() & !kept.verification {
             self.header_without_verification()
@@ -383,17 +375,15 @@ impl MDBFileInfoView {
         }
     }
 
-    // The header with the flags of a metadata row and of an auxiliary row alone.
+    // The header with the flags of the other parts alone.
     fn header_without_verification(&self) -> FileDataSequenceHeader
         ensures { result ≡ (without_verification self.now).metadata }
     {
-        FileDataSequenceHeader::with_parts(
-            self.header.file_hash,
-            self.header.num_entries,
-            false,
-            self.header.contains_metadata_ext(),
-            self.header.contains_aux_ext(),
-        )
+        let header = &self.header;
+        let others = header
+            .parts()
+            .without(OptionalPart::Verification.when(true));
+        FileDataSequenceHeader::with_parts(header.file_hash, header.num_entries, others)
     }
 
     /// The bytes of the record. `OutOfMemory` is the only error.

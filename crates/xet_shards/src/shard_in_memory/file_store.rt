@@ -243,11 +243,9 @@ pub fn joined_rows(file_info: &MDBFileInfo, twin: &MDBFileInfo) -> u64
 fn has_its_parts(file_info: &MDBFileInfo, twin: &MDBFileInfo) -> bool
     ensures { IsTrue result → merged file_info.now twin.now ≡ file_info.now }
 {
-    let own = &file_info.metadata;
-    let other = &twin.metadata;
-    (own.contains_verification() || !other.contains_verification())
-        && (own.contains_metadata_ext() || !other.contains_metadata_ext())
-        && (own.contains_aux_ext() || !other.contains_aux_ext())
+    let own = file_info.metadata.parts();
+    let other = twin.metadata.parts();
+    own.is_superset(other)
 }
 
 /// Whether a record can be in a store.
@@ -285,9 +283,9 @@ fn has_announced(file_info: &MDBFileInfo, part: OptionalPart) -> bool
 fn has_clear_parts(file_info: &MDBFileInfo) -> bool
     ensures { IsTrue result ↔ AreClear (optional_rows file_info.now) }
 {
-    is_clear(file_info, OptionalPart::Verification)
-        & is_clear(file_info, OptionalPart::MetadataExt)
-        & is_clear(file_info, OptionalPart::AuxExt)
+    OptionalPart::ALL
+        .iter()
+        .all(|part| is_clear(file_info, *part))
 }
 
 #[tactic(auto, using(crate::proofs::Write::StoredParts::one_clear, crate::proofs::Write::StoredParts::none_clear))]

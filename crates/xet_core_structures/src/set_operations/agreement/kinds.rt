@@ -4,14 +4,15 @@
 ghost use Rattle.std.specs.Prelude.{◌≡◌, ◌↔◌, IsTrue};
 ghost use Rattle.xet_base.specs.declared.merklehash.DataHash.{DataHash};
 ghost use Rattle.xet_records.specs.Merging.{Agree};
+ghost use Rattle.xet_records.specs.Part.{rows_of};
 ghost use Rattle.xet_core_structures.specs.declared.set_operations.agreement.RecordHash.{RecordHash};
 ghost use Rattle.xet_core_structures.specs.declared.set_operations.agreement.RecordHash.TheVariants.{File, Xorb};
-ghost use Rattle.xet_core_structures.specs.Steps.Agreement.{AreEqual};
+ghost use Rattle.xet_core_structures.specs.Steps.Agreement.{AreEqual, AgreeOn};
 
 use super::RecordHash;
 use crate::set_operations::two_shards::record_operation::OfUnion;
 use xet_base::merklehash::MerkleHash;
-use xet_records::file_structs::{FileDataSequenceHeader, MDBFileInfo};
+use xet_records::file_structs::{FileDataSequenceHeader, MDBFileInfo, OptionalPart};
 use xet_records::record_reader::SectionRecord;
 use xet_records::xorb_structs::{MDBXorbInfo, XorbChunkSequenceHeader};
 
@@ -56,34 +57,13 @@ impl Agreement<MDBFileInfo> for OfUnion {
     }
 
     fn are_agreed(first: &MDBFileInfo, second: &MDBFileInfo) -> bool {
-        all_of(
-            same_segments(first, second),
-            agree_on(
-                first.contains_verification(),
-                second.contains_verification(),
-                same_verification(first, second),
-            ),
-            agree_on(
-                first.contains_metadata_ext(),
-                second.contains_metadata_ext(),
-                same_metadata_ext(first, second),
-            ),
-            agree_on(
-                first.contains_aux_ext(),
-                second.contains_aux_ext(),
-                same_aux_ext(first, second),
-            ),
-        )
+        same_segments(first, second) && agree_on_parts(first, second)
     }
 
     fn has_parts_of(first: &MDBFileInfo, second: &MDBFileInfo) -> bool {
-        has_if(
-            first.contains_verification(),
-            second.contains_verification(),
-        ) && has_if(
-            first.contains_metadata_ext(),
-            second.contains_metadata_ext(),
-        ) && has_if(first.contains_aux_ext(), second.contains_aux_ext())
+        let own = first.metadata.parts();
+        let other = second.metadata.parts();
+        own.is_superset(other)
     }
 
     fn are_one_header(first: &FileDataSequenceHeader, second: &FileDataSequenceHeader) -> bool {
@@ -98,49 +78,45 @@ impl Agreement<MDBFileInfo> for OfUnion {
     } };
 }
 
-// Whether the first record has an optional part, or the second has none.
-fn has_if(first_has: bool, second_has: bool) -> bool
-    ensures { IsTrue result → IsTrue second_has → IsTrue first_has }
-{
-    first_has || !second_has
-}
-
-// Whether a part is absent in one of two records, or the same in both.
-fn agree_on(first_has: bool, second_has: bool, same: bool) -> bool
-    ensures { IsTrue result ↔ (IsTrue first_has → IsTrue second_has → IsTrue same) }
-{
-    !first_has || !second_has || same
-}
-
-fn all_of(segments: bool, verification: bool, metadata_ext: bool, aux_ext: bool) -> bool
-    ensures { IsTrue result ↔ (IsTrue segments × IsTrue verification × IsTrue metadata_ext
-        × IsTrue aux_ext) }
-{
-    segments && verification && metadata_ext && aux_ext
-}
-
 fn same_segments(first: &MDBFileInfo, second: &MDBFileInfo) -> bool
     ensures { IsTrue result ↔ (first.now.segments ≡ second.now.segments) }
 {
     first.segments == second.segments
 }
 
+// Whether each part that both records have is the same in both.
+fn agree_on_parts(first: &MDBFileInfo, second: &MDBFileInfo) -> bool
+    ensures { IsTrue result ↔ ((part : OptionalPart) → AgreeOn part first.now second.now) }
+{
+    OptionalPart::ALL
+        .iter()
+        .all(|part| agree_on(first, second, *part))
+}
+
+// Whether a part is absent in one of two records, or the same in both.
+fn agree_on(first: &MDBFileInfo, second: &MDBFileInfo, part: OptionalPart) -> bool
+    ensures { IsTrue result ↔ AgreeOn part first.now second.now }
+{
+    !first.metadata.contains(part)
+        || !second.metadata.contains(part)
+        || same_part(first, second, part)
+}
+
+#[tactic(auto, using(crate::proofs::Records::Equalities::row_agreed))]
+fn same_part(first: &MDBFileInfo, second: &MDBFileInfo, part: OptionalPart) -> bool
+    ensures { IsTrue result ↔ (rows_of part first.now ≡ rows_of part second.now) }
+{
+    match part {
+        OptionalPart::Verification => same_verification(first, second),
+        OptionalPart::MetadataExt => first.metadata_ext == second.metadata_ext,
+        OptionalPart::AuxExt => first.aux_ext == second.aux_ext,
+    }
+}
+
 fn same_verification(first: &MDBFileInfo, second: &MDBFileInfo) -> bool
     ensures { IsTrue result ↔ (first.now.verification ≡ second.now.verification) }
 {
     first.verification == second.verification
-}
-
-fn same_metadata_ext(first: &MDBFileInfo, second: &MDBFileInfo) -> bool
-    ensures { IsTrue result ↔ (first.now.metadata_ext ≡ second.now.metadata_ext) }
-{
-    first.metadata_ext == second.metadata_ext
-}
-
-fn same_aux_ext(first: &MDBFileInfo, second: &MDBFileInfo) -> bool
-    ensures { IsTrue result ↔ (first.now.aux_ext ≡ second.now.aux_ext) }
-{
-    first.aux_ext == second.aux_ext
 }
 
 impl Agreement<MDBXorbInfo> for OfUnion {

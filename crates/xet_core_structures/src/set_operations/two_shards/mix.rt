@@ -71,9 +71,9 @@ pub fn mix_rows<S: ShardSource, T: ShardSource, W: Write>(
 {
     let size = copy_segments::<OfSource, S, W>(r1, out, first.num_entries)?;
     skip_rows::<FileDataSequenceEntry, OfSource, T>(r2, second.num_entries)?;
-    copy_part::<S, T, W>(first, r1, second, r2, OptionalPart::Verification, out)?;
-    copy_part::<S, T, W>(first, r1, second, r2, OptionalPart::MetadataExt, out)?;
-    copy_part::<S, T, W>(first, r1, second, r2, OptionalPart::AuxExt, out)?;
+    for part in OptionalPart::ALL {
+        copy_part::<S, T, W>(first, r1, second, r2, part, out)?;
+    }
     Ok(size)
 }
 

@@ -1,11 +1,14 @@
-use Rattle.std.proofs.Common.{[], ◌++◌, flat_map, refl, arith}
-use Rattle.std.proofs.lemmas.List.{length-append}
+use Rattle.std.proofs.Common.{[], ◌++◌, take, get_or, flat_map, refl, sym, subst, arith}
+use Rattle.std.proofs.lemmas.List.{take_more, take_all}
 use Rattle.std.proofs.lemmas.Result.{err_from_is_err_and}
 use Rattle.xet_base.specs.InputLaws.{ReadsBytes-nil, ReadsBytes-trans}
-use Rattle.xet_records.specs.FileRow.{segment_row, hash_row}
+use Rattle.xet_records.specs.FileRow.{segment_row}
+use Rattle.xet_records.specs.Part.{parts}
+use Rattle.xet_records.specs.declared.file_structs.part.OptionalPart.TheVariants.{Verification}
+use Rattle.xet_core_structures.specs.TwoShards.Streams.{streams}
 use Rattle.xet_core_structures.specs.Steps.MixedFiles.EitherFails.{second_fails}
 use Rattle.xet_core_structures.proofs.TwoShards.Mixing.{first_not_copied}
-use Rattle.xet_core_structures.proofs.TwoShards.MixWriting.{part_fails, rows_mixed}
+use Rattle.xet_core_structures.proofs.TwoShards.MixWriting.{part_fails, AreMixed, one_more, both_read, next_within, rows_mixed}
 use Rattle.xet_core_structures.proofs.TwoShards.OneSection.{serves_same}
 use Rattle.xet_core_structures.proofs.set_operations.two_shards.mix.mix_rows.Goals as goal
 
@@ -31,66 +34,37 @@ returns-in_err-skip_rows g c =
       bound = tt;
     })
 
-pub returns-in_err-copy_part : goal.returns-in_err-copy_part
-returns-in_err-copy_part g c =
-    let s = c.in_ok-size.ensures.copied.1.read in
-    let t = c.in_ok-skip_rows.ensures.1 in
-    let p = err_from_is_err_and c.from_residual-in_err-copy_part.result c.from_residual-in_err-copy_part.ensures.1 in
-    rw (p.1, p.2) (record {
-      rows = part_fails c.args.first.now c.args.second.now _ _ (g.S.ShardSource.meaning c.copy_segments.new.input) _ _ (g.T.ShardSource.meaning c.skip_rows.new.input) _
-          (flat_map segment_row s.stored) (flat_map segment_row t.stored) _ _ _ s.taken t.taken
-          (omega (arith, s.size)) (omega (arith, t.size)) c.in_err-copy_part.ensures;
-      bound = tt;
-    })
+pub loop-part-init : goal.loop-part-init
+unfolding AreMixed
+loop-part-init g c = refl
 
-pub returns-in_err-copy_part-2 : goal.returns-in_err-copy_part-2
-returns-in_err-copy_part-2 g c =
-    let s = c.in_ok-size.ensures.copied.1.read in
-    let t = c.in_ok-skip_rows.ensures.1 in
-    let v = c.in_ok-copy_part.ensures in
-    let p = err_from_is_err_and c.from_residual-in_err-copy_part-2.result c.from_residual-in_err-copy_part-2.ensures.1 in
-    rw (p.1, p.2) (record {
-      rows = part_fails c.args.first.now c.args.second.now _ _ (g.S.ShardSource.meaning c.copy_part.new.r1) _ _ (g.T.ShardSource.meaning c.copy_part.new.r2) _
-          (flat_map segment_row s.stored ++ flat_map hash_row v.first.stored) (flat_map segment_row t.stored ++ flat_map hash_row v.second.stored) _ _ _
-          (ReadsBytes-trans _ (g.S.ShardSource.meaning c.copy_segments.new.input) _ _ _ s.taken v.first.taken) (ReadsBytes-trans _ (g.T.ShardSource.meaning c.skip_rows.new.input) _ _ _ t.taken v.second.taken)
-          (omega (arith, length-append (flat_map segment_row s.stored) (flat_map hash_row v.first.stored), s.size, v.first.size))
-          (omega (arith, length-append (flat_map segment_row t.stored) (flat_map hash_row v.second.stored), t.size, v.second.size))
-          c.in_err-copy_part-2.ensures;
-      bound = tt;
-    })
-
-pub returns-in_err-copy_part-3 : goal.returns-in_err-copy_part-3
-returns-in_err-copy_part-3 g c =
-    let s = c.in_ok-size.ensures.copied.1.read in
-    let t = c.in_ok-skip_rows.ensures.1 in
-    let v = c.in_ok-copy_part.ensures in
-    let m = c.in_ok-copy_part-2.ensures in
+pub loop-part-preserved : goal.loop-part-preserved
+loop-part-preserved g c =
     let one = g.S.ShardSource.meaning in
     let two = g.T.ShardSource.meaning in
-    let p = err_from_is_err_and c.from_residual-in_err-copy_part-3.result c.from_residual-in_err-copy_part-3.ensures.1 in
+    let contents = g.W.Write.contents in
+    let i = c.loop-part.part-index in
+    let now = streams (one c.loop-part.r1) (two c.loop-part.r2) (contents c.loop-part.out) in
+    let next = streams (one c.copy_part.new.r1) (two c.copy_part.new.r2) (contents c.copy_part.new.out) in
+    subst (λ ps. AreMixed c.args.first.now c.args.second.now ps (streams (one c.copy_segments.new.input) (two c.skip_rows.new.input) (contents c.copy_segments.new.writer)) next)
+    (sym (take_more parts i Verification c.loop-part-test.true))
+    (one_more c.args.first.now c.args.second.now (take i parts) (get_or parts i Verification) _ now next c.loop-part.invariant c.in_ok-copy_part.ensures)
+
+pub returns-in_err-copy_part : goal.returns-in_err-copy_part
+returns-in_err-copy_part g c =
+    let one = g.S.ShardSource.meaning in
+    let two = g.T.ShardSource.meaning in
+    let i = c.loop-part.part-index in
+    let s = c.in_ok-size.ensures.copied.1.read in
+    let t = c.in_ok-skip_rows.ensures.1 in
+    let (xs, ys) = both_read c.args.first.now c.args.second.now (take i parts) _ _ c.loop-part.invariant in
+    let p = err_from_is_err_and c.from_residual-in_err-copy_part.result c.from_residual-in_err-copy_part.ensures.1 in
     rw (p.1, p.2) (record {
-      rows = part_fails c.args.first.now c.args.second.now _ _ (one c.copy_part-2.new.r1) _ _ (two c.copy_part-2.new.r2) _
-          ((flat_map segment_row s.stored ++ flat_map hash_row v.first.stored) ++ flat_map hash_row m.first.stored)
-          ((flat_map segment_row t.stored ++ flat_map hash_row v.second.stored) ++ flat_map hash_row m.second.stored) _ _ _
-          (ReadsBytes-trans _ (one c.copy_part.new.r1) _ _ _ (ReadsBytes-trans _ (one c.copy_segments.new.input) _ _ _ s.taken v.first.taken) m.first.taken)
-          (ReadsBytes-trans _ (two c.copy_part.new.r2) _ _ _ (ReadsBytes-trans _ (two c.skip_rows.new.input) _ _ _ t.taken v.second.taken) m.second.taken)
-          (omega (
-            arith,
-            length-append (flat_map segment_row s.stored ++ flat_map hash_row v.first.stored) (flat_map hash_row m.first.stored),
-            length-append (flat_map segment_row s.stored) (flat_map hash_row v.first.stored),
-            s.size,
-            v.first.size,
-            m.first.size,
-          ))
-          (omega (
-            arith,
-            length-append (flat_map segment_row t.stored ++ flat_map hash_row v.second.stored) (flat_map hash_row m.second.stored),
-            length-append (flat_map segment_row t.stored) (flat_map hash_row v.second.stored),
-            t.size,
-            v.second.size,
-            m.second.size,
-          ))
-          c.in_err-copy_part-3.ensures;
+      rows = part_fails c.args.first.now c.args.second.now _ _ (one c.loop-part.r1) _ _ (two c.loop-part.r2) _ (flat_map segment_row s.stored ++ xs.0) (flat_map segment_row t.stored ++ ys.0) _ _ _
+          (ReadsBytes-trans _ (one c.copy_segments.new.input) _ _ _ s.taken xs.1) (ReadsBytes-trans _ (two c.skip_rows.new.input) _ _ _ t.taken ys.1)
+          (next_within c.args.first.now i _ xs.0 c.loop-part-test.true s.size xs.2)
+          (next_within c.args.second.now i _ ys.0 c.loop-part-test.true t.size ys.2)
+          c.in_err-copy_part.ensures;
       bound = tt;
     })
 
@@ -99,11 +73,12 @@ returns g c =
     let one = g.S.ShardSource.meaning in
     let two = g.T.ShardSource.meaning in
     let contents = g.W.Write.contents in
+    let now = streams (one c.loop-part.r1) (two c.loop-part.r2) (contents c.loop-part.out) in
+    let mixed = subst (λ ps. AreMixed c.args.first.now c.args.second.now ps (streams (one c.copy_segments.new.input) (two c.skip_rows.new.input) (contents c.copy_segments.new.writer)) now)
+    (take_all c.loop-part.part-index parts c.loop-part-test.false) c.loop-part.invariant in
     record {
-      rows = rows_mixed c.args.first.now c.args.second.now (one c.args.r1.now) (one c.copy_segments.new.input) (one c.copy_part.new.r1) (one c.copy_part-2.new.r1) (one c.copy_part-3.new.r1)
-          (two c.args.r2.now) (two c.skip_rows.new.input) (two c.copy_part.new.r2) (two c.copy_part-2.new.r2) (two c.copy_part-3.new.r2)
-          (contents c.args.out.now) (contents c.copy_segments.new.writer) (contents c.copy_part.new.out) (contents c.copy_part-2.new.out) (contents c.copy_part-3.new.out)
-          c.in_ok-size.ensures.copied.0 c.in_ok-skip_rows.ensures.0 c.in_ok-size.size c.in_ok-size.ensures.copied.1 c.in_ok-size.ensures.copied.2 c.in_ok-skip_rows.ensures.1
-          c.in_ok-copy_part.ensures c.in_ok-copy_part-2.ensures c.in_ok-copy_part-3.ensures;
+      rows = rows_mixed c.args.first.now c.args.second.now (one c.args.r1.now) (one c.copy_segments.new.input) (one c.loop-part.r1)
+          (two c.args.r2.now) (two c.skip_rows.new.input) (two c.loop-part.r2) (contents c.args.out.now) (contents c.copy_segments.new.writer) (contents c.loop-part.out)
+          c.in_ok-size.ensures.copied.0 c.in_ok-skip_rows.ensures.0 c.in_ok-size.size c.in_ok-size.ensures.copied.1 c.in_ok-size.ensures.copied.2 c.in_ok-skip_rows.ensures.1 mixed;
       bound = c.in_ok-size.ensures.bound;
     }
