@@ -1,6 +1,6 @@
 -- What some bytes are to a view: the record that they begin with, whatever follows it, or why they
 -- begin with none.
-use Rattle.std.specs.Prelude.{◌≡◌, ◌≢◌, ◌⊎◌, ℕ, ◌+◌, ◌*◌, ◌<◌, ◌≤◌, Bool, false, not, ◌&&◌, IsTrue, List, [], ◌∷◌, ◌++◌, length, map, slice_get, Some, if◌then◌else◌}
+use Rattle.std.specs.Prelude.{◌≡◌, ◌≢◌, ◌⊎◌, ℕ, ◌+◌, ◌*◌, ◌<◌, ◌≤◌, Bool, true, false, not, ◌&&◌, IsTrue, List, [], ◌∷◌, ◌++◌, length, map, slice_get, Some, if◌then◌else◌}
 use Rattle.std.specs.IoError.{error_kind}
 use Rattle.std.specs.declared.io.ErrorKind.TheVariants.{Other}
 use Rattle.xet_base.specs.declared.error.CoreError.{CoreError}
@@ -133,6 +133,10 @@ aux_as_wanted wanted r = if wanted then r else without_aux r
 -- the records, without their auxiliary rows unless those are wanted
 abbrev pub auxes_as_wanted : Bool → List MDBFileInfo → List MDBFileInfo
 auxes_as_wanted wanted rs = if wanted then rs else map without_aux rs
+
+-- all parts are kept
+abbrev pub everything : KeptParts
+everything = record { verification = true; aux_ext = true }
 
 -- the record that is written where these parts are kept
 abbrev pub as_kept : KeptParts → MDBFileInfo → MDBFileInfo

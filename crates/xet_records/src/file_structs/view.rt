@@ -47,6 +47,12 @@ pub struct KeptParts {
 }
 
 impl KeptParts {
+    /// All parts.
+    pub const ALL: KeptParts = KeptParts {
+        verification: true,
+        aux_ext: true,
+    };
+
     // The parts that are written.
     fn parts(self) -> Parts
         ensures { result ≡ flags_of (keeps self) }
@@ -243,7 +249,7 @@ impl MDBFileInfoView {
     {
         self.byte_size_of_kept(KeptParts {
             verification: with_verification,
-            aux_ext: true,
+            ..KeptParts::ALL
         })
     }
 
@@ -285,7 +291,7 @@ impl MDBFileInfoView {
     {
         let kept = KeptParts {
             verification: with_verification,
-            aux_ext: true,
+            ..KeptParts::ALL
         };
         self.serialize_kept(writer, kept)
     }

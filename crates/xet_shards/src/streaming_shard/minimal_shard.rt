@@ -142,7 +142,7 @@ impl MDBMinimalShard {
     {
         self.size_of_kept(KeptParts {
             verification: with_verification,
-            aux_ext: true,
+            ..KeptParts::ALL
         })
     }
 

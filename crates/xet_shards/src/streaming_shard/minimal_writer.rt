@@ -56,7 +56,7 @@ impl MDBMinimalShard {
     {
         let kept = KeptParts {
             verification: with_verification,
-            aux_ext: true,
+            ..KeptParts::ALL
         };
         self.serialize_kept(alloc, writer, now, kept)
     }
@@ -148,7 +148,7 @@ impl MDBMinimalShard {
         let options = minimal_options(now, expiry);
         let kept = KeptParts {
             verification: false,
-            aux_ext: true,
+            ..KeptParts::ALL
         };
         self.write(alloc, writer, &[], kept, &options, filter)
     }

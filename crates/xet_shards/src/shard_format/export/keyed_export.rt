@@ -341,8 +341,8 @@ impl ExportedRecord for MDBFileInfoView {
             return Ok(());
         }
         let kept = KeptParts {
-            verification: true,
             aux_ext,
+            ..KeptParts::ALL
         };
         write_file_view(writer, written, &self, kept)
     }

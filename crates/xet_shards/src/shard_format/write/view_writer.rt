@@ -35,7 +35,7 @@ pub fn write_file_view<W: Write>(
 {
     let kept = KeptParts {
         verification: kept.verification && view.contains_verification(),
-        aux_ext: kept.aux_ext,
+        ..kept
     };
     let rows = (view.byte_size_of_kept(kept) / ROW_SIZE) as u64;
     let bytes = file_size(view);
