@@ -1,8 +1,7 @@
 //! Records from the lines of JSON in which they are printed whole.
 
-ghost use Rattle.std.specs.Prelude.{◌≡◌, ◌↔◌, true, IsTrue, IfOk, map, length};
+ghost use Rattle.std.specs.Prelude.{◌≡◌, true, IfOk, map};
 ghost use Rattle.xet_records.specs.FileRecord.{FitsItsHeader};
-ghost use Rattle.xet_records.specs.Part.{rows_of, part_rows};
 ghost use Rattle.xet_records.specs.XorbRecord.{HasItsChunks};
 ghost use Rattle.mdb_report.specs.Records.{ReportsFile, ReportsXorb, segment_report, chunk_row_of};
 
@@ -13,7 +12,7 @@ use std::alloc::{AllocError, AllocFailed, Global};
 use std::fmt;
 use xet_core_structures::file_structs::{
     FileAuxExt, FileDataSequenceEntry, FileDataSequenceHeader, FileMetadataExt,
-    FileVerificationEntry, MDBFileInfo, OptionalPart,
+    FileVerificationEntry, MDBFileInfo,
 };
 use xet_core_structures::rows::Rows;
 use xet_core_structures::xorb_structs::{
@@ -132,7 +131,7 @@ pub fn file_of(alloc: Global, report: &FileReport) -> Result<MDBFileInfo, LineFa
         metadata_ext: rows.sha256.map(|hash| FileMetadataExt::new(hash.0)),
         aux_ext: rows.aux.map(|hash| FileAuxExt::new(hash.0)),
     };
-    if fits_its_header(&file) && file.file_size() == report.bytes {
+    if file.fits_its_header() && file.file_size() == report.bytes {
         Ok(file)
     } else {
         Err(LineFault::Mismatch)
@@ -168,24 +167,6 @@ fn verification_of(alloc: Global, hashes: &[Hex]) -> Result<Rows<FileVerificatio
         made.push(FileVerificationEntry::new(hash.0))?;
     }
     Ok(made)
-}
-
-// Whether a file has the segments and the parts that its header announces.
-fn fits_its_header(file: &MDBFileInfo) -> bool
-    ensures { IsTrue result → FitsItsHeader file.now }
-{
-    let header = &file.metadata;
-    file.segments.len() as u64 == u64::from(header.num_entries)
-        && has_part(file, OptionalPart::Verification)
-        && has_part(file, OptionalPart::MetadataExt)
-        && has_part(file, OptionalPart::AuxExt)
-}
-
-// Whether a file has as many rows of a part as its header announces.
-fn has_part(file: &MDBFileInfo, part: OptionalPart) -> bool
-    ensures { IsTrue result ↔ (length (rows_of part file.now) ≡ part_rows part file.now.metadata) }
-{
-    file.part_len(part) as u64 == u64::from(file.metadata.part_rows(part))
 }
 
 /// The xorb of which a report with rows is.

@@ -1,8 +1,5 @@
 //! Commands that write and read single rows, records and shards.
 
-ghost use Rattle.std.specs.Prelude.{IsTrue};
-ghost use Rattle.xet_core_structures.specs.FileRecord.{FitsItsHeader};
-
 use crate::numbers::{show_number, write_number};
 use crate::probe::Probe;
 use crate::runs::Run;
@@ -149,20 +146,10 @@ fn write_row<W: Write>(kind: &str, word: &str, output: &mut W) -> Result<usize, 
 
 // Serializes a record whose parts are those that its header announces.
 fn write_file<W: Write>(file: &MDBFileInfo, output: &mut W) -> Result<usize, Stop> {
-    if !fits_its_header(file) {
+    if !file.fits_its_header() {
         return Err(Stop::Unreadable);
     }
     Ok(file.serialize(output)?)
-}
-
-fn fits_its_header(file: &MDBFileInfo) -> bool
-    ensures { IsTrue result → FitsItsHeader file.now }
-{
-    let header = &file.metadata;
-    file.segments.len() == header.num_entries as usize
-        && file.verification.len() == header.verification_rows() as usize
-        && file.metadata_ext.is_some() == header.contains_metadata_ext()
-        && file.aux_ext.is_some() == header.contains_aux_ext()
 }
 
 fn write_xorb<W: Write>(xorb: &MDBXorbInfo, output: &mut W) -> Result<usize, Stop> {

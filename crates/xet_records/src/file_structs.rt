@@ -5,10 +5,11 @@ mod part;
 mod rows;
 mod view;
 
-ghost use Rattle.std.specs.Prelude.{◌≡◌, ℕ, List, Some, ◌++◌, ◌*◌, ◌≤◌, ◌⊎◌, length, MatchResult, IfSome, OnOk, OnErr, IfOk, IfErr, IsTrue, not, ◌&&◌, if◌then◌else◌};
+ghost use Rattle.std.specs.Prelude.{◌≡◌, ℕ, List, Some, ◌++◌, ◌*◌, ◌≤◌, ◌⊎◌, length, MatchResult, IfSome, OnOk, OnErr, IfOk, IfErr, IsTrue, not, ◌&&◌, ◌↔◌, if◌then◌else◌};
 ghost use Rattle.std.specs.Io.KnownBytes.{Appends, Consumes};
 ghost use Rattle.xet_records.specs.FileRecord.{has_verification, has_metadata_ext, has_aux_ext, rows_after, row_count, file_record_bytes, size_of_file, FitsItsHeader, IsStored, as_read, file_records};
 ghost use Rattle.xet_records.specs.Part.{rows_of};
+ghost use Rattle.xet_records.specs.Steps.FileRecord.{HasAnnounced};
 ghost use Rattle.xet_records.specs.Merging.{IsSameFile, has_part, merged};
 ghost use Rattle.xet_records.specs.Reading.{ReadsOrEnds, ReadsRowsAfter, IsTruncatedRecord, HasRefusedHeader};
 ghost use Rattle.xet_base.specs.Table.{IsBareInvalidShard};
@@ -182,6 +183,28 @@ impl MDBFileInfo {
             OptionalPart::MetadataExt => usize::from(self.metadata_ext.is_some()),
             OptionalPart::AuxExt => usize::from(self.aux_ext.is_some()),
         }
+    }
+
+    /// Whether the record has the segments and the parts that its header announces.
+    pub fn fits_its_header(&self) -> bool
+        ensures { IsTrue result ↔ FitsItsHeader self.now }
+    {
+        self.segments.len() as u64 == u64::from(self.metadata.num_entries)
+            && self.has_announced_parts()
+    }
+
+    fn has_announced_parts(&self) -> bool
+        ensures { IsTrue result ↔ ((part : OptionalPart) → HasAnnounced part self.now) }
+    {
+        OptionalPart::ALL
+            .iter()
+            .all(|part| self.has_announced(*part))
+    }
+
+    fn has_announced(&self, part: OptionalPart) -> bool
+        ensures { IsTrue result ↔ HasAnnounced part self.now }
+    {
+        self.part_len(part) as u64 == u64::from(self.metadata.part_rows(part))
     }
 
     // Whether only `other` has a part.

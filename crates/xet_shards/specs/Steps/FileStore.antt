@@ -1,22 +1,15 @@
 -- The fields of a file store, and what is tested of a record before it is put there.
-use Rattle.std.specs.Prelude.{◌≡◌, T, List, [], ◌∷◌, length, All}
+use Rattle.std.specs.Prelude.{◌≡◌, T, List, [], ◌∷◌, All}
 use Rattle.std.specs.FinMap.{is_sorted}
 use Rattle.xet_base.specs.Hash.{hash_cmp}
 use Rattle.xet_shards.specs.declared.shard_in_memory.file_store.FileStore.TheInside.{Inside}
-use Rattle.xet_records.specs.declared.file_structs.part.OptionalPart.{OptionalPart}
 use Rattle.xet_records.specs.declared.file_structs.rows.HashRow.{HashRow}
-use Rattle.xet_records.specs.declared.file_structs.MDBFileInfo.{MDBFileInfo}
-use Rattle.xet_records.specs.Part.{part_rows, rows_of}
 use Rattle.xet_shards.specs.Content.Shard.{AreFiles}
 
 -- the keys ascend, each is its record's hash, and the records are well-formed
 pub record IsSoundFileStore (t : Inside) : Type 0 where
   pub sorted : T (is_sorted hash_cmp t.content.entries)
   pub files : AreFiles t.content.entries
-
--- the record has as many rows of a part as its header announces
-abbrev pub HasAnnounced : OptionalPart → MDBFileInfo → Type 0
-HasAnnounced part r = length (rows_of part r) ≡ part_rows part r.metadata
 
 -- the reserved words of rows are zero
 abbrev pub AreClear : List HashRow → Type 0

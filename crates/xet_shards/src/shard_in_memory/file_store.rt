@@ -9,7 +9,7 @@ ghost use Rattle.xet_base.specs.Hash.{hash_cmp};
 ghost use Rattle.xet_records.specs.FileRecord.{row_count, FitsItsHeader, FitsRecord, IsWellFormed};
 ghost use Rattle.xet_records.specs.Merging.{IsSameFile, merged};
 ghost use Rattle.xet_records.specs.Part.{rows_of, optional_rows};
-ghost use Rattle.xet_shards.specs.Steps.FileStore.{HasAnnounced, AreClear};
+ghost use Rattle.xet_shards.specs.Steps.FileStore.{AreClear};
 ghost use Rattle.xet_shards.specs.Content.Shard.{AreFiles, file_hash_of};
 ghost use Rattle.xet_shards.specs.Content.Joining.{unless_in, entry, either_file};
 ghost use Rattle.xet_shards.specs.Steps.Joining.{CanJoinFile, CanJoinFiles, IsJoinedFile};
@@ -258,25 +258,9 @@ pub fn is_well_formed(file_info: &MDBFileInfo) -> bool
     !metadata.is_bookend()
         && metadata.file_flags == metadata.known_flags()
         && metadata._unused == 0
-        && file_info.segments.len() as u64 == u64::from(metadata.num_entries)
-        && has_announced_parts(file_info)
+        && file_info.fits_its_header()
         && has_clear_parts(file_info)
         && metadata.rows_after() < u64::from(u32::MAX)
-}
-
-// Whether the record has the parts that its header announces.
-fn has_announced_parts(file_info: &MDBFileInfo) -> bool
-    ensures { IsTrue result ↔ ((part : OptionalPart) → HasAnnounced part file_info.now) }
-{
-    has_announced(file_info, OptionalPart::Verification)
-        & has_announced(file_info, OptionalPart::MetadataExt)
-        & has_announced(file_info, OptionalPart::AuxExt)
-}
-
-fn has_announced(file_info: &MDBFileInfo, part: OptionalPart) -> bool
-    ensures { IsTrue result ↔ HasAnnounced part file_info.now }
-{
-    file_info.part_len(part) as u64 == u64::from(file_info.metadata.part_rows(part))
 }
 
 // Whether the reserved words in the rows of its parts are zero.
