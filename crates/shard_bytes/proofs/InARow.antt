@@ -1,8 +1,11 @@
 -- The bytes that shards in a row append to an empty vector are the concatenation.
-use Rattle.std.proofs.Common.{◌≡◌, ◌⊎◌, inl, inr, ℕ, ◌≤◌, Bool, true, false, List, [], ◌++◌, length, take, drop, None, Some, refl, sym, ap, ◌∙◌, subst, append-nil, true≢false, arith}
+use Rattle.std.proofs.Common.{◌≡◌, ◌⊎◌, inl, inr, ℕ, ◌≤◌, ◌<◌, Bor, Bool, true, false, List, [], ◌++◌, length, map, take, drop, None, Some, refl, sym, ap, ◌∙◌, subst, append-nil, true≢false, arith}
+use Rattle.std.specs.Prelude.{⊤, All}
+use Rattle.std.specs.List.{AllZip}
 use Rattle.std.specs.FinMap.{values}
 use Rattle.std.proofs.Math.Seq.{take-append_seam}
-use Rattle.std.proofs.lemmas.List.{drop_all}
+use Rattle.std.proofs.lemmas.List.{drop_all, length-map}
+use Rattle.xet_base.specs.KeyedHash.{no_key}
 use Rattle.std.specs.Io.KnownBytes.{Appends}
 use Rattle.xet_core_structures.specs.declared.error.CoreError.{CoreError}
 use Rattle.xet_core_structures.specs.declared.error.CoreError.TheVariants.{InvalidArguments, OutOfMemory}
@@ -12,14 +15,17 @@ use Rattle.xet_core_structures.specs.declared.xorb_structs.MDBXorbInfo.{MDBXorbI
 use Rattle.xet_core_structures.specs.declared.set_operations.FormatVersion.{FormatVersion}
 use Rattle.xet_core_structures.specs.declared.set_operations.FormatVersion.TheVariants.{V2, V3}
 use Rattle.xet_core_structures.specs.Errors.{IsWriteError}
-use Rattle.xet_core_structures.specs.InARow.{files_in, options_under, AreInARow, AppendsShardsInARow, IsConcatenation, RefusesShardsInARow}
+use Rattle.xet_core_structures.specs.InARow.{ShardPart, bytes_of_part, IsPartUnder, files_in, xorbs_in, options_under, AscendBoth, ArePartsInARow, AreBytesOf, AreInARow, AppendsShardsInARow, IsConcatenation, RefusesShardsInARow}
 use Rattle.xet_core_structures.specs.Layout.{layout_of, plain_options}
-use Rattle.xet_core_structures.specs.Shard.{Shard}
+use Rattle.xet_core_structures.specs.Records.Ranges.{IsPartOf, is_within, ranges_between, AreCuts}
+use Rattle.xet_core_structures.specs.Shard.{Shard, IsShard}
 use Rattle.xet_core_structures.specs.Trees.Filling.{Fills}
+use Rattle.xet_core_structures.specs.Trees.RangeTrees.{IsHeldLayout}
 use Rattle.xet_core_structures.proofs.Trees.InVersions.{in_version_2}
-use Rattle.xet_shards.proofs.Export.InARow.{ArePartsOf}
+use Rattle.xet_core_structures.proofs.Trees.RangeParts.{ranges_concatenate}
+use Rattle.xet_shards.proofs.Export.InARow.{ArePartsOf, parts_of, parts_in_a_row}
 use Rattle.xet_shards.proofs.Export.KeyedExport.{footer_last}
-use Rattle.shard_bytes.specs.InARow.{has_new_files, IsLayoutIn, FailsIn, IsConcatenationIn}
+use Rattle.shard_bytes.specs.InARow.{has_new_files, IsLayoutIn, FailsIn, IsConcatenationIn, Concatenates}
 use Rattle.shard_bytes.specs.Outcomes.{InMemory}
 use Rattle.shard_bytes.specs.Steps.Versions.{IsNumberedIn}
 use Rattle.shard_bytes.specs.Versions.{have_aux_rows}
@@ -71,11 +77,6 @@ concatenation_numbered V2 shards inputs parts bytes numbered none made is =
     (made.all, made.row, made.is_bytes.shard, ap have_aux_rows (made.row.files ∙ sym parts.files_are) ∙ sym none, is enough ∙ in_version_2 files xorbs (plain_options None) bytes are)
 concatenation_numbered V3 shards inputs parts bytes numbered none made is = subst (IsConcatenation shards) (sym is) made
 
--- the files of parts in a row are those of the shard that has them
-pub new_in_row : (version : FormatVersion) (shards : List Shard) (inputs : List (List ℕ)) (parts : ArePartsOf shards inputs) (all : Shard) (found : Bool) → AreInARow shards all → found ≡ has_new_files version (files_in parts.parts)
-    → found ≡ has_new_files version (values all.files)
-new_in_row version shards inputs parts all found row is = is ∙ ap (has_new_files version) (parts.files_are ∙ sym row.files)
-
 -- bytes are put to the front of themselves
 pub put_whole : (bytes : List ℕ) (size : ℕ) → size ≡ length bytes → Fills bytes bytes bytes size
 put_whole bytes size is = (is, inl (omega (arith, is), sym (ap (λ l. bytes ++ l) (drop_all size bytes (omega (arith, is))) ∙ append-nil bytes)))
@@ -93,3 +94,69 @@ whole_numbered version bytes now new len size now_is len_is size_is puts =
     all_filled : (bytes new numbered : List ℕ) (size : ℕ) → size ≡ length bytes → Fills numbered bytes new size → new ≡ numbered
     all_filled bytes new numbered size is (size_is, inl (fits, put)) = put ∙ ap (λ l. numbered ++ l) (drop_all size bytes (omega (arith, is))) ∙ append-nil numbered
     all_filled bytes new numbered size is (size_is, inr (past, stays)) = absurd (omega (arith, past, is))
+
+-- a concatenation in a version, by what it gives
+module _ (version : FormatVersion) (shards : List (Bor (List ℕ))) (Gives : (List ℕ → Type 0) → (CoreError → Type 0) → Type 0) where
+  abbrev inputs : List (List ℕ)
+  inputs = map (λ x. x.now) shards
+
+  -- of parts in a row, and so of ranges that follow one another
+  abbrev GivesOfParts : Type 0
+  GivesOfParts = (key : DataHash) → (parts : List ShardPart) → ArePartsInARow key parts → map bytes_of_part parts ≡ inputs → Gives (IsLayoutIn version (files_in parts) (xorbs_in parts) key) (FailsIn version (files_in parts))
+
+  of_ranges : GivesOfParts → (key : DataHash) → (cuts : List DataHash) → (join : Shard) → (parts : List Shard) → IsShard join → AreCuts None cuts None
+      → AllZip (λ range part. IsPartOf (is_within range) join part) (ranges_between None cuts None) parts → AllZip (IsHeldLayout key) parts inputs
+      → Gives (IsLayoutIn version (values join.files) (values join.xorbs) key) (FailsIn version (values join.files))
+  of_ranges gives key cuts join parts shard are_cuts are_parts are =
+      let all = ranges_concatenate key cuts join parts inputs are_cuts are_parts are in
+      subst (λ p. p) (λ i. Gives (IsLayoutIn version (all.files_are i) (all.xorbs_are i) key) (FailsIn version (all.files_are i))) (gives key all.parts (all.row shard) all.are)
+
+  -- an error, of which more is known where parts are in a row
+  module _ (e : CoreError) (fails : (IsMade : List ℕ → Type 0) (IsCause : CoreError → Type 0) → IsCause e → Gives IsMade IsCause) (cause : InMemory (RefusesShardsInARow inputs) e)
+      (known : (key : DataHash) → (parts : List ShardPart) → ArePartsInARow key parts → map bytes_of_part parts ≡ inputs → FailsIn version (files_in parts) e) where
+    shard_fails : (written : List Shard) → (all : Shard) → IsShard all → AreInARow written all → AreBytesOf written inputs → 0 < length inputs → FailsIn version (values all.files) e
+    shard_fails written all shard row is some =
+        let parts = parts_of written inputs is in
+        let in_row = parts_in_a_row written shards all shard row is parts (omega (arith, some, length-map shards (λ (x : Bor (List ℕ)). x.now))) in
+        subst (λ fs. FailsIn version fs e) (parts.files_are ∙ sym row.files) (known no_key parts.parts in_row parts.are)
+
+    pub none_concatenated : Concatenates version inputs Gives
+    none_concatenated = record {
+      causes = fails _ _ cause;
+      parts = λ key parts fit are. fails _ _ cause;
+      order = λ key parts fit are each. fails _ _ cause;
+      succeeds = λ key parts row are. fails _ _ (known key parts row are);
+      shard = λ written is. fails _ _ cause;
+      shard_succeeds = λ written all shard row is some. fails _ _ (shard_fails written all shard row is some);
+      ranges = of_ranges (λ key parts row are. fails _ _ (known key parts row are));
+    }
+
+  -- bytes in version 3, which has all files, that get the number of the version
+  module _ (Makes : (List ℕ → Type 0) → Type 0)
+      (gives : (M N : List ℕ → Type 0) → ((bytes numbered : List ℕ) → M bytes → IsNumberedIn version bytes numbered → N numbered) → Makes M → (IsCause : CoreError → Type 0) → Gives N IsCause)
+      (old : (key : DataHash) → (parts : List ShardPart) → All (IsPartUnder key) parts → map bytes_of_part parts ≡ inputs → false ≡ has_new_files version (files_in parts))
+      (some : Makes (λ _. ⊤))
+      (layout : (key : DataHash) → (parts : List ShardPart) → All (IsPartUnder key) parts → map bytes_of_part parts ≡ inputs → Makes (λ bytes. bytes ≡ layout_of (files_in parts) (xorbs_in parts) (options_under key)))
+      (ascend : (key : DataHash) → (parts : List ShardPart) → All (IsPartUnder key) parts → map bytes_of_part parts ≡ inputs → All (λ part. AscendBoth part.files part.xorbs) parts → AscendBoth (files_in parts) (xorbs_in parts))
+      (row : (written : List Shard) → AreBytesOf written inputs → Makes (IsConcatenation written)) where
+    parts_given : (key : DataHash) → (parts : List ShardPart) → All (IsPartUnder key) parts → map bytes_of_part parts ≡ inputs → (IsCause : CoreError → Type 0) → Gives (IsLayoutIn version (files_in parts) (xorbs_in parts) key) IsCause
+    parts_given key parts fit are =
+        gives (λ bytes. bytes ≡ layout_of (files_in parts) (xorbs_in parts) (options_under key)) (IsLayoutIn version (files_in parts) (xorbs_in parts) key)
+        (λ bytes numbered made is. layout_numbered version (files_in parts) (xorbs_in parts) key bytes numbered (old key parts fit are) made is) (layout key parts fit are)
+
+    shards_given : (written : List Shard) → AreBytesOf written inputs → (IsCause : CoreError → Type 0) → Gives (IsConcatenationIn version written) IsCause
+    shards_given written is =
+        let parts = parts_of written inputs is in
+        gives (IsConcatenation written) (IsConcatenationIn version written)
+        (λ bytes numbered made number. concatenation_numbered version written inputs parts bytes numbered (old no_key parts.parts parts.fit parts.are) made number) (row written is)
+
+    pub concatenated : Concatenates version inputs Gives
+    concatenated = record {
+      causes = gives (λ _. ⊤) (λ _. ⊤) (λ bytes numbered made is. tt) some _;
+      parts = λ key parts fit are. parts_given key parts fit are _;
+      order = λ key parts fit are each. gives (λ _. ⊤) (λ _. AscendBoth (files_in parts) (xorbs_in parts)) (λ bytes numbered made is. ascend key parts fit are each) some _;
+      succeeds = λ key parts in_row are. parts_given key parts in_row.fit are _;
+      shard = λ written is. shards_given written is _;
+      shard_succeeds = λ written all shard in_row is enough. shards_given written is _;
+      ranges = of_ranges (λ key parts in_row are. parts_given key parts in_row.fit are _);
+    }

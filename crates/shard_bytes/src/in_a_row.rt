@@ -1,16 +1,8 @@
-//! The concatenation of shards whose records come one after another.
+//! Concatenation: one shard made of many whose records follow one another.
 
-ghost use Rattle.std.specs.Prelude.{◌≡◌, ⊤, ℕ, List, All, map, length, None, ◌<◌, IfOk, IfErr, MatchResult};
-ghost use Rattle.std.specs.FinMap.{values};
-ghost use Rattle.std.specs.List.{AllZip};
-ghost use Rattle.xet_core_structures.specs.InARow.{ShardPart, bytes_of_part, IsPartUnder, files_in, xorbs_in, AscendBoth, ArePartsInARow, AreBytesOf, AreInARow, RefusesShardsInARow};
-ghost use Rattle.xet_core_structures.specs.Records.Ranges.{IsPartOf, is_within, ranges_between, AreCuts};
-ghost use Rattle.xet_core_structures.specs.Shard.{Shard, IsShard};
+ghost use Rattle.std.specs.Prelude.{ℕ, List, map, MatchResult};
 ghost use Rattle.xet_core_structures.specs.Trees.Filling.{Fills, FillsWith};
-ghost use Rattle.xet_core_structures.specs.Trees.RangeTrees.{IsHeldLayout};
-ghost use Rattle.xet_core_structures.specs.declared.merklehash.DataHash.{DataHash};
-ghost use Rattle.shard_bytes.specs.InARow.{IsLayoutIn, FailsIn, IsConcatenationIn};
-ghost use Rattle.shard_bytes.specs.Outcomes.{InMemory};
+ghost use Rattle.shard_bytes.specs.InARow.{Concatenates};
 ghost use Rattle.shard_bytes.specs.Steps.Versions.{IsNumberedIn};
 
 use crate::aux_rows::have_new_files;
@@ -36,32 +28,20 @@ use xet_shards::shard_writer::{shards_in_a_row, shards_in_a_row_into};
 /// `InvalidArguments` if a file has an auxiliary row, and the version is 2, which has none. Else the
 /// errors are those of [`shards_in_a_row`], and `OutOfMemory` if an allocation fails.
 pub fn concatenate(alloc: Global, shards: &[&[u8]], version: FormatVersion) -> Result<Vec<u8>>
-    ensures parts { (key : DataHash) → (parts : List ShardPart) → All (IsPartUnder key) parts
-        → map bytes_of_part parts ≡ map (λ x. x.now) shards.now
-        → IfOk result
-        (λ bytes. IsLayoutIn version (files_in parts) (xorbs_in parts) key bytes.items) }
-    ensures order { (key : DataHash) → (parts : List ShardPart) → All (IsPartUnder key) parts
-        → map bytes_of_part parts ≡ map (λ x. x.now) shards.now
-        → All (λ part. AscendBoth part.files part.xorbs) parts
-        → IfOk result (λ _. AscendBoth (files_in parts) (xorbs_in parts)) }
-    ensures succeeds { (key : DataHash) → (parts : List ShardPart) → ArePartsInARow key parts
-        → map bytes_of_part parts ≡ map (λ x. x.now) shards.now
-        → IfErr result (FailsIn version (files_in parts)) }
-    ensures shard { (written : List Shard) → AreBytesOf written (map (λ x. x.now) shards.now)
-        → IfOk result (λ bytes. IsConcatenationIn version written bytes.items) }
-    ensures shard_succeeds { (written : List Shard) → (all : Shard) → IsShard all
-        → AreInARow written all → AreBytesOf written (map (λ x. x.now) shards.now)
-        → 0 < length shards.now → IfErr result (FailsIn version (values all.files)) }
-    ensures ranges { (key : DataHash) → (cuts : List DataHash) → (join : Shard) → (parts : List Shard)
-        → IsShard join → AreCuts None cuts None
-        → AllZip (λ range part. IsPartOf (is_within range) join part) (ranges_between None cuts None)
-        parts → AllZip (IsHeldLayout key) parts (map (λ x. x.now) shards.now)
-        → MatchResult result
-        (λ bytes. IsLayoutIn version (values join.files) (values join.xorbs) key bytes.items)
-        (FailsIn version (values join.files)) }
-    ensures causes { IfErr result (InMemory (RefusesShardsInARow (map (λ x. x.now) shards.now))) }
+    ensures { Concatenates version (map (λ x. x.now) shards.now)
+        (λ IsMade IsCause. MatchResult result (λ bytes. IsMade bytes.items) IsCause) }
 {
-    concatenate_parts(alloc, shards, version)
+    if have_new_files(alloc, shards, version) {
+        return Err(CoreError::InvalidArguments);
+    }
+    let mut bytes = with_room(alloc, total_length(shards))?;
+    match shards_in_a_row(alloc, shards, &mut bytes) {
+        Ok(_) => {
+            put_version(version, bytes.len(), bytes.as_mut_slice());
+            Ok(bytes)
+        }
+        Err(error) => Err(in_memory(error)),
+    }
 }
 
 /// [`concatenate`] straight to the front of `out`: the number of bytes that it makes. They are put
@@ -75,31 +55,8 @@ pub fn concatenate_into(
     version: FormatVersion,
     out: &mut [u8],
 ) -> Result<usize>
-    ensures parts { (key : DataHash) → (parts : List ShardPart) → All (IsPartUnder key) parts
-        → map bytes_of_part parts ≡ map (λ x. x.now) shards.now
-        → FillsWith (IsLayoutIn version (files_in parts) (xorbs_in parts) key)
-        (InMemory (RefusesShardsInARow (map (λ x. x.now) shards.now))) out.old out.new result }
-    ensures order { (key : DataHash) → (parts : List ShardPart) → All (IsPartUnder key) parts
-        → map bytes_of_part parts ≡ map (λ x. x.now) shards.now
-        → All (λ part. AscendBoth part.files part.xorbs) parts
-        → IfOk result (λ _. AscendBoth (files_in parts) (xorbs_in parts)) }
-    ensures succeeds { (key : DataHash) → (parts : List ShardPart) → ArePartsInARow key parts
-        → map bytes_of_part parts ≡ map (λ x. x.now) shards.now
-        → IfErr result (FailsIn version (files_in parts)) }
-    ensures shard { (written : List Shard) → AreBytesOf written (map (λ x. x.now) shards.now)
-        → FillsWith (IsConcatenationIn version written)
-        (InMemory (RefusesShardsInARow (map (λ x. x.now) shards.now))) out.old out.new result }
-    ensures shard_succeeds { (written : List Shard) → (all : Shard) → IsShard all
-        → AreInARow written all → AreBytesOf written (map (λ x. x.now) shards.now)
-        → 0 < length shards.now → IfErr result (FailsIn version (values all.files)) }
-    ensures ranges { (key : DataHash) → (cuts : List DataHash) → (join : Shard) → (parts : List Shard)
-        → IsShard join → AreCuts None cuts None
-        → AllZip (λ range part. IsPartOf (is_within range) join part) (ranges_between None cuts None)
-        parts → AllZip (IsHeldLayout key) parts (map (λ x. x.now) shards.now)
-        → FillsWith (IsLayoutIn version (values join.files) (values join.xorbs) key)
-        (FailsIn version (values join.files)) out.old out.new result }
-    ensures causes { FillsWith (λ _. ⊤)
-        (InMemory (RefusesShardsInARow (map (λ x. x.now) shards.now))) out.old out.new result }
+    ensures { Concatenates version (map (λ x. x.now) shards.now)
+        (λ IsMade IsCause. FillsWith IsMade IsCause out.old out.new result) }
 {
     if have_new_files(alloc, shards, version) {
         return Err(CoreError::InvalidArguments);
@@ -108,39 +65,6 @@ pub fn concatenate_into(
         Ok(size) => {
             put_version(version, size, out);
             Ok(size)
-        }
-        Err(error) => Err(in_memory(error)),
-    }
-}
-
-// `concatenate` without its clause on ranges.
-fn concatenate_parts(alloc: Global, shards: &[&[u8]], version: FormatVersion) -> Result<Vec<u8>>
-    ensures parts { (key : DataHash) → (parts : List ShardPart) → All (IsPartUnder key) parts
-        → map bytes_of_part parts ≡ map (λ x. x.now) shards.now
-        → IfOk result
-        (λ bytes. IsLayoutIn version (files_in parts) (xorbs_in parts) key bytes.items) }
-    ensures order { (key : DataHash) → (parts : List ShardPart) → All (IsPartUnder key) parts
-        → map bytes_of_part parts ≡ map (λ x. x.now) shards.now
-        → All (λ part. AscendBoth part.files part.xorbs) parts
-        → IfOk result (λ _. AscendBoth (files_in parts) (xorbs_in parts)) }
-    ensures succeeds { (key : DataHash) → (parts : List ShardPart) → ArePartsInARow key parts
-        → map bytes_of_part parts ≡ map (λ x. x.now) shards.now
-        → IfErr result (FailsIn version (files_in parts)) }
-    ensures shard { (written : List Shard) → AreBytesOf written (map (λ x. x.now) shards.now)
-        → IfOk result (λ bytes. IsConcatenationIn version written bytes.items) }
-    ensures shard_succeeds { (written : List Shard) → (all : Shard) → IsShard all
-        → AreInARow written all → AreBytesOf written (map (λ x. x.now) shards.now)
-        → 0 < length shards.now → IfErr result (FailsIn version (values all.files)) }
-    ensures causes { IfErr result (InMemory (RefusesShardsInARow (map (λ x. x.now) shards.now))) }
-{
-    if have_new_files(alloc, shards, version) {
-        return Err(CoreError::InvalidArguments);
-    }
-    let mut bytes = with_room(alloc, total_length(shards))?;
-    match shards_in_a_row(alloc, shards, &mut bytes) {
-        Ok(_) => {
-            put_version(version, bytes.len(), bytes.as_mut_slice());
-            Ok(bytes)
         }
         Err(error) => Err(in_memory(error)),
     }
