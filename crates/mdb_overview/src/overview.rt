@@ -1,4 +1,4 @@
-//! What is said of some shards together.
+//! The overview: totals, sizes and lists of several shards.
 
 ghost use Rattle.std.specs.Prelude.{◌≡◌, [], OnOk, OnErr};
 ghost use Rattle.std.specs.List.Sorted.{IsPermutation};

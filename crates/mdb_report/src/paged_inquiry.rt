@@ -1,4 +1,4 @@
-//! Answers of shards in files that can be sought, of which only what the answer needs is read.
+//! Answering about a shard in a regular file, of which only the needed pages are read.
 
 ghost use Rattle.std.specs.Prelude.{◌≡◌, ◌≢◌, IfOk, IfSome};
 ghost use Rattle.mdb_report.specs.Answers.{FindsProblems, LooksUp};

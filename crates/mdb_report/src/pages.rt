@@ -1,4 +1,4 @@
-//! Pages of a file that are in memory.
+//! The pages of a file that were read.
 
 ghost use Rattle.std.specs.Prelude.{◌≡◌, ℕ, false, ◌+◌, ◌*◌, ◌<◌, ◌≤◌, length, take, drop, is_some, nat_eq, IfOk};
 

@@ -1,4 +1,4 @@
-//! What is kept from one shard to the next while some are asked.
+//! Tallies: totals, and the hashes found so far, while a command goes through shards.
 
 ghost use Rattle.std.specs.Prelude.{◌≡◌, ◌↔◌, [], ◌∷◌, ◌++◌, Contains, IsTrue, OnOk};
 

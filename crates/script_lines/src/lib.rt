@@ -1,5 +1,5 @@
 //! The lines of scripts about metadata shards: their words, the values that these spell, and the
-//! output. For programs that read scripts; not part of the library.
+//! output. Only programs that read scripts use it.
 #![tactic(auto)]
 
 pub mod command;

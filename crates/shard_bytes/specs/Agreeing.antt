@@ -47,8 +47,8 @@ abbrev pub HoldNoneAgreeing : List (List ℕ) → Type 0
 HoldNoneAgreeing inputs =
     (shards : List Shard) → AllZip HasShard shards inputs → ¬ AgreePairwise (Contains shards)
 
--- the merge gives the bytes of the shards' join in a version, if the inputs hold well-formed shards that agree
--- pairwise, and of other inputs no bytes
+-- the merge gives the bytes of the shards' join in a version, if the inputs hold well-formed
+-- shards that agree pairwise, and of other inputs no bytes
 abbrev pub GivesJoin : FormatVersion → List (List ℕ) → AgreeingMerge → Type 0
 GivesJoin version inputs (Bytes bytes) = MadeIn version (IsMergeOfAgreeing inputs) bytes.items
 GivesJoin version inputs (Disagreements found) = HoldNoneAgreeing inputs

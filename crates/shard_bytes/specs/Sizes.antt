@@ -7,7 +7,7 @@ use Rattle.xet_core_structures.specs.declared.set_operations.agreement.AgreeingF
 use Rattle.shard_bytes.specs.declared.combine.Operation.{Operation}
 use Rattle.shard_bytes.specs.declared.combine.Operation.TheVariants.{Union, Difference}
 
--- what is made of byte strings has at most so many bytes: 344, and 8/3 of theirs
+-- a result has at most 344 bytes more than 8/3 of the inputs' bytes
 abbrev pub IsResultSize : List (List ℕ) → ℕ → Type 0
 IsResultSize inputs size = 3 * size ≤ 3 * 344 + 8 * sum_by length inputs
 

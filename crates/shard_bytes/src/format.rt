@@ -1,4 +1,4 @@
-//! What is unsupported about the format of bytes.
+//! Why bytes are not in a supported format: no tag, another version, or no footer.
 
 ghost use Rattle.xet_core_structures.specs.Ends.{IsUnsupported};
 ghost use Rattle.shard_bytes.specs.Format.{IsUnsupportedFor};

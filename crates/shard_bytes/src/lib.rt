@@ -1,5 +1,5 @@
 //! Operations on shards that are byte strings in memory: each takes the bytes of shards, and
-//! returns bytes or an answer. No source, reader or writer is to be made by the caller.
+//! returns bytes or an answer. The caller makes no source, reader or writer.
 #![tactic(auto)]
 
 pub mod agree;

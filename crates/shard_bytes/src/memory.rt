@@ -1,4 +1,4 @@
-//! Errors of calls on memory alone.
+//! Errors of calls that read from memory, which has no device that fails.
 
 ghost use Rattle.std.specs.Prelude.{◌≡◌, ◌⊎◌};
 ghost use Rattle.xet_core_structures.specs.Errors.{IsWriteError};

@@ -1,4 +1,4 @@
-//! Adding what is found to a list.
+//! Adding findings to a list, or an error if memory lacks.
 
 ghost use Rattle.std.specs.Prelude.{◌≡◌, ◌↔◌, Some, OnOk};
 ghost use Rattle.xet_records.specs.XorbRecord.{HasItsChunks};

@@ -1,8 +1,8 @@
 //! Finding what does not fit together in files and xorbs.
 //!
 //! The segments of all files come first, and are sorted by the xorbs that they name. Then each xorb
-//! is compared with those that name it. At last the hashes that were named are compared with those of
-//! the xorbs.
+//! is compared with those that name it. At the end it compares the hashes that segments name with
+//! those of the xorbs.
 
 ghost use Rattle.std.specs.Prelude.{◌≡◌, [], ◌∷◌, ◌++◌, List, OnOk, IfOk, All, Contains, None, true};
 ghost use Rattle.std.specs.List.{Any};

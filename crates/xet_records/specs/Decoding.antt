@@ -73,7 +73,7 @@ chunk_at bytes = record {
   _unused = u32_at bytes 44;
 }
 
--- the rows, so many and one after another, that bytes begin with
+-- the first n rows of the bytes
 unfoldable pub rows_at : {T : Type 0} → (List ℕ → T) → ℕ → List ℕ → List T
 rows_at row_at zero bytes = []
 rows_at row_at (suc n) bytes = row_at bytes ∷ rows_at row_at n (drop 48 bytes)

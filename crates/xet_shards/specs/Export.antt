@@ -1,4 +1,4 @@
--- Shards that are written again of what is read.
+-- Copying a shard record by record: keyed exports, and rewriting with other layout options.
 
 pub mod KeyedExport
 pub mod ExportLaws

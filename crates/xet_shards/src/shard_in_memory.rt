@@ -1,9 +1,9 @@
 //! Shards in memory.
 //!
-//! Shards in memory are put together of parts that are proved by themselves. `XorbStore` has the
-//! chunk lookup and one loop that enters chunks, `enter_chunks`; `FileStore` has the merging of
-//! records; neither has a limit on rows. `MDBInMemoryShard` has the limits, and keeps both sums of
-//! rows beside the stores. Whatever may fail to allocate comes before the first change:
+//! A shard in memory consists of two stores, each proved by itself. `XorbStore` has the chunk
+//! lookup and one loop that enters chunks, `enter_chunks`; `FileStore` has the merging of records;
+//! neither has a limit on rows. `MDBInMemoryShard` has the limits, and keeps both sums of rows
+//! beside the stores. Whatever may fail to allocate comes before the first change:
 //! `XorbStore::append` takes an owner for each chunk and reserves room in the lookup, then makes
 //! the one insertion that can still fail, and enters the chunks, which can't. A replaced xorb, a
 //! difference and a copy are new stores, and a union begins with a copy of the second store, lookup

@@ -1,4 +1,4 @@
-//! Sections read in one pass, one record after another.
+//! Reading sections in one pass, one record after another.
 
 ghost use Rattle.std.specs.Prelude.{◌≡◌, IsErrAnd};
 ghost use Rattle.xet_base.specs.Errors.{IsBareShardVersion};

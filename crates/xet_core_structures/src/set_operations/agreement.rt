@@ -12,8 +12,8 @@
 //! (`bench/README.md`).
 //!
 //! A merge of inputs that have to agree does not sort. Its tree compares the records that it unites
-//! (`strict_tree`), so that inputs which agree are found to by the merge itself. Only where that
-//! makes no merge is it asked which records disagree (`compared_tree`).
+//! (`strict_tree`), so the merge itself finds that inputs agree. Only if it fails does
+//! `compared_tree` look for the records that disagree.
 
 ghost use Rattle.std.specs.Prelude.{◌≡◌, ◌⊎◌, ◌++◌, ℕ, List, map, MatchOption, MatchResult, OnOk, IfOk, IfErr, IfSome};
 ghost use Rattle.xet_base.specs.declared.error.CoreError.TheVariants.{OutOfMemory};
@@ -188,8 +188,9 @@ pub enum AgreeingMerge {
 }
 
 /// Unites the inputs at the leaves of a tree in a version of the format, if each input holds a
-/// well-formed shard and these agree pairwise. Else it gives a record that no shard may have, of the first input that holds
-/// one; or, if there is none, all that disagree. Each input is read once for all of this.
+/// well-formed shard and these agree pairwise. Else it gives a record that no shard may have, of the
+/// first input that holds one; or, if there is none, all that disagree. Each input is read once for
+/// all of this.
 ///
 /// The inputs are read one after another, up to the first that cannot be read, whose error is that
 /// of [`find_disagreements`], or that holds a malformed record. Errors of the tree, as

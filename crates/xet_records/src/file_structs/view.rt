@@ -1,9 +1,9 @@
 //! A file record as a view of its bytes.
 //!
-//! Rows may be left out. Which of a file's verification rows and auxiliary row are written is a
-//! value, `KeptParts`, which `serialize_kept` of a view and the writing of minimal shards take;
-//! exports always keep verification rows, and take the choice of auxiliary rows. What is written of
-//! a record is one function, `as_kept`. If all is kept, it computes to the record itself, so the
+//! A view may be written without some rows. `KeptParts` says whether verification rows and the
+//! auxiliary row are kept; `serialize_kept` and the writing of minimal shards take it. Exports
+//! always keep verification rows, and take the choice of auxiliary rows. What is written of a
+//! record is one function, `as_kept`. If all is kept, it computes to the record itself, so the
 //! contracts of calls that leave nothing out mention no choice. An export without auxiliary rows is
 //! the export of the same shard without them (`shard_without_aux`), and agreement and joins of
 //! shards pass to these shards. So the law of exports covers it, and with it that rows can be left

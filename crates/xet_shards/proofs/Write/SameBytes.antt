@@ -60,7 +60,7 @@ module _ (s t : Shard) (e f : Option ℕ) (s_shard : IsShard s) (t_shard : IsSha
       (subst (λ bs. HasHeaderAndFooter bs (info_value s e)) same (ends_of_layout (values s.files) (values s.xorbs) (plain_options e) (fits_written s e s_shard e_fits)))
       (ends_of_layout (values t.files) (values t.xorbs) (plain_options f) (fits_written t f t_shard f_fits)))
 
--- the converse
+-- and equal layouts have equal parts
 pub same_layout : (s t : Shard) (e f : Option ℕ) → s ≡ t → (plain_options e).expiry ≡ (plain_options f).expiry → layout s e ≡ layout t f
 same_layout s t e f same timestamp =
     λ i. layout_of (values (same i).files) (values (same i).xorbs) (record (plain_options e) { expiry = timestamp i })

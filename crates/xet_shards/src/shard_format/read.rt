@@ -1,4 +1,4 @@
-//! Sections and tables as they are read whole.
+//! Reading sections and tables whole.
 //!
 //! `read_ends` reads a header and a footer, each in two steps, so that unsupported bytes are
 //! refused as soon as they are seen; `proofs/Ends/EndsUnique.antt` shows that bytes determine at

@@ -1,4 +1,4 @@
-//! Sections, tables and footer as they are written.
+//! Writing sections, tables and footer.
 //!
 //! `serialize_from` requires nothing of its caller: that the records fit their headers and that row
 //! numbers fit `u32` is known of every `MDBInMemoryShard`, since its contract has an invariant that

@@ -1,4 +1,4 @@
-//! Inputs in memory, whose records are placed once, for all that is done with them.
+//! Inputs in memory whose records are placed once, and then compared and merged where they lie.
 
 ghost use Rattle.std.specs.Prelude.{◌≡◌, ◌<◌, ℕ, List, [], ◌∷◌, ◌++◌, map, length, Some, slice_get, MatchResult, OnOk, IfErr};
 ghost use Rattle.xet_base.specs.declared.error.CoreError.TheVariants.{OutOfMemory};

@@ -1,5 +1,5 @@
-//! Two sections read side by side, a record of each at a time, and a section written of what an
-//! operation makes of the records with one hash.
+//! Reading two sections side by side, a record of each at a time, and writing a section of the
+//! results of an operation on the records with one hash.
 
 ghost use Rattle.std.specs.Prelude.{◌≤◌, ◌⊎◌, ◌↔◌, IsTrue, IfSome, is_some, Option, MatchResult, IfErr, OnOk};
 ghost use Rattle.std.specs.Io.KnownBytes.{Appends};

@@ -1,4 +1,4 @@
-//! What is written of a shard beside its records.
+//! Layout options: which tables a shard is written with, its version, key and times.
 
 ghost use Rattle.std.specs.Prelude.{◌≡◌};
 ghost use Rattle.xet_shards.specs.Write.Layout.{plain_options};
