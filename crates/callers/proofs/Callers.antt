@@ -19,14 +19,14 @@ use Rattle.xet_core_structures.specs.Trees.ExportTrees.{IsExportOf, IsMergeOfExp
 use Rattle.xet_core_structures.specs.FileRecord.{file_records}
 use Rattle.xet_core_structures.specs.Hash.{IsHash}
 use Rattle.xet_core_structures.specs.Joins.{IsJoinOf, AgreePairwise}
-use Rattle.xet_core_structures.specs.KeyedExport.{exported, export_options}
+use Rattle.xet_core_structures.specs.KeyedExport.{exported_bytes, export_options}
 use Rattle.xet_core_structures.specs.Lookup.{FoundInShard, LookupFailsAmong, WithinBounds}
 use Rattle.xet_core_structures.specs.Trees.MergeTrees.{HasUnion, leaves, InputIs}
 use Rattle.xet_core_structures.specs.Layout.{layout, plain_options}
 use Rattle.xet_core_structures.specs.Shard.{Shard, IsShard}
 use Rattle.xet_core_structures.specs.Source.{Source, DeviceFailure}
 use Rattle.xet_core_structures.specs.WrittenShard.{IsBytesOf, IsBytesWithInfo, IsBytesWithoutExpiry}
-use Rattle.xet_core_structures.specs.View.{auxes_as_wanted}
+use Rattle.xet_core_structures.specs.View.{all_with_aux_if}
 use Rattle.callers.specs.Callers.{FindsWithin, export_of, EqualButForTimes}
 
 -- what a source in memory is
@@ -70,7 +70,7 @@ written_alone s t (Err e) same are shard = tt
 
 -- an export of a shard, with its files and all tables
 pub exported_of : (s : Shard) (key : DataHash) (now valid : ℕ) (out : List ℕ) → IsHash key → now < 2 ^ 64 → now + valid < 2 ^ 64
-    → out ≡ exported (auxes_as_wanted true (values s.files)) (values s.xorbs) (export_options key now valid true true true) → IsExportOf true key s out
+    → out ≡ exported_bytes (all_with_aux_if true (values s.files)) (values s.xorbs) (export_options key now valid true true true) → IsExportOf true key s out
 exported_of s key now valid out hash now_fits expiry_fits is = record {
   options = export_options key now valid true true true;
   is_form = record { under = refl; files = refl; fits = record { key = hash; creation = now_fits; expiry = expiry_fits } };
@@ -91,7 +91,7 @@ both_exported key a b join x y plan union leaves_are one other agree is_join = r
 -- the export with other times
 pub other_times : (join : Shard) (key : DataHash) (now valid : ℕ) (out : List ℕ)
     → ((before after : List ℕ) × (length after ≡ 80)
-    × ((now valid : ℕ) → exported (auxes_as_wanted true (values join.files)) (values join.xorbs) (export_options key now valid true true true) ≡ before ++ u64_bytes now ++ u64_bytes (now + valid) ++ after))
+    × ((now valid : ℕ) → exported_bytes (all_with_aux_if true (values join.files)) (values join.xorbs) (export_options key now valid true true true) ≡ before ++ u64_bytes now ++ u64_bytes (now + valid) ++ after))
     → out ≡ export_of join key 0 18446744073709551615 → EqualButForTimes (export_of join key now valid) out
 other_times join key now valid out (before, after, eighty, all) is = record {
   before = before;

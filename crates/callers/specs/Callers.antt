@@ -4,7 +4,7 @@ use Rattle.std.specs.FinMap.{values}
 use Rattle.xet_core_structures.specs.declared.file_structs.MDBFileInfo.{MDBFileInfo}
 use Rattle.xet_core_structures.specs.declared.merklehash.DataHash.{DataHash}
 use Rattle.xet_core_structures.specs.FileRecord.{file_records}
-use Rattle.xet_core_structures.specs.KeyedExport.{exported, export_options}
+use Rattle.xet_core_structures.specs.KeyedExport.{exported_bytes, export_options}
 use Rattle.xet_core_structures.specs.Lookup.{with_first_word}
 use Rattle.xet_core_structures.specs.Shard.{Shard}
 use Rattle.xet_core_structures.specs.Source.{Source}
@@ -28,7 +28,7 @@ pub record FindsWithin (files : List MDBFileInfo) (word : ℕ) (old new : Source
 -- the export of a shard under a key, with its files and all tables
 abbrev pub export_of : Shard → DataHash → ℕ → ℕ → List ℕ
 export_of s key now valid =
-    exported (values s.files) (values s.xorbs) (export_options key now valid true true true)
+    exported_bytes (values s.files) (values s.xorbs) (export_options key now valid true true true)
 
 -- the bytes are equal but for the 16 of two timestamps, 80 before the end
 pub record EqualButForTimes (one other : List ℕ) : Type 0 where

@@ -7,7 +7,7 @@ use Rattle.std.proofs.lemmas.List.Folds.{list_any_more}
 use Rattle.xet_base.specs.declared.merklehash.DataHash.{DataHash}
 use Rattle.xet_base.specs.Hash.{hash_eq}
 use Rattle.xet_base.proofs.HashOrder.{same_hash}
-use Rattle.mdb_overview.specs.Counts.{capped, raised}
+use Rattle.mdb_overview.specs.Counts.{up_to_u64, saturating_count}
 
 hash_eq-sym : (a b : DataHash) → hash_eq b a ≡ hash_eq a b
 hash_eq-sym a b = same_from_decides (hash_eq b a) (hash_eq a b) (λ t. sym ((same_hash b a).0 t), λ e. (same_hash b a).1 (sym e)) (same_hash a b)
@@ -25,8 +25,8 @@ seen_more q hashes i d below =
 
 -- a hash is counted where it is met first
 pub counted_once : (seen same : Bool) (old mid new : ℕ)
-    → mid ≡ raised old (if seen then 1 else 0) → new ≡ raised mid (if seen then 0 else if same then 1 else 0)
-    → new ≡ raised old (if same || seen then 1 else 0)
+    → mid ≡ saturating_count old (if seen then 1 else 0) → new ≡ saturating_count mid (if seen then 0 else if same then 1 else 0)
+    → new ≡ saturating_count old (if same || seen then 1 else 0)
 counted_once true true old mid new was now = grind arith
 counted_once true false old mid new was now = grind arith
 counted_once false true old mid new was now = grind arith
@@ -34,6 +34,6 @@ counted_once false false old mid new was now = grind arith
 
 -- the shard counts once
 pub counted_more : (shards : ℕ) (has : Bool) (old new : ℕ)
-    → old ≡ capped shards → new ≡ raised old (if has then 1 else 0) → new ≡ capped (shards + (if has then 1 else 0))
+    → old ≡ up_to_u64 shards → new ≡ saturating_count old (if has then 1 else 0) → new ≡ up_to_u64 (shards + (if has then 1 else 0))
 counted_more shards true old new was now = grind arith
 counted_more shards false old new was now = grind arith

@@ -4,12 +4,12 @@ use Rattle.std.specs.BTreeMap.{BTreeMap, get}
 use Rattle.std.specs.Ordering.{nat_cmp}
 
 -- a count, as far as it goes
-abbrev pub capped : ℕ → ℕ
-capped n = min n (2 ^ 64 - 1)
+abbrev pub up_to_u64 : ℕ → ℕ
+up_to_u64 n = min n (2 ^ 64 - 1)
 
 -- a count after so many more
-abbrev pub raised : ℕ → ℕ → ℕ
-raised count more = if more == 0 then count else capped (count + more)
+abbrev pub saturating_count : ℕ → ℕ → ℕ
+saturating_count count more = if more == 0 then count else up_to_u64 (count + more)
 
 -- how often a number was counted
 abbrev pub count_in : BTreeMap ℕ ℕ → ℕ → ℕ
@@ -19,4 +19,4 @@ count_in counts number = unwrap_or (get nat_cmp counts number) 0
 abbrev pub CountsOneMore : ℕ → BTreeMap ℕ ℕ → BTreeMap ℕ ℕ → Type 0
 CountsOneMore number old new = (q : ℕ)
     → count_in new q
-    ≡ raised (count_in old q) (if number == q then 1 else 0)
+    ≡ saturating_count (count_in old q) (if number == q then 1 else 0)

@@ -2,7 +2,7 @@
 use Rattle.std.specs.Prelude.{◌≡◌, ℕ, ◌/◌, ◌-◌, ◌^◌, ◌==◌, ◌||◌, Bool, false, nat_le, List, count_by}
 use Rattle.std.specs.Prelude.{Option, Some, None, is_none, if◌then◌else◌}
 use Rattle.mdb_report.specs.declared.brief.Brief.{Brief}
-use Rattle.mdb_overview.specs.Counts.{capped, count_in, raised}
+use Rattle.mdb_overview.specs.Counts.{up_to_u64, count_in, saturating_count}
 use Rattle.mdb_overview.specs.declared.expiries.Expiries.{Expiries}
 
 -- the expiry of a shard: 0 and the greatest number stand for none
@@ -30,13 +30,13 @@ has_come now shard = is_by now (expiry_in shard)
 -- how many of the shards expire on each day, how many never, and how many have by a time
 pub record ExpireAs (shards : List Brief) (now : Option ℕ) (expiries : Expiries) : Type 0 where
   pub days : (day : ℕ) → count_in expiries.by_day day
-      ≡ capped (count_by (λ s. is_on day (expiry_in s)) shards)
-  pub without : expiries.without ≡ capped (count_by (λ s. is_none (expiry_in s)) shards)
-  pub expired : expiries.expired ≡ capped (count_by (has_come now) shards)
+      ≡ up_to_u64 (count_by (λ s. is_on day (expiry_in s)) shards)
+  pub without : expiries.without ≡ up_to_u64 (count_by (λ s. is_none (expiry_in s)) shards)
+  pub expired : expiries.expired ≡ up_to_u64 (count_by (has_come now) shards)
 
 -- a shard was counted
 pub record AddsExpiry (shard : Brief) (now : Option ℕ) (old new : Expiries) : Type 0 where
   pub days : (day : ℕ) → count_in new.by_day day
-      ≡ raised (count_in old.by_day day) (if is_on day (expiry_in shard) then 1 else 0)
-  pub without : new.without ≡ raised old.without (if is_none (expiry_in shard) then 1 else 0)
-  pub expired : new.expired ≡ raised old.expired (if has_come now shard then 1 else 0)
+      ≡ saturating_count (count_in old.by_day day) (if is_on day (expiry_in shard) then 1 else 0)
+  pub without : new.without ≡ saturating_count old.without (if is_none (expiry_in shard) then 1 else 0)
+  pub expired : new.expired ≡ saturating_count old.expired (if has_come now shard then 1 else 0)

@@ -5,11 +5,11 @@ use Rattle.std.specs.List.{list_all}
 use Rattle.std.specs.List.Sorted.{IsNonDecreasingBy}
 use Rattle.mdb_report.specs.declared.brief.Brief.{Brief}
 use Rattle.mdb_report.specs.declared.brief.Total.{Total}
-use Rattle.mdb_overview.specs.Counts.{capped}
+use Rattle.mdb_overview.specs.Counts.{up_to_u64}
 
 -- the sum of a number over shards
 abbrev pub sum_over : (Brief → ℕ) → List Brief → ℕ
-sum_over number shards = capped (sum_by number shards)
+sum_over number shards = up_to_u64 (sum_by number shards)
 
 -- the sum of a number that is known of each shard
 abbrev pub known_sum : (Brief → Option ℕ) → List Brief → Option ℕ
@@ -20,7 +20,7 @@ known_sum number shards =
 
 -- the sums over shards
 pub record AreSums (shards : List Brief) (total : Total) : Type 0 where
-  pub count : total.shards ≡ capped (length shards)
+  pub count : total.shards ≡ up_to_u64 (length shards)
   pub bytes : total.bytes ≡ sum_over (λ s. s.bytes) shards
   pub files : total.files ≡ known_sum (λ s. s.files) shards
   pub xorbs : total.xorbs ≡ known_sum (λ s. s.xorbs) shards

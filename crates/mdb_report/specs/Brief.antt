@@ -36,22 +36,22 @@ pub record SaysBriefly (info : MDBShardInfo) (file : List ℕ) (bytes : ℕ) (br
   pub materialized : brief.materialized_bytes ≡ info.metadata.materialized_bytes
 
 -- a sum, as far as it is counted
-abbrev pub counted : ℕ → ℕ → ℕ
-counted one other = min (one + other) (2 ^ 64 - 1)
+abbrev pub saturating_sum : ℕ → ℕ → ℕ
+saturating_sum one other = min (one + other) (2 ^ 64 - 1)
 
 -- a sum that is known if both numbers are
-abbrev pub counted_known : Option ℕ → Option ℕ → Option ℕ
-counted_known (Some one) (Some other) = Some (counted one other)
-counted_known (Some _) None = None
-counted_known None _ = None
+abbrev pub sum_if_known : Option ℕ → Option ℕ → Option ℕ
+sum_if_known (Some one) (Some other) = Some (saturating_sum one other)
+sum_if_known (Some _) None = None
+sum_if_known None _ = None
 
 -- the shard was added to each sum
 pub record AddsTo (brief : Brief) (old new : Total) : Type 0 where
-  pub shards : new.shards ≡ counted old.shards 1
-  pub bytes : new.bytes ≡ counted old.bytes brief.bytes
-  pub files : new.files ≡ counted_known old.files brief.files
-  pub xorbs : new.xorbs ≡ counted_known old.xorbs brief.xorbs
-  pub chunks : new.chunks ≡ counted_known old.chunks brief.chunks
-  pub stored : new.stored_bytes ≡ counted old.stored_bytes brief.stored_bytes
+  pub shards : new.shards ≡ saturating_sum old.shards 1
+  pub bytes : new.bytes ≡ saturating_sum old.bytes brief.bytes
+  pub files : new.files ≡ sum_if_known old.files brief.files
+  pub xorbs : new.xorbs ≡ sum_if_known old.xorbs brief.xorbs
+  pub chunks : new.chunks ≡ sum_if_known old.chunks brief.chunks
+  pub stored : new.stored_bytes ≡ saturating_sum old.stored_bytes brief.stored_bytes
   pub materialized : new.materialized_bytes
-      ≡ counted old.materialized_bytes brief.materialized_bytes
+      ≡ saturating_sum old.materialized_bytes brief.materialized_bytes

@@ -5,7 +5,7 @@ ghost use Rattle.xet_core_structures.specs.declared.error.CoreError.{CoreError};
 ghost use Rattle.xet_core_structures.specs.declared.shard_format.MDBShardInfo.{MDBShardInfo as Info};
 ghost use Rattle.xet_core_structures.specs.Ends.{HasHeaderAndFooter};
 ghost use Rattle.xet_core_structures.specs.TwoShards.ByteResults.{LoadRefusal};
-ghost use Rattle.mdb_report.specs.Brief.{SaysBriefly, IsCount, AddsTo, counted_known};
+ghost use Rattle.mdb_report.specs.Brief.{SaysBriefly, IsCount, AddsTo, sum_if_known};
 
 use crate::hex::Hex;
 use crate::moment::Moment;
@@ -144,7 +144,7 @@ impl Total {
 
 // The sum of two counts, if both are known.
 fn sum_of(one: Option<u64>, other: Option<u64>) -> Option<u64>
-    ensures { result ≡ counted_known one other }
+    ensures { result ≡ sum_if_known one other }
 {
     match (one, other) {
         (Some(one), Some(other)) => Some(one.saturating_add(other)),

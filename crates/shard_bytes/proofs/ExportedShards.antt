@@ -25,8 +25,8 @@ use Rattle.xet_core_structures.specs.SectionReading.{IsSection}
 use Rattle.xet_core_structures.specs.SectionReading.SectionCase.{not_read, passes_limit}
 use Rattle.xet_core_structures.specs.Shard.{Shard, IsShard}
 use Rattle.xet_core_structures.specs.Source.ReadCase.{out_of_memory, out_of_bytes}
-use Rattle.xet_core_structures.specs.Trees.ExportTrees.{shard_as_wanted}
-use Rattle.xet_core_structures.specs.View.{without_aux, auxes_as_wanted}
+use Rattle.xet_core_structures.specs.Trees.ExportTrees.{shard_with_aux_if}
+use Rattle.xet_core_structures.specs.View.{without_aux, all_with_aux_if}
 use Rattle.xet_core_structures.specs.WithOptions.{FitsSection}
 use Rattle.xet_core_structures.specs.XorbRecord.{xorb_records}
 use Rattle.xet_core_structures.proofs.Records.ShardContents.{rows_handed}
@@ -38,7 +38,7 @@ use Rattle.xet_records.proofs.RecordKinds.{file_laws}
 use Rattle.xet_shards.specs.declared.shard_writer.LayoutOptions.{LayoutOptions}
 use Rattle.xet_shards.specs.Export.Rewriting.{HasSections}
 use Rattle.xet_shards.specs.Write.Section.{total_rows}
-use Rattle.xet_shards.proofs.Content.FilesWithoutAux.{section-aux_as_wanted}
+use Rattle.xet_shards.proofs.Content.FilesWithoutAux.{section-with_aux_if}
 use Rattle.xet_shards.proofs.Content.KeyedHashes.{keyed_section}
 use Rattle.xet_shards.proofs.Content.KeyedShards.{keyed_is_shard, values-keyed}
 use Rattle.xet_shards.proofs.Content.Maps.{values-empty}
@@ -49,7 +49,7 @@ use Rattle.xet_shards.proofs.Read.Readback.{file_section_in, xorb_section_in}
 use Rattle.xet_shards.proofs.Read.WholeSections.{layout_ends, files_not_cut, files_not_refused, xorbs_not_cut, xorbs_not_refused}
 use Rattle.xet_shards.proofs.Write.Sections.{fits_ever}
 use Rattle.shard_bytes.specs.declared.export.Export.{Export}
-use Rattle.shard_bytes.specs.Exporting.{ExportsBytes, FollowsHeader, HoldsExport, RefusesExport, exported_shard, files_as_wanted}
+use Rattle.shard_bytes.specs.Exporting.{ExportsBytes, FollowsHeader, HoldsExport, RefusesExport, exported_shard, shard_with_files_if}
 use Rattle.shard_bytes.proofs.Checking.{header_in}
 
 -- reading a file and leaving out its auxiliary row can be exchanged
@@ -66,20 +66,20 @@ all_without_aux [] = refl
 all_without_aux (r ∷ rs) = λ i. read_without_aux r i ∷ all_without_aux rs i
 
 -- so the files that are exported are read as those of the shard with auxiliary rows or without, or as none
-files_wanted : (aux : Bool) (s : Shard) (files : List MDBFileInfo) → map as_read files ≡ values s.files → map as_read (auxes_as_wanted aux files) ≡ values (shard_as_wanted aux s).files
+files_wanted : (aux : Bool) (s : Shard) (files : List MDBFileInfo) → map as_read files ≡ values s.files → map as_read (all_with_aux_if aux files) ≡ values (shard_with_aux_if aux s).files
 files_wanted true s files are = are
 files_wanted false s files are = all_without_aux files ∙ ap (map without_aux) are ∙ sym (values-without_aux s)
 
-files_left : (wanted : Bool) (s : Shard) (files : List MDBFileInfo) → map as_read files ≡ values s.files → map as_read (if_included wanted files) ≡ values (files_as_wanted wanted s).files
+files_left : (wanted : Bool) (s : Shard) (files : List MDBFileInfo) → map as_read files ≡ values s.files → map as_read (if_included wanted files) ≡ values (shard_with_files_if wanted s).files
 files_left true s files are = are
 files_left false s files are = sym (values-empty MDBFileInfo hash_cmp)
 
 -- and the xorbs stay
-xorbs_wanted : (aux : Bool) (s : Shard) → values s.xorbs ≡ values (shard_as_wanted aux s).xorbs
+xorbs_wanted : (aux : Bool) (s : Shard) → values s.xorbs ≡ values (shard_with_aux_if aux s).xorbs
 xorbs_wanted true s = refl
 xorbs_wanted false s = refl
 
-xorbs_left : (wanted : Bool) (s : Shard) → values s.xorbs ≡ values (files_as_wanted wanted s).xorbs
+xorbs_left : (wanted : Bool) (s : Shard) → values s.xorbs ≡ values (shard_with_files_if wanted s).xorbs
 xorbs_left true s = refl
 xorbs_left false s = refl
 
@@ -89,11 +89,11 @@ included_fits true files fits = record { stored = fits.stored; rows = fits.rows 
 included_fits false files fits = record { stored = All-nil (file_records_in V3).IsStored; rows = omega arith }
 
 -- what is exported of a shard is a shard
-wanted_is_shard : (aux : Bool) (s : Shard) → IsShard s → IsShard (shard_as_wanted aux s)
+wanted_is_shard : (aux : Bool) (s : Shard) → IsShard s → IsShard (shard_with_aux_if aux s)
 wanted_is_shard true s shard = shard
 wanted_is_shard false s shard = without_aux-is_shard s shard
 
-left_is_shard : (wanted : Bool) (s : Shard) → IsShard s → IsShard (files_as_wanted wanted s)
+left_is_shard : (wanted : Bool) (s : Shard) → IsShard s → IsShard (shard_with_files_if wanted s)
 left_is_shard true s shard = shard
 left_is_shard false s shard = record { files = empty_is_shard.files; file_rows = empty_is_shard.file_rows; xorbs = shard.xorbs; xorb_rows = shard.xorb_rows }
 
@@ -102,27 +102,27 @@ module _ (x : Export) (s : Shard) (shard : IsShard s) where
   aux = x.parts.aux_ext
 
   abbrev keyed : Shard
-  keyed = keyed_shard x.key (shard_as_wanted aux s)
+  keyed = keyed_shard x.key (shard_with_aux_if aux s)
 
   exported_is_shard : IsShard (exported_shard x s)
-  exported_is_shard = left_is_shard x.parts.files keyed (keyed_is_shard x.key (shard_as_wanted aux s) (wanted_is_shard aux s shard))
+  exported_is_shard = left_is_shard x.parts.files keyed (keyed_is_shard x.key (shard_with_aux_if aux s) (wanted_is_shard aux s shard))
 
   module _ (files : List MDBFileInfo) (xorbs : List MDBXorbInfo) (files_are : map as_read files ≡ values s.files) (xorbs_are : xorbs ≡ values s.xorbs) where
     abbrev options : LayoutOptions
     options = export_options x.key x.now x.valid_seconds x.parts.files x.parts.xorb_table x.parts.chunk_table
 
     abbrev out_files : List MDBFileInfo
-    out_files = if_included x.parts.files (auxes_as_wanted aux files)
+    out_files = if_included x.parts.files (all_with_aux_if aux files)
 
     abbrev out_xorbs : List MDBXorbInfo
     out_xorbs = keyed_xorbs x.key xorbs
 
     files_returned : map as_read out_files ≡ values (exported_shard x s).files
-    files_returned = files_left x.parts.files keyed (auxes_as_wanted aux files) (files_wanted aux s files files_are)
+    files_returned = files_left x.parts.files keyed (all_with_aux_if aux files) (files_wanted aux s files files_are)
 
     xorbs_returned : map (λ r. r) out_xorbs ≡ values (exported_shard x s).xorbs
     xorbs_returned =
-        map-id out_xorbs ∙ ap (keyed_xorbs x.key) (xorbs_are ∙ xorbs_wanted aux s) ∙ sym (values-keyed x.key (shard_as_wanted aux s)) ∙ xorbs_left x.parts.files keyed
+        map-id out_xorbs ∙ ap (keyed_xorbs x.key) (xorbs_are ∙ xorbs_wanted aux s) ∙ sym (values-keyed x.key (shard_with_aux_if aux s)) ∙ xorbs_left x.parts.files keyed
 
     holds_export : FitsSection (file_records_in V3) out_files → FitsSection xorb_records out_xorbs
         → HasHeaderAndFooter (layout_of out_files out_xorbs options) (info_of out_files out_xorbs options) → HoldsExport x s (layout_of out_files out_xorbs options)
@@ -180,11 +180,11 @@ module _ (s : Shard) (bytes : List ℕ) (follows : FollowsHeader s bytes) where
       let xorbs_are : e.xorbs ≡ values s.xorbs = same.1 ∙ sym (map-id stored_xorbs) ∙ follows.xorbs.returned in
       let in_time : ¬ (2 ^ 64 ≤ x.now + x.valid_seconds) = λ late. e.can (inr late) in
       let read = fits_ever file_records e.header.version e.files (record { stored = e.file_section.records.are_stored; rows = e.file_section.records.rows }) in
-      let files_fit = included_fits x.parts.files (auxes_as_wanted x.parts.aux_ext e.files) (section-aux_as_wanted x.parts.aux_ext e.files read) in
+      let files_fit = included_fits x.parts.files (all_with_aux_if x.parts.aux_ext e.files) (section-with_aux_if x.parts.aux_ext e.files read) in
       let xorbs_fit = keyed_section x.key e.xorbs (record { stored = e.xorb_section.records.are_stored; rows = e.xorb_section.records.rows }) in
       subst (HoldsExport x s) (sym e.written)
       (holds_export x s shard e.files e.xorbs (ap (map as_read) same.0 ∙ follows.files.returned) xorbs_are files_fit xorbs_fit
-      (layout_ends (if_included x.parts.files (auxes_as_wanted x.parts.aux_ext e.files)) (keyed_xorbs x.key e.xorbs)
+      (layout_ends (if_included x.parts.files (all_with_aux_if x.parts.aux_ext e.files)) (keyed_xorbs x.key e.xorbs)
       (export_options x.key x.now x.valid_seconds x.parts.files x.parts.xorb_table x.parts.chunk_table) files_fit xorbs_fit key now (omega (arith, in_time))))
 
   -- and it is exported unless an allocation fails, if it has no key and the expiry fits 64 bits

@@ -10,7 +10,7 @@ use Rattle.xet_core_structures.specs.Ends.{HasHeader, HasHeaderAndFooter}
 use Rattle.xet_core_structures.specs.FileRecord.{file_records, file_records_in}
 use Rattle.xet_core_structures.specs.KeyedExport.{xorbs_after, BadSection}
 use Rattle.xet_core_structures.specs.SectionReading.{IsSection, IsRefusedSection, IsTruncatedSection, SectionNotStreamed}
-use Rattle.xet_core_structures.specs.Source.{Source, DeviceFailure, FailedBy, bytes_left, moved}
+use Rattle.xet_core_structures.specs.Source.{Source, DeviceFailure, FailedBy, bytes_left, after_seek}
 use Rattle.xet_core_structures.specs.XorbRecord.{xorb_records}
 use Rattle.xet_records.proofs.RecordKinds.{xorb_laws}
 use Rattle.xet_shards.specs.Export.Rewriting.{HasSections}
@@ -68,14 +68,14 @@ module _ (bytes : List ℕ) (s0 s1 s2 : Source) (found : List FileRanges) (n : �
       let from_zero : 0 + k ≡ k = omega arith in
       n_is ∙ ap (λ (s : Source). s.at) hashes.after ∙ ap (λ (s : Source). s.at + k) start ∙ from_zero
 
-  xorbs_left : bytes_left (moved s2 n) ≡ drop (xorbs_after files) bytes
+  xorbs_left : bytes_left (after_seek s2 n) ≡ drop (xorbs_after files) bytes
   xorbs_left = λ i. drop (xorbs_start i) (same_bytes i)
 
-  pub xorbs_unread : (info : MDBShardInfo) → HasHeaderAndFooter bytes info → (new : Source) (e : CoreError) (findings : List Finding) → ¬ DeviceFailure (moved s2 n) new e
-      → SectionNotStreamed xorb_records (moved s2 n) new e → IsUnreadable Xorbs e findings → IsReport bytes findings
+  pub xorbs_unread : (info : MDBShardInfo) → HasHeaderAndFooter bytes info → (new : Source) (e : CoreError) (findings : List Finding) → ¬ DeviceFailure (after_seek s2 n) new e
+      → SectionNotStreamed xorb_records (after_seek s2 n) new e → IsUnreadable Xorbs e findings → IsReport bytes findings
   xorbs_unread info ends new e findings works fails unreadable = by_cause fails.cause
     where
-      by_cause : FailedBy (BadSection xorb_records (bytes_left (moved s2 n))) (moved s2 n) new e → IsReport bytes findings
+      by_cause : FailedBy (BadSection xorb_records (bytes_left (after_seek s2 n))) (after_seek s2 n) new e → IsReport bytes findings
       by_cause (inl failed) = absurd (works failed)
       by_cause (inr (same, bad)) =
           unread Xorbs bytes (drop (xorbs_after files) bytes) (IsRefusedSection xorb_records) (IsTruncatedSection xorb_records) e findings (subst (λ bs. BadSection xorb_records bs e) xorbs_left bad) unreadable
@@ -95,7 +95,7 @@ module _ (bytes : List ℕ) (s0 s1 s2 : Source) (found : List FileRanges) (n : �
   }
 
   -- both sections were read
-  module _ (new : Source) (headers : List (XorbChunkSequenceHeader × ℕ)) (keeps : KeepsSection xorb_records header_at (moved s2 n) new headers) where
+  module _ (new : Source) (headers : List (XorbChunkSequenceHeader × ℕ)) (keeps : KeepsSection xorb_records header_at (after_seek s2 n) new headers) where
     abbrev pub xorbs : List MDBXorbInfo
     xorbs = keeps.1.stored
 
@@ -107,7 +107,7 @@ module _ (bytes : List ℕ) (s0 s1 s2 : Source) (found : List FileRanges) (n : �
 
     pub xorb_hashes_are : map (λ (r : XorbChunkSequenceHeader × ℕ). r.0.xorb_hash) headers ≡ map (hash_in xorb_records) xorbs
     xorb_hashes_are =
-        hashes_of_section xorb_records xorb_laws header_at (λ (r : XorbChunkSequenceHeader × ℕ). r.0.xorb_hash) (λ at r. refl) (moved s2 n) new headers xorbs keeps.1.section keeps
+        hashes_of_section xorb_records xorb_laws header_at (λ (r : XorbChunkSequenceHeader × ℕ). r.0.xorb_hash) (λ at r. refl) (after_seek s2 n) new headers xorbs keeps.1.section keeps
 
     pub xorbs_begin : (after : List ℕ) → after ≡ drop n bytes → BeginsWith xorb_records after xorbs (length headers)
     xorbs_begin after is = record {

@@ -13,7 +13,7 @@ use Rattle.xet_core_structures.specs.declared.source.MemorySource.{MemorySource}
 use Rattle.xet_core_structures.specs.Ends.{HasHeaderAndFooter}
 use Rattle.xet_core_structures.specs.KeyedExport.{BadSection}
 use Rattle.xet_core_structures.specs.SectionReading.{ReadsSection, SectionFails, files_of}
-use Rattle.xet_core_structures.specs.Source.{Source, DeviceFailure, FailedBy, bytes_left, moved}
+use Rattle.xet_core_structures.specs.Source.{Source, DeviceFailure, FailedBy, bytes_left, after_seek}
 use Rattle.xet_core_structures.specs.declared.file_structs.MDBFileInfo.{MDBFileInfo}
 use Rattle.xet_core_structures.specs.declared.xorb_structs.MDBXorbInfo.{MDBXorbInfo}
 use Rattle.xet_core_structures.specs.FileRecord.{row_count, IsWellFormed}
@@ -105,6 +105,6 @@ xorbs_not_read bytes info ends before after new at files e start read fails = by
     same : after.bytes.now ≡ bytes
     same = ap (λ (s : Source). s.bytes) read.after ∙ start
 
-    by_cause : FailedBy (BadSection xorb_records (bytes_left (moved (in_memory after) info.metadata.xorb_info_offset))) (moved (in_memory after) info.metadata.xorb_info_offset) (in_memory new) e → RefusesRecords bytes e
+    by_cause : FailedBy (BadSection xorb_records (bytes_left (after_seek (in_memory after) info.metadata.xorb_info_offset))) (after_seek (in_memory after) info.metadata.xorb_info_offset) (in_memory new) e → RefusesRecords bytes e
     by_cause (inl failed) = absurd (omega (arith, failed.0))
     by_cause (inr (works, bad)) = inr (info, ends, inr (subst (λ bs. BadSection xorb_records (drop info.metadata.xorb_info_offset bs) e) same bad))

@@ -7,18 +7,18 @@ use Rattle.xet_records.specs.declared.record_reader.FormatVersion.{FormatVersion
 use Rattle.xet_records.specs.declared.xorb_structs.MDBXorbInfo.{MDBXorbInfo}
 use Rattle.xet_records.specs.FileRecord.{file_records, file_records_in, FitsRecord}
 use Rattle.xet_records.specs.RecordKind.{RecordKind}
-use Rattle.xet_records.specs.View.{auxes_as_wanted}
+use Rattle.xet_records.specs.View.{all_with_aux_if}
 use Rattle.xet_records.specs.XorbRecord.{xorb_records}
 use Rattle.xet_records.proofs.Lengths.{length-all_record_bytes}
 use Rattle.xet_records.proofs.RecordKinds.{KindLaws, xorb_laws, length-record_bytes}
 use Rattle.xet_shards.specs.declared.shard_format.ends.options.LayoutOptions.{LayoutOptions}
-use Rattle.xet_shards.specs.Export.KeyedExport.{exported, keyed_xorbs, xorbs_after}
+use Rattle.xet_shards.specs.Export.KeyedExport.{exported_bytes, keyed_xorbs, xorbs_after}
 use Rattle.xet_shards.specs.Read.SectionReading.{IsSection}
 use Rattle.xet_shards.specs.Write.Layout.{if_included, layout_of}
 use Rattle.xet_shards.specs.Write.Section.{total_rows}
 use Rattle.xet_shards.specs.Write.Tables.{chunk_table}
 use Rattle.xet_shards.specs.Write.WithOptions.{FitsSection}
-use Rattle.xet_shards.proofs.Content.FilesWithoutAux.{rows-without_aux, section-aux_as_wanted}
+use Rattle.xet_shards.proofs.Content.FilesWithoutAux.{rows-without_aux, section-with_aux_if}
 use Rattle.xet_shards.proofs.Content.KeyedHashes.{keyed_total}
 use Rattle.xet_shards.proofs.ShardInMemory.Files.{length-le-rows}
 use Rattle.xet_shards.proofs.Write.Sections.{fits_ever}
@@ -47,9 +47,9 @@ if_included-rows : (b : Bool) (files : List MDBFileInfo) → total_rows file_rec
 if_included-rows true files = omega arith
 if_included-rows false files = omega arith
 
-aux_as_wanted-rows : (aux : Bool) (files : List MDBFileInfo) → total_rows file_records (auxes_as_wanted aux files) ≤ total_rows file_records files
-aux_as_wanted-rows true files = omega arith
-aux_as_wanted-rows false files = rows-without_aux files
+with_aux_if-rows : (aux : Bool) (files : List MDBFileInfo) → total_rows file_records (all_with_aux_if aux files) ≤ total_rows file_records files
+with_aux_if-rows true files = omega arith
+with_aux_if-rows false files = rows-without_aux files
 
 if_included-fits : (b : Bool) (files : List MDBFileInfo) → All FitsRecord files → All FitsRecord (if_included b files)
 if_included-fits true files fit = fit
@@ -85,12 +85,12 @@ module _ (bytes : List ℕ) (version : FormatVersion) (files : List MDBFileInfo)
       chunk_rows : (b : Bool) → length (if_included b (chunk_table keyed)) ≤ length (chunk_table keyed)
       chunk_rows b = if_included-size b (chunk_table keyed)
 
-  pub size_of_export : (aux : Bool) (options : LayoutOptions) → IsRewriteSize bytes (length (exported (auxes_as_wanted aux files) xorbs options))
+  pub size_of_export : (aux : Bool) (options : LayoutOptions) → IsRewriteSize bytes (length (exported_bytes (all_with_aux_if aux files) xorbs options))
   size_of_export aux options =
-      let wanted = auxes_as_wanted aux files in
+      let wanted = all_with_aux_if aux files in
       rewrite_size (if_included options.file_table wanted) (keyed_xorbs options.key xorbs) options
-      (if_included-fits options.file_table wanted (λ k r below. ((section-aux_as_wanted aux files files_fit).stored k r below).widths))
-      (omega (arith, if_included-rows options.file_table wanted, aux_as_wanted-rows aux files))
+      (if_included-fits options.file_table wanted (λ k r below. ((section-with_aux_if aux files files_fit).stored k r below).widths))
+      (omega (arith, if_included-rows options.file_table wanted, with_aux_if-rows aux files))
       (omega (arith, keyed_total options.key xorbs))
 
   pub size_of_version : (options : LayoutOptions) → IsRewriteSize bytes (length (layout_of files xorbs options))

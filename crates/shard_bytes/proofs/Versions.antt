@@ -8,7 +8,7 @@ use Rattle.xet_core_structures.specs.Ends.{HasHeaderAndFooter}
 use Rattle.xet_core_structures.specs.FileRecord.{as_read, has_aux_ext}
 use Rattle.xet_core_structures.specs.Layout.{layout_of}
 use Rattle.xet_core_structures.specs.SectionReading.{IsSection, ReadsSection, files_of}
-use Rattle.xet_core_structures.specs.Source.{Source, bytes_left, moved}
+use Rattle.xet_core_structures.specs.Source.{Source, bytes_left, after_seek}
 use Rattle.xet_shards.specs.Export.Rewriting.{HasSections, WritesAgain}
 use Rattle.xet_shards.proofs.Read.WholeSections.{same_files}
 use Rattle.shard_bytes.specs.Versions.{have_aux_rows, options_in_2, IsInVersion2, RefusesVersion2}
@@ -24,7 +24,7 @@ same_aux_rows (r ∷ rs) = λ i. has_aux_ext r.metadata.file_flags || same_aux_r
 -- what the file section after the header has
 pub aux_rows_found : (bytes : List ℕ) (info : MDBShardInfo) (old new : Source) (files : List MDBFileInfo) → HasHeaderAndFooter bytes info → old ≡ source_of bytes → ReadsSection (files_of info) old new 48 files → FindsAuxRows bytes (have_aux_rows files)
 aux_rows_found bytes info old new files ends start read =
-    let left : bytes_left (moved old 48) ≡ drop 48 bytes = ap (λ (s : Source). drop 48 s.bytes) start in (
+    let left : bytes_left (after_seek old 48) ≡ drop 48 bytes = ap (λ (s : Source). drop 48 s.bytes) start in (
       header_in bytes info ends,
       read.stored,
       subst (λ bs. IsSection (files_of info) bs read.stored) left read.section,

@@ -38,12 +38,12 @@ use Rattle.xet_shards.proofs.Lookup.MapAnswers.{map_answers}
 use Rattle.xet_shards.proofs.Lookup.ShardLookups.{lookup_written}
 use Rattle.xet_shards.proofs.Lookup.StoredRecords.{AreStoredAt, end_bound, in_records, is_stored, record_there}
 use Rattle.xet_shards.proofs.Lookup.TableLookups.{IsLookedUp, answered, table_sorted}
-use Rattle.xet_shards.proofs.Lookup.WrittenQueries.{query_in_form}
+use Rattle.xet_shards.proofs.Lookup.WrittenQueries.{query_with_options}
 use Rattle.xet_shards.proofs.Read.Readback.{one_as_read}
 use Rattle.xet_shards.proofs.ShardInMemory.Files.{well_formed_values}
 use Rattle.xet_shards.proofs.ShardInMemory.Xorbs.{xorb_values}
 use Rattle.xet_shards.proofs.Write.Sections.{files_laws}
-use Rattle.xet_shards.proofs.Write.WithOptions.{no_file, no_xorb, files_in, files_of_shard, shard_in_form, xorbs_ascend, xorbs_in}
+use Rattle.xet_shards.proofs.Write.WithOptions.{no_file, no_xorb, files_in, files_of_shard, shard_with_options, xorbs_ascend, xorbs_in}
 use Rattle.shard_bytes.specs.Parts.{HasFileIn, HasXorbIn, RefusesFileIn, RefusesXorbIn}
 use Rattle.shard_bytes.specs.RangeReads.{FindsFileInParts, FindsXorbInParts, QueriesInParts, chunk_table_in, file_table_in, xorb_table_in}
 use Rattle.shard_bytes.specs.Walking.{IsAtRow, NotAtRow}
@@ -116,7 +116,7 @@ module _ {s : Shard} {shard : List ℕ} {info : MDBShardInfo} (is : IsBytesWithI
       (files_in (values s.files) (values s.xorbs) options src f form.with_options form.ascends form.table)
 
   pub looked_xorbs : IsLookedUp xorb_records no_xorb (values s.xorbs) f.xorb_info_offset f.xorb_lookup_offset f.xorb_lookup_num_entry src
-  looked_xorbs = xorbs_in (values s.files) (values s.xorbs) options src f (shard_in_form is) (xorbs_ascend s is.is_bytes.shard) refl
+  looked_xorbs = xorbs_in (values s.files) (values s.xorbs) options src f (shard_with_options is) (xorbs_ascend s is.is_bytes.shard) refl
 
   pub file_found : (hash : DataHash) (answer : Option MDBFileInfo) → FindsFileInParts f shard hash answer → FoundInShard s hash answer
   file_found hash answer parts =
@@ -138,17 +138,17 @@ module _ {s : Shard} {shard : List ℕ} {info : MDBShardInfo} (is : IsBytesWithI
 
   chunks_fit : FitsTable (chunk_table_in f shard)
   chunks_fit =
-      rows_fit word_of numbers_of 8 no_table_row (chunk_table (values s.xorbs)) f.chunk_lookup_offset f.chunk_lookup_num_entry src (rows_known (values s.files) (values s.xorbs) options src f (shard_in_form is) refl)
+      rows_fit word_of numbers_of 8 no_table_row (chunk_table (values s.xorbs)) f.chunk_lookup_offset f.chunk_lookup_num_entry src (rows_known (values s.files) (values s.xorbs) options src f (shard_with_options is) refl)
 
   pub run_found : (q : DataHash) (qs : List DataHash) (answer : Option Run) → QueriesInParts f shard q qs answer → RunAmong no_key (q ∷ qs) (values s.xorbs) answer
   run_found q qs answer parts =
-      query_in_form src (shard_in_form is) refl (xorb_values (entries s.xorbs) is.is_bytes.shard.xorbs) (q ∷ qs) src (Ok answer) (queried shard info is.ends q qs answer parts chunks_fit)
+      query_with_options src (shard_with_options is) refl (xorb_values (entries s.xorbs) is.is_bytes.shard.xorbs) (q ∷ qs) src (Ok answer) (queried shard info is.ends q qs answer parts chunks_fit)
 
   pub tables_sorted : IsSorted (file_table_in f shard) × IsSorted (xorb_table_in f shard) × IsSorted (chunk_table_in f shard)
   tables_sorted = (
     table_sorted (files_of info) (files_laws v) no_file (values s.files) f.file_info_offset f.file_lookup_offset f.file_lookup_num_entry src looked_files,
     table_sorted xorb_records xorb_laws no_xorb (values s.xorbs) f.xorb_info_offset f.xorb_lookup_offset f.xorb_lookup_num_entry src looked_xorbs,
-    chunk.table_sorted (values s.files) (values s.xorbs) options src f (shard_in_form is) refl,
+    chunk.table_sorted (values s.files) (values s.xorbs) options src f (shard_with_options is) refl,
   )
 
   pub file_read : (row : ℕ) (file : MDBFileInfo) (bytes : List ℕ) (found : CoreResult (Option MDBFileInfo)) → StartsAt file_records (values s.files) row file

@@ -9,13 +9,13 @@ use Rattle.xet_core_structures.specs.declared.shard_format.MDBShardInfo.{MDBShar
 use Rattle.xet_core_structures.specs.Ends.{HasHeader, HasHeaderAndFooter}
 use Rattle.xet_core_structures.specs.FileRecord.{file_records_in}
 use Rattle.xet_core_structures.specs.XorbRecord.{xorb_records}
-use Rattle.xet_core_structures.specs.KeyedExport.{export_options, exported, xorbs_after, ExportCase, CannotExport}
+use Rattle.xet_core_structures.specs.KeyedExport.{export_options, exported_bytes, xorbs_after, ExportCase, CannotExport}
 use Rattle.xet_core_structures.specs.KeyedShards.{keyed_shard}
 use Rattle.xet_core_structures.specs.Records.ShardContents.{HoldsShard, IsSectionOf}
 use Rattle.xet_core_structures.specs.SectionReading.{IsSection}
 use Rattle.xet_core_structures.specs.Shard.{Shard}
-use Rattle.xet_core_structures.specs.Trees.ExportTrees.{shard_as_wanted}
-use Rattle.xet_core_structures.specs.View.{auxes_as_wanted}
+use Rattle.xet_core_structures.specs.Trees.ExportTrees.{shard_with_aux_if}
+use Rattle.xet_core_structures.specs.View.{all_with_aux_if}
 use Rattle.xet_core_structures.specs.TwoShards.ByteResults.{LoadRefusal}
 use Rattle.shard_bytes.specs.declared.export.Export.{Export}
 use Rattle.shard_bytes.specs.Outcomes.{InMemory}
@@ -36,7 +36,7 @@ pub record ExportsBytes (x : Export) (bytes out : List ℕ) : Type 0 where
   -- the xorb section comes after the file section
   pub xorb_section : IsSection xorb_records (drop (xorbs_after files) bytes) xorbs
   -- what is written is the layout with the options that are asked for
-  pub written : out ≡ exported (auxes_as_wanted x.parts.aux_ext files) xorbs
+  pub written : out ≡ exported_bytes (all_with_aux_if x.parts.aux_ext files) xorbs
       (export_options x.key x.now x.valid_seconds x.parts.files x.parts.xorb_table
       x.parts.chunk_table)
 
@@ -62,14 +62,14 @@ pub record FollowsHeader (s : Shard) (bytes : List ℕ) : Type 0 where
   pub xorbs : IsSectionOf xorb_records (drop (xorbs_after (values s.files)) bytes) s.xorbs
 
 -- a shard with its files or without
-abbrev pub files_as_wanted : Bool → Shard → Shard
-files_as_wanted wanted s = if wanted then s else record s { files = empty }
+abbrev pub shard_with_files_if : Bool → Shard → Shard
+shard_with_files_if wanted s = if wanted then s else record s { files = empty }
 
 -- the shard that is exported of a shard: its chunk hashes are under the export's key, and its files
 -- have auxiliary rows or not, or are left out
 abbrev pub exported_shard : Export → Shard → Shard
 exported_shard x s =
-    files_as_wanted x.parts.files (keyed_shard x.key (shard_as_wanted x.parts.aux_ext s))
+    shard_with_files_if x.parts.files (keyed_shard x.key (shard_with_aux_if x.parts.aux_ext s))
 
 -- the bytes hold the shard that is exported of a shard, under the export's key, and their footer
 -- has its times

@@ -2,7 +2,7 @@
 use Rattle.std.proofs.Common.{◌≡◌, ℕ, ◌+◌, ◌-◌, ◌*◌, ◌<◌, ◌≤◌, List, length, min, ap, ◌∙◌, arith, add-mul, mul-le-mul_right}
 use Rattle.xet_base.specs.declared.interpolation_search.window.Window.{Window}
 use Rattle.std.specs.declared.io.Error.{Error}
-use Rattle.xet_base.specs.Source.{Source, Fails, moved}
+use Rattle.xet_base.specs.Source.{Source, Fails, after_seek}
 use Rattle.xet_base.specs.Table.{Table, row_offset, IsSorted, hits_below, hits, Bounded}
 use Rattle.xet_base.specs.Steps.Search.{ReadsKey, StopsWithin, IsRow, Counts, ReadsThrough, Runs}
 use Rattle.xet_base.proofs.Progress.{AllSmaller, Searches}
@@ -59,7 +59,7 @@ module _ {V : Type 0} (t : Table) (key : ℕ) (Gives : List ℕ → V → Type 0
   bounded_seek_not sorted new e fails = bounded sorted new 0 fails.seeks (omega (arith, fails.read)) (omega (arith, (so_far.sorted sorted).left))
 
   -- the last rows were read
-  pub bounded_passes : (sorted : IsSorted t) (mid new : Source) → w.high ≤ w.low + 256 → mid ≡ moved now (row_offset t w.low)
+  pub bounded_passes : (sorted : IsSorted t) (mid new : Source) → w.high ≤ w.low + 256 → mid ≡ after_seek now (row_offset t w.low)
       → ReadsThrough t w.low (w.high - 1) mid new → Bounded t key old new
   bounded_passes sorted mid new small sought passes =
       let rows = w.high - 1 - w.low in

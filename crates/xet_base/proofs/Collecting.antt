@@ -9,7 +9,7 @@ use Rattle.std.proofs.lemmas.Bool.{cases_lt}
 use Rattle.xet_base.specs.Source.{Source, next_bytes}
 use Rattle.xet_base.specs.Bytes.{u64_from_bytes}
 use Rattle.xet_base.specs.Table.{Table, row_offset, key_at, value_at, HasKey, hits_below, Hit, IsHit, OtherRow, Finds, ReadsCount}
-use Rattle.xet_base.specs.Steps.Search.{IsRow, Kept, FindsFrom, Counts, ReadsThrough, Runs}
+use Rattle.xet_base.specs.Steps.Search.{IsRow, KeepsValue, FindsFrom, Counts, ReadsThrough, Runs}
 use Rattle.xet_base.proofs.Progress.{FindsAround, Collected, Keeps}
 use Rattle.xet_base.proofs.Lists.{front_is}
 use Rattle.xet_base.proofs.Tables.{offset_of_row-next, offset_of_row-le, hits_below-hit, hits_below-miss}
@@ -96,7 +96,7 @@ module _ {V : Type 0} (t : Table) (key : ℕ) (Gives : List ℕ → V → Type 0
   }
 
   around_keep : (value : V) (new : List V) (count_new : ℕ) → FindsAround t key Gives from i to old results count → from ≤ i → i < to
-      → IsHit t key Gives (record { row = i; value = value }) → Kept results new count value count_new → FindsAround t key Gives from (i + 1) to old new count_new
+      → IsHit t key Gives (record { row = i; value = value }) → KeepsValue results new count value count_new → FindsAround t key Gives from (i + 1) to old new count_new
   unfolding finds_push around_skip
   around_keep value new count_new found le lt is_hit kept = elim (cases_lt count (length results)) [
     | inl room ↦ let hit : Hit V = record { row = i; value = value } in
@@ -156,7 +156,7 @@ collected_start t key Gives from to old results had at room = record {
 
 -- one more row has the key: the numbers of kept results
 counts_keep : {V : Type 0} (t : Table) (key from i had : ℕ) (value : V) (results new : List V) (room count count_new : ℕ) → Counts t key from i room had count
-    → HasKey t i → key_at t i ≡ key → length results ≡ room → Kept results new count value count_new → Counts t key from (i + 1) room had count_new
+    → HasKey t i → key_at t i ≡ key → length results ≡ room → KeepsValue results new count value count_new → Counts t key from (i + 1) room had count_new
 counts_keep t key from i had value results new room count count_new counted there same_key len kept = elim (cases_lt count (length results)) [
   | inl room ↦ omega (arith, (kept.room room).1, room, len, counted, hits_below-hit t key i there same_key)
   | inr full ↦ omega (arith, (kept.full full).1, full, len, counted, hits_below-hit t key i there same_key)
@@ -165,7 +165,7 @@ counts_keep t key from i had value results new room count count_new counted ther
 -- the first of a run of rows with the key, whose key was read before
 pub collected_first : {V : Type 0} (t : Table) (key : ℕ) (Gives : List ℕ → V → Type 0) (from to : ℕ) (old after : Source) (results new : List V) (had count : ℕ) (value : V)
     → old.bytes ≡ t.bytes → old.at ≡ row_offset t from + 8 → IsRow t key from → from < to → had ≤ length results → ReadsCount old after t.width
-    → Gives (value_at t from) value → Kept results new had value count → Collected t key Gives from (from + 1) to 8 old after results new had count
+    → Gives (value_at t from) value → KeepsValue results new had value count → Collected t key Gives from (from + 1) to 8 old after results new had count
 collected_first t key Gives from to old after results new had count value same at is_row lt room reads gives kept = record {
   no_failure = serves_advanced old old after t.width (serves_still old) reads.after;
   at = past_row t from old after same at reads;
@@ -196,7 +196,7 @@ module _ {V : Type 0} (t : Table) (key : ℕ) (Gives : List ℕ → V → Type 0
   }
 
   pub collected_keep : (value : V) (new : List V) (count_new : ℕ) → from ≤ i → i < to → i < t.rows → key_at t i ≡ key → Gives (next_bytes mid t.width) value
-      → length results ≡ length results_old → Kept results new count value count_new → Collected t key Gives from (i + 1) to skip old after results_old new had count_new
+      → length results ≡ length results_old → KeepsValue results new count value count_new → Collected t key Gives from (i + 1) to skip old after results_old new had count_new
   collected_keep value new count_new le lt within same_key gives len kept =
       let there : HasKey t i = key_there t i now mid now_same so_far.at reads in
       let mid_same = key_bytes t i now mid now_same so_far.at reads in

@@ -8,7 +8,7 @@ use Rattle.std.specs.Io.KnownBytes.{Consumes, Keeps}
 use borrow.Rule.Slice.PartMut.{put_mid}
 use Rattle.xet_base.specs.Bytes.{HasBytes, LacksBytes, AreBytes, ReadsThrough}
 use Rattle.xet_base.specs.InputLaws.{LacksBytes-consumed}
-use Rattle.xet_base.specs.Source.{Source, advanced, bytes_left, next_bytes, ReadsBytes}
+use Rattle.xet_base.specs.Source.{Source, after_read, bytes_left, next_bytes, ReadsBytes}
 use Rattle.xet_base.proofs.Bytes.{length-numbers, append-bytes}
 use Rattle.xet_base.proofs.Lists.{take-put_mid_part}
 
@@ -58,7 +58,7 @@ lacks_left s n some ends = omega (arith, length-drop s.at s.bytes)
 
 -- a source that moved past bytes passed them
 pub passed_next : (old new : Source) (n count : ℕ) → n ≡ count → (0 < n → old.at + n ≤ length old.bytes) → AreBytes (next_bytes old n)
-    → new ≡ advanced old n → ReadsThrough (ReadsBytes old new) count
+    → new ≡ after_read old n → ReadsThrough (ReadsBytes old new) count
 passed_next old new n count all there are after =
     let len : length (next_bytes old n) ≡ n = grind (arith, length-take n (bytes_left old), length-drop old.at old.bytes, there) in
     record {
@@ -68,7 +68,7 @@ passed_next old new n count all there are after =
       taken = record {
         within = λ some. grind (arith, len, some, there);
         there = ap (next_bytes old) (sym len);
-        after = after ∙ ap (advanced old) (sym len);
+        after = after ∙ ap (after_read old) (sym len);
       };
     }
 

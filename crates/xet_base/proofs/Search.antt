@@ -4,7 +4,7 @@ use Rattle.std.specs.Prelude.{MatchResult, List}
 use Rattle.xet_base.specs.declared.interpolation_search.table_range.TableRange.{TableRange}
 use Rattle.std.specs.declared.result.Result.{Result}
 use Rattle.std.specs.declared.io.Error.{Error}
-use Rattle.xet_base.specs.Source.{Source, advanced, moved, next_bytes, FillFailure, FillFails}
+use Rattle.xet_base.specs.Source.{Source, after_read, after_seek, next_bytes, FillFailure, FillFails}
 use Rattle.xet_base.specs.Bytes.{u64_from_bytes}
 use Rattle.xet_base.specs.Table.{Table, table_at, Answers, Finds, row_offset, key_at, NoFailure, ReadsCount}
 use Rattle.xet_base.specs.Steps.Table.{TableFailure}
@@ -25,14 +25,14 @@ read_failure t i old mid new n e no_failure row within (inr ended) =
 pub serves_still : (s : Source) → NoFailure s s
 serves_still s = record { bytes = refl; failures = refl; last_failure = refl }
 
-pub serves_advanced : (old mid new : Source) (n : ℕ) → NoFailure old mid → new ≡ advanced mid n → NoFailure old new
+pub serves_advanced : (old mid new : Source) (n : ℕ) → NoFailure old mid → new ≡ after_read mid n → NoFailure old new
 serves_advanced old mid new n no_failure after = record {
   bytes = ap (λ s. s.bytes) after ∙ no_failure.bytes;
   failures = ap (λ s. s.failures) after ∙ no_failure.failures;
   last_failure = ap (λ s. s.last_failure) after ∙ no_failure.last_failure;
 }
 
-pub serves_moved : (old mid new : Source) (to : ℕ) → NoFailure old mid → new ≡ moved mid to → NoFailure old new
+pub serves_moved : (old mid new : Source) (to : ℕ) → NoFailure old mid → new ≡ after_seek mid to → NoFailure old new
 serves_moved old mid new to no_failure after = record {
   bytes = ap (λ s. s.bytes) after ∙ no_failure.bytes;
   failures = ap (λ s. s.failures) after ∙ no_failure.failures;
@@ -40,14 +40,14 @@ serves_moved old mid new to no_failure after = record {
 }
 
 -- after a seek to a row, its key is what is read
-pub key_read : (t : Table) (i : ℕ) (old mid new : Source) (r : Result ℕ Error) → t.bytes ≡ old.bytes → i < t.rows → mid ≡ moved old (row_offset t i)
+pub key_read : (t : Table) (i : ℕ) (old mid new : Source) (r : Result ℕ Error) → t.bytes ≡ old.bytes → i < t.rows → mid ≡ after_seek old (row_offset t i)
     → MatchResult r (λ key. ReadsCount mid new 8 × (key ≡ u64_from_bytes (next_bytes mid 8))) (FillFails mid new 8)
     → MatchResult r (ReadsKey t i old new) (StopsWithin t 1 8 old new)
 unfolding key_at
 key_read t i old mid new (Ok key) same within sought (reads, is_key) = record {
   there = omega (arith, reads.within (omega arith), ap (λ s. s.at) sought, ap (λ s. length s.bytes) sought, ap length same);
   is_key = is_key ∙ ap (λ s. u64_from_bytes (next_bytes s 8)) sought ∙ ap (λ bytes. u64_from_bytes (take 8 (drop (row_offset t i) bytes))) (sym same);
-  after = reads.after ∙ ap (λ s. advanced s 8) sought;
+  after = reads.after ∙ ap (λ s. after_read s 8) sought;
 }
 key_read t i old mid new (Err e) same within sought fails = record {
   bytes = fails.bytes ∙ ap (λ s. s.bytes) sought;

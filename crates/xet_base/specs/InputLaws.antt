@@ -11,14 +11,14 @@ use Rattle.xet_base.specs.declared.error.CoreError.TheVariants.{Io, OutOfMemory}
 use Rattle.xet_base.specs.Bytes.{LacksBytes}
 use Rattle.xet_base.specs.Errors.{FromDevice}
 use Rattle.xet_base.specs.Input.{ReaderLacks, ReaderFails}
-use Rattle.xet_base.specs.Source.{Source, advanced, next_bytes, ReadsBytes, FailedBy, ReadCase, FillFailure, FillFails, ReadFails}
+use Rattle.xet_base.specs.Source.{Source, after_read, next_bytes, ReadsBytes, FailedBy, ReadCase, FillFailure, FillFails, ReadFails}
 use Rattle.xet_base.specs.Source.ReadCase.{out_of_memory, out_of_bytes}
 
-pub advanced-advanced : (s : Source) (m n : ℕ) → advanced (advanced s m) n ≡ advanced s (m + n)
-advanced-advanced s m n i = record s { at = add_assoc s.at m n i; read = add_assoc s.read m n i }
+pub after_read-after_read : (s : Source) (m n : ℕ) → after_read (after_read s m) n ≡ after_read s (m + n)
+after_read-after_read s m n i = record s { at = add_assoc s.at m n i; read = add_assoc s.read m n i }
 
 pub next_bytes-add : (s : Source) (m n : ℕ)
-    → next_bytes s (m + n) ≡ next_bytes s m ++ next_bytes (advanced s m) n
+    → next_bytes s (m + n) ≡ next_bytes s m ++ next_bytes (after_read s m) n
 next_bytes-add s m n =
     take-add m n (drop s.at s.bytes)
     ∙ ap (λ rest. take m (drop s.at s.bytes) ++ take n rest) (drop-drop m s.at s.bytes)
@@ -51,9 +51,9 @@ ReadsBytes-trans a b c xs ys first last =
           ∙ sym (next_bytes-add a (length xs) (length ys))
           ∙ ap (λ n. next_bytes a n) (sym (length-append xs ys));
       after =
-          last.after ∙ ap (λ s. advanced s (length ys)) first.after
-          ∙ advanced-advanced a (length xs) (length ys)
-          ∙ ap (λ n. advanced a n) (sym (length-append xs ys));
+          last.after ∙ ap (λ s. after_read s (length ys)) first.after
+          ∙ after_read-after_read a (length xs) (length ys)
+          ∙ ap (λ n. after_read a n) (sym (length-append xs ys));
     }
 
 -- a read of a reader that failed
@@ -112,7 +112,7 @@ source_fails old new n e f fails made = record {
 }
 
 later : (old new : Source) (k n most : ℕ) (f : CoreError) → k + n ≤ most
-    → ReadFails (advanced old k) new n f → ReadFails old new most f
+    → ReadFails (after_read old k) new n f → ReadFails old new most f
 later old new k n most f within fails = record {
   some = omega (arith, fails.some, within);
   bytes = fails.bytes;
@@ -120,7 +120,7 @@ later old new k n most f within fails = record {
   read = omega (arith, fails.read, within);
   cause =
       failed_after (ReadCase (length old.bytes < old.at + k + n))
-      (ReadCase (length old.bytes < old.at + most)) old (advanced old k) new f refl
+      (ReadCase (length old.bytes < old.at + most)) old (after_read old k) new f refl
       (read_case (length old.bytes < old.at + k + n) (length old.bytes < old.at + most) f
       (λ short. omega (arith, short, within)))
       fails.cause;

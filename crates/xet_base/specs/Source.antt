@@ -18,12 +18,12 @@ pub record Source : Type 0 where
   pub last_failure : Option Error
 
 -- after a read of n bytes
-abbrev pub advanced : Source → ℕ → Source
-advanced s n = record s { at = s.at + n; read = s.read + n }
+abbrev pub after_read : Source → ℕ → Source
+after_read s n = record s { at = s.at + n; read = s.read + n }
 
 -- after a seek
-abbrev pub moved : Source → ℕ → Source
-moved s to = record s { at = to; seeks = s.seeks + 1 }
+abbrev pub after_seek : Source → ℕ → Source
+after_seek s to = record s { at = to; seeks = s.seeks + 1 }
 
 -- the next n bytes, or as many as are left
 abbrev pub next_bytes : Source → ℕ → List ℕ
@@ -35,7 +35,7 @@ pub record ReadsSome (old new : Source) (slice : List ℕ) (n : ℕ) : Type 0 wh
   pub within : 0 < n → old.at + n ≤ length old.bytes
   pub filled : take n slice ≡ next_bytes old n
   pub end : n ≡ 0 → 0 < length slice → length old.bytes ≤ old.at
-  pub after : new ≡ advanced old n
+  pub after : new ≡ after_read old n
 
 -- the device failed; the position afterwards is unspecified
 pub record Fails (old new : Source) (made : ℕ) (e : Error) : Type 0 where
@@ -53,7 +53,7 @@ bytes_left s = drop s.at s.bytes
 pub record ReadsBytes (old new : Source) (taken : List ℕ) : Type 0 where
   pub within : 0 < length taken → old.at + length taken ≤ length old.bytes
   pub there : taken ≡ next_bytes old (length taken)
-  pub after : new ≡ advanced old (length taken)
+  pub after : new ≡ after_read old (length taken)
 
 -- why n bytes were not read: the device failed, and the error is its own; or the bytes ended
 abbrev pub FillFailure : Source → Source → ℕ → Error → Type 0

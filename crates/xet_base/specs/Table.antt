@@ -7,7 +7,7 @@ use Rattle.xet_base.specs.Bytes.{u64_from_bytes}
 use Rattle.xet_base.specs.declared.error.CoreError.{CoreError}
 use Rattle.xet_base.specs.declared.error.CoreError.TheVariants.{InvalidShard}
 use Rattle.xet_base.specs.Errors.{IsEndOfInput}
-use Rattle.xet_base.specs.Source.{Source, advanced, next_bytes, FillFails, DeviceFailure}
+use Rattle.xet_base.specs.Source.{Source, after_read, next_bytes, FillFails, DeviceFailure}
 
 -- the bytes of the source, the offset of the first row, the number of rows and the bytes of a value
 pub record Table : Type 0 where
@@ -134,7 +134,7 @@ pub record Bounded (t : Table) (key : ℕ) (old new : Source) : Type 0 where
 -- n bytes were read
 pub record ReadsCount (old new : Source) (n : ℕ) : Type 0 where
   pub within : 0 < n → old.at + n ≤ length old.bytes
-  pub after : new ≡ advanced old n
+  pub after : new ≡ after_read old n
 
 -- a call acts on the source as filling a slice of `width` bytes does
 abbrev pub ActsAsReadFull : {V : Type 0} → ℕ → Source → Result V Error → Source → Type 0

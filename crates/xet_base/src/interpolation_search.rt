@@ -19,7 +19,7 @@ ghost use Rattle.xet_base.specs.Source.{FillFails, next_bytes};
 ghost use Rattle.xet_base.specs.Bytes.{u64_from_bytes};
 ghost use Rattle.xet_base.specs.Table.{table_at, row_offset, hits_below, hits, IsSorted, Finds, FitsTable, NoFailure, SearchRefused, Bounded, ReadsCount, ActsAsReadFull, Answers, IsEven};
 ghost use Rattle.xet_base.specs.Steps.Table.{TableFailure};
-ghost use Rattle.xet_base.specs.Steps.Search.{table_in, ReadsKey, ReadsValues, StopsWithin, IsRow, Kept, Extends, Counts, ReadsThrough, Runs};
+ghost use Rattle.xet_base.specs.Steps.Search.{table_in, ReadsKey, ReadsValues, StopsWithin, IsRow, KeepsValue, Extends, Counts, ReadsThrough, Runs};
 
 mod table_range;
 mod window;
@@ -222,7 +222,7 @@ fn collect<S: ShardSource, V: Copy, F: Fn(&mut S) -> io::Result<V>>(
 // Stores a value behind the first `count` results, where there is room.
 #[inline]
 fn keep<V: Copy>(results: &mut [V], count: usize, value: V) -> usize
-    ensures { Kept results.old results.new count value result }
+    ensures { KeepsValue results.old results.new count value result }
 {
     if count < results.len() {
         results[count] = value;

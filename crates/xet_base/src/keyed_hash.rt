@@ -1,7 +1,7 @@
 //! The keyed hash, BLAKE3's keyed mode: here for one block of 32 bytes, in `tree` for any bytes.
 
 ghost use Rattle.std.specs.Prelude.{◌≡◌, ℕ, ◌+◌, ◌*◌, ◌<◌, ◌≤◌, [], ◌∷◌, length, slice_index};
-ghost use Rattle.xet_base.specs.KeyedHash.{add32, xor_rotate, mix, mix_columns, mix_diagonals, permuted, state_after, message_after, word_at, words_before, initial_state, message_of, digest, keyed_bytes};
+ghost use Rattle.xet_base.specs.KeyedHash.{add32, xor_rotate, mix, mix_columns, mix_diagonals, next_message, state_after, message_after, word_at, words_before, initial_state, message_of, digest, keyed_bytes};
 ghost use Rattle.xet_base.specs.Steps.Lanes.{words_in};
 
 mod four;
@@ -93,7 +93,7 @@ fn compress(start: Rows, message: Words) -> Rows
 fn round(state: Rows, words: Words) -> (Rows, Words)
     ensures state { words_in result.0
         ≡ mix_diagonals (mix_columns (words_in state) words) words }
-    ensures words { result.1 ≡ permuted words }
+    ensures words { result.1 ≡ next_message words }
 {
     let state = mix_columns(state, &words);
     let state = mix_diagonals(state, &words);
@@ -208,9 +208,9 @@ fn words_in(state: Rows) -> Words
 
 // The message for the next round.
 #[inline(always)]
-#[tactic(auto, unfolding(crate::specs::KeyedHash::permuted))]
+#[tactic(auto, unfolding(crate::specs::KeyedHash::next_message))]
 fn permuted(m: &Words) -> Words
-    ensures { result ≡ permuted m.now }
+    ensures { result ≡ next_message m.now }
 {
     [
         m[2], m[6], m[3], m[10], m[7], m[0], m[4], m[13], m[1], m[11], m[12], m[5], m[9], m[14],

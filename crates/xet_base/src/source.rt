@@ -2,7 +2,7 @@
 
 ghost use Rattle.std.specs.Prelude.{◌≡◌, ℕ, length, MatchResult, None};
 ghost use Rattle.xet_base.specs.Bytes.{ReadsThrough};
-ghost use Rattle.xet_base.specs.Source.{Source, ReadsSome, Fails, ReadsBytes, FillFails, moved};
+ghost use Rattle.xet_base.specs.Source.{Source, ReadsSome, Fails, ReadsBytes, FillFails, after_seek};
 
 use crate::count::Count;
 use crate::fields::all_bytes;
@@ -40,7 +40,7 @@ pub trait ShardSource {
 
     /// Sets the position of the next read. It may be past the end; reads there return 0 bytes.
     fn seek_to(&mut self, to: u64) -> io::Result<()>
-        ensures { MatchResult result (λ _. meaning self.new ≡ moved (meaning self.old) to)
+        ensures { MatchResult result (λ _. meaning self.new ≡ after_seek (meaning self.old) to)
             (Fails (meaning self.old) (meaning self.new) 1) };
 
     /// Moves past `count` bytes, which count as read. `UnexpectedEof` if fewer are left; the

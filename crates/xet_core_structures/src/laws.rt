@@ -24,7 +24,7 @@ ghost use Rattle.xet_core_structures.specs.declared.set_operations.MergePlan.{Me
 ghost use Rattle.xet_core_structures.specs.TwoShards.ByteResults.{keyed_info, keyed_layout, HaveResult, UnitesBytes};
 ghost use Rattle.xet_core_structures.specs.Records.ByteUnion.{IsByteUnion, HasPartsOf};
 ghost use Rattle.xet_core_structures.specs.Records.Equality.{error_eq, derived_eq, derived_partial_cmp, derived_cmp, derived_input};
-ghost use Rattle.xet_core_structures.specs.Trees.ExportTrees.{FitsOptions, IsExportOf, shard_as_wanted};
+ghost use Rattle.xet_core_structures.specs.Trees.ExportTrees.{FitsOptions, IsExportOf, shard_with_aux_if};
 ghost use Rattle.xet_core_structures.specs.Records.ShardContents.{Holds, HoldsShard, IsReadInOneWay, IsTruncated, IsMalformed};
 ghost use Rattle.xet_core_structures.specs.Trees.MergeTrees.{leaves, HasUnion, InputIs, TreeWrites, TreeRefusal, HaveXorbs, IsMerge, IsMergeUnder, MergeRefused};
 ghost use Rattle.xet_core_structures.specs.TwoShards.Readable.{IsBytesUnderKey};
@@ -272,7 +272,7 @@ pub fn trees_of_held_shards()
         → HoldsShard options.key s (layout_of (values s.files) (values s.xorbs) options) }
     ensures exports { (aux : Bool) → (key : DataHash) → (s : Shard) → (bytes : List ℕ)
         → IsShard s → IsExportOf aux key s bytes
-        → HoldsShard key (keyed_shard key (shard_as_wanted aux s)) bytes }
+        → HoldsShard key (keyed_shard key (shard_with_aux_if aux s)) bytes }
     ensures bytes { (inputs : List (List ℕ)) → (plan : MergePlan) → (key : DataHash)
         → (shards : List Shard) → (join : Shard) → (out : List ℕ)
         → IsMergeUnder key inputs plan shards join → TreeWrites inputs plan out

@@ -12,39 +12,39 @@ use Rattle.xet_records.specs.declared.file_structs.MDBFileInfo.{MDBFileInfo}
 use Rattle.xet_records.specs.FileRow.{header_row, segment_row, hash_row, FitsHashRow}
 use Rattle.xet_records.specs.Part.{parts, with_parts, announces, flags_of, size_of_part, rows_of, optional_rows, all_but, with_flag}
 use Rattle.xet_records.specs.FileRecord.{has_verification, has_aux_ext, file_record_bytes, file_rows_bytes, row_count, FitsItsHeader, FitsRecord, IsStored, IsWellFormed}
-use Rattle.xet_records.specs.View.{KeptParts, keeping, without_verification, without_aux, as_wanted, aux_as_wanted, as_kept}
+use Rattle.xet_records.specs.View.{KeptParts, with_parts_if, without_verification, without_aux, with_verification_if, with_aux_if, as_kept}
 use Rattle.xet_records.specs.Steps.View.{keeps}
 use Rattle.xet_records.proofs.Merging.{one, one_announced, part_absent, announces-flags_of}
-use Rattle.xet_records.proofs.Parts.{for_parts, rows_bytes, fewer, fewer_rows, rows_of-keeping, same_record, All-part, All-parts}
+use Rattle.xet_records.proofs.Parts.{for_parts, rows_bytes, fewer, fewer_rows, rows_of-with_parts_if, same_record, All-part, All-parts}
 
 -- the segments and the rows of each part
 pub segments_kept : (kept : KeptParts) (r : MDBFileInfo) → (as_kept kept r).segments ≡ r.segments
 segments_kept kept r = either kept.aux_ext (has_verification r.metadata.file_flags && not kept.verification)
   where
-    either : (aux leaves_out : Bool) → (aux_as_wanted aux (if leaves_out then without_verification r else r)).segments ≡ r.segments
+    either : (aux leaves_out : Bool) → (with_aux_if aux (if leaves_out then without_verification r else r)).segments ≡ r.segments
     either true true = refl
     either true false = refl
     either false true = refl
     either false false = refl
 
 rows_of-wanted : (wanted : Bool) (r : MDBFileInfo) → FitsItsHeader r → (part : OptionalPart)
-    → rows_of part (as_wanted wanted r) ≡ (if wanted || all_but Verification part then rows_of part r else [])
+    → rows_of part (with_verification_if wanted r) ≡ (if wanted || all_but Verification part then rows_of part r else [])
 rows_of-wanted wanted r whole part = by_cases wanted (has_verification r.metadata.file_flags) refl
   where
     by_cases : (wanted has : Bool) → has_verification r.metadata.file_flags ≡ has
         → rows_of part (if has && not wanted then without_verification r else r) ≡ (if wanted || all_but Verification part then rows_of part r else [])
     by_cases true true is = refl
     by_cases true false is = refl
-    by_cases false true is = rows_of-keeping (all_but Verification) _ r part
+    by_cases false true is = rows_of-with_parts_if (all_but Verification) _ r part
     by_cases false false is = for_parts (λ p. rows_of p r ≡ (if all_but Verification p then rows_of p r else [])) (part_absent r whole Verification is) refl refl part
 
-rows_of-aux : (wanted : Bool) (r : MDBFileInfo) (part : OptionalPart) → rows_of part (aux_as_wanted wanted r) ≡ (if wanted || all_but AuxExt part then rows_of part r else [])
+rows_of-aux : (wanted : Bool) (r : MDBFileInfo) (part : OptionalPart) → rows_of part (with_aux_if wanted r) ≡ (if wanted || all_but AuxExt part then rows_of part r else [])
 rows_of-aux true r part = refl
-rows_of-aux false r part = rows_of-keeping (all_but AuxExt) _ r part
+rows_of-aux false r part = rows_of-with_parts_if (all_but AuxExt) _ r part
 
 rows_of-kept : (kept : KeptParts) (r : MDBFileInfo) → FitsItsHeader r → (part : OptionalPart) → rows_of part (as_kept kept r) ≡ (if keeps kept part then rows_of part r else [])
 rows_of-kept kept r whole part =
-    rows_of-aux kept.aux_ext (as_wanted kept.verification r) part
+    rows_of-aux kept.aux_ext (with_verification_if kept.verification r) part
     ∙ ap (λ (xs : List HashRow). if kept.aux_ext || all_but AuxExt part then xs else []) (rows_of-wanted kept.verification r whole part)
     ∙ both (kept.verification || all_but Verification part) (kept.aux_ext || all_but AuxExt part) (rows_of part r)
   where
@@ -66,14 +66,14 @@ part-kept kept r whole part n counted some = rows_of-kept kept r whole part ∙ 
 pub fewer-kept : (kept : KeptParts) (r : MDBFileInfo) (part : OptionalPart) → length (rows_of part (as_kept kept r)) ≤ length (rows_of part r)
 fewer-kept kept r part = either kept.aux_ext (has_verification r.metadata.file_flags && not kept.verification)
   where
-    dropped : (stays : OptionalPart → Bool) (h : FileDataSequenceHeader) (s : MDBFileInfo) → length (rows_of part (keeping stays h s)) ≤ length (rows_of part s)
-    dropped stays h s = omega (arith, ap length (rows_of-keeping stays h s part), fewer (stays part) (rows_of part s))
+    dropped : (stays : OptionalPart → Bool) (h : FileDataSequenceHeader) (s : MDBFileInfo) → length (rows_of part (with_parts_if stays h s)) ≤ length (rows_of part s)
+    dropped stays h s = omega (arith, ap length (rows_of-with_parts_if stays h s part), fewer (stays part) (rows_of part s))
 
     first : (leaves_out : Bool) → length (rows_of part (if leaves_out then without_verification r else r)) ≤ length (rows_of part r)
     first true = dropped (all_but Verification) _ r
     first false = omega arith
 
-    either : (aux leaves_out : Bool) → length (rows_of part (aux_as_wanted aux (if leaves_out then without_verification r else r))) ≤ length (rows_of part r)
+    either : (aux leaves_out : Bool) → length (rows_of part (with_aux_if aux (if leaves_out then without_verification r else r))) ≤ length (rows_of part r)
     either true leaves_out = first leaves_out
     either false leaves_out =
         let s = if leaves_out then without_verification r else r in
@@ -92,12 +92,12 @@ no_aux : (r : MDBFileInfo) → FitsItsHeader r → has_aux_ext r.metadata.file_f
 no_aux r whole none =
     let flags = ap (λ (b : Bool). r.metadata.file_flags - (if b then 536870912 else 0) + 0) none ∙ omega arith in
     same_record (without_aux r) r (λ i. record r.metadata { file_flags = flags i }) refl
-    (λ part. rows_of-keeping (all_but AuxExt) _ r part
+    (λ part. rows_of-with_parts_if (all_but AuxExt) _ r part
     ∙ for_parts (λ p. (if all_but AuxExt p then rows_of p r else []) ≡ rows_of p r) refl refl (sym (part_absent r whole AuxExt none)) part)
 
 pub all_kept : (kept : KeptParts) (r : MDBFileInfo) → FitsItsHeader r → ((part : OptionalPart) → IsTrue (announces r.metadata.file_flags part) → IsTrue (keeps kept part)) → as_kept kept r ≡ r
 all_kept kept r whole keeps_all =
-    ap (λ b. aux_as_wanted kept.aux_ext (if b then without_verification r else r)) (none_out (has_verification r.metadata.file_flags) kept.verification kept.aux_ext (keeps_all Verification))
+    ap (λ b. with_aux_if kept.aux_ext (if b then without_verification r else r)) (none_out (has_verification r.metadata.file_flags) kept.verification kept.aux_ext (keeps_all Verification))
     ∙ aux_in kept.aux_ext kept.verification (has_aux_ext r.metadata.file_flags) refl (keeps_all AuxExt)
   where
     none_out : (has wanted aux : Bool) → (IsTrue has → IsTrue ((wanted || false) && (aux || true))) → (has && not wanted) ≡ false
@@ -106,7 +106,7 @@ all_kept kept r whole keeps_all =
     none_out true false aux stays = sym (stays refl)
 
     aux_in : (wanted verification has : Bool) → has_aux_ext r.metadata.file_flags ≡ has → (IsTrue (has_aux_ext r.metadata.file_flags) → IsTrue ((verification || true) && (wanted || false)))
-        → aux_as_wanted wanted r ≡ r
+        → with_aux_if wanted r ≡ r
     aux_in true verification has is stays = refl
     aux_in false verification false is stays = no_aux r whole is
     aux_in false true true is stays = absurd (true≢false (sym (stays is)))
@@ -114,32 +114,32 @@ all_kept kept r whole keeps_all =
 
 -- a record that keeps some of its parts has no more rows, and fits a header that announces what is kept
 module _ (stays : OptionalPart → Bool) (h : FileDataSequenceHeader) (r : MDBFileInfo) where
-  keeping-rows : length (optional_rows (keeping stays h r)) ≤ length (optional_rows r)
-  keeping-rows =
-      fewer_rows (λ p. rows_of p (keeping stays h r)) (λ p. rows_of p r)
-      (λ p. omega (arith, ap length (rows_of-keeping stays h r p), fewer (stays p) (rows_of p r))) parts
+  with_parts_if-rows : length (optional_rows (with_parts_if stays h r)) ≤ length (optional_rows r)
+  with_parts_if-rows =
+      fewer_rows (λ p. rows_of p (with_parts_if stays h r)) (λ p. rows_of p r)
+      (λ p. omega (arith, ap length (rows_of-with_parts_if stays h r p), fewer (stays p) (rows_of p r))) parts
 
   -- they are kept once
-  pub keeping-again : (k : FileDataSequenceHeader) → k ≡ h → keeping stays k (keeping stays h r) ≡ keeping stays h r
-  keeping-again k header =
-      λ i. with_parts (header i) r.segments (λ p. (ap (λ (xs : List HashRow). if stays p then xs else []) (rows_of-keeping stays h r p) ∙ once (stays p) (rows_of p r)) i)
+  pub with_parts_if-again : (k : FileDataSequenceHeader) → k ≡ h → with_parts_if stays k (with_parts_if stays h r) ≡ with_parts_if stays h r
+  with_parts_if-again k header =
+      λ i. with_parts (header i) r.segments (λ p. (ap (λ (xs : List HashRow). if stays p then xs else []) (rows_of-with_parts_if stays h r p) ∙ once (stays p) (rows_of p r)) i)
     where
       once : (b : Bool) (xs : List HashRow) → (if b then (if b then xs else []) else []) ≡ (if b then xs else [])
       once true xs = refl
       once false xs = refl
 
-  pub keeping-all : (P : HashRow → Type 0) → All P (optional_rows r) → All P (optional_rows (keeping stays h r))
-  keeping-all P all = All-parts P (λ p. rows_of p (keeping stays h r)) (λ p. subst (All P) (sym (rows_of-keeping stays h r p)) (some (rows_of p r) (stays p) (All-part P (λ q. rows_of q r) all p)))
+  pub with_parts_if-all : (P : HashRow → Type 0) → All P (optional_rows r) → All P (optional_rows (with_parts_if stays h r))
+  with_parts_if-all P all = All-parts P (λ p. rows_of p (with_parts_if stays h r)) (λ p. subst (All P) (sym (rows_of-with_parts_if stays h r p)) (some (rows_of p r) (stays p) (All-part P (λ q. rows_of q r) all p)))
     where
       some : (xs : List HashRow) (b : Bool) → All P xs → All P (if b then xs else [])
       some xs true each = each
       some xs false each = All-nil P
 
-  pub keeping-whole : FitsItsHeader r → h.num_entries ≡ r.metadata.num_entries
-      → ((part : OptionalPart) → announces h.file_flags part ≡ (stays part && announces r.metadata.file_flags part)) → FitsItsHeader (keeping stays h r)
-  keeping-whole whole same_count flags = record {
+  pub with_parts_if-whole : FitsItsHeader r → h.num_entries ≡ r.metadata.num_entries
+      → ((part : OptionalPart) → announces h.file_flags part ≡ (stays part && announces r.metadata.file_flags part)) → FitsItsHeader (with_parts_if stays h r)
+  with_parts_if-whole whole same_count flags = record {
     segments = whole.segments ∙ sym same_count;
-    parts = λ p. ap length (rows_of-keeping stays h r p) ∙ counted (stays p) (announces r.metadata.file_flags p) _ (rows_of p r) (whole.parts p)
+    parts = λ p. ap length (rows_of-with_parts_if stays h r p) ∙ counted (stays p) (announces r.metadata.file_flags p) _ (rows_of p r) (whole.parts p)
         ∙ (λ i. if sym (flags p) i then size_of_part p (sym same_count i) else 0);
   } where
     counted : (s b : Bool) (n : ℕ) (xs : List HashRow) → length xs ≡ (if b then n else 0) → length (if s then xs else []) ≡ (if s && b then n else 0)
@@ -177,7 +177,7 @@ cleared-known flags known = omega (arith, known)
 -- a record without its auxiliary row is as good as the record
 module _ (r : MDBFileInfo) where
   without_aux-whole : FitsItsHeader r → FitsItsHeader (without_aux r)
-  without_aux-whole whole = keeping-whole (all_but AuxExt) (without_aux r).metadata r whole refl (cleared r.metadata.file_flags)
+  without_aux-whole whole = with_parts_if-whole (all_but AuxExt) (without_aux r).metadata r whole refl (cleared r.metadata.file_flags)
 
   pub without_aux-fits : FitsRecord r → FitsRecord (without_aux r)
   without_aux-fits fits = record {
@@ -188,14 +188,14 @@ module _ (r : MDBFileInfo) where
       unused = fits.metadata.unused;
     };
     segments = fits.segments;
-    parts = keeping-all (all_but AuxExt) (without_aux r).metadata r FitsHashRow fits.parts;
+    parts = with_parts_if-all (all_but AuxExt) (without_aux r).metadata r FitsHashRow fits.parts;
   }
 
   pub without_aux-stored : IsStored r → IsStored (without_aux r)
   without_aux-stored stored = record { is_file = stored.is_file; whole = without_aux-whole stored.whole; widths = without_aux-fits stored.widths }
 
   pub without_aux-rows : row_count (without_aux r) ≤ row_count r
-  without_aux-rows = omega (arith, keeping-rows (all_but AuxExt) (without_aux r).metadata r)
+  without_aux-rows = omega (arith, with_parts_if-rows (all_but AuxExt) (without_aux r).metadata r)
 
   pub without_aux-formed : IsWellFormed r → IsWellFormed (without_aux r)
   without_aux-formed formed = record {
@@ -203,7 +203,7 @@ module _ (r : MDBFileInfo) where
     known_flags = cleared-known r.metadata.file_flags formed.known_flags ∙ (λ i. flags_of (λ part. sym (cleared r.metadata.file_flags part) i));
     reserved = formed.reserved;
     whole = without_aux-whole formed.whole;
-    clear = keeping-all (all_but AuxExt) (without_aux r).metadata r (λ row. row._unused ≡ 0 ∷ 0 ∷ []) formed.clear;
+    clear = with_parts_if-all (all_but AuxExt) (without_aux r).metadata r (λ row. row._unused ≡ 0 ∷ 0 ∷ []) formed.clear;
     rows = omega (arith, without_aux-rows, formed.rows);
     widths = without_aux-fits formed.widths;
   }
@@ -214,10 +214,10 @@ kept-whole kept r whole = either kept.aux_ext (has_verification r.metadata.file_
   where
     first : (leaves_out : Bool) → FitsItsHeader (if leaves_out then without_verification r else r)
     first true =
-        keeping-whole (all_but Verification) (without_verification r).metadata r whole refl
+        with_parts_if-whole (all_but Verification) (without_verification r).metadata r whole refl
         (announces-flags_of (λ part. all_but Verification part && announces r.metadata.file_flags part))
     first false = whole
 
-    either : (aux leaves_out : Bool) → FitsItsHeader (aux_as_wanted aux (if leaves_out then without_verification r else r))
+    either : (aux leaves_out : Bool) → FitsItsHeader (with_aux_if aux (if leaves_out then without_verification r else r))
     either true leaves_out = first leaves_out
     either false leaves_out = without_aux-whole (if leaves_out then without_verification r else r) (first leaves_out)

@@ -13,7 +13,7 @@ use Rattle.xet_records.specs.declared.file_structs.MDBFileInfo.{MDBFileInfo}
 use Rattle.xet_records.specs.FileRow.{FitsHashRow}
 use Rattle.xet_records.specs.Part.{parts, bit_of, announces, flags_of, size_of_part, part_rows, rows_of, optional_rows, with_parts}
 use Rattle.xet_records.specs.FileRecord.{rows_after, row_count, FitsItsHeader, IsWellFormed}
-use Rattle.xet_records.specs.Merging.{IsSameFile, mixed_header, has_part, merged, Agree, joined}
+use Rattle.xet_records.specs.Merging.{IsSameFile, mixed_header, has_part, merged_file, Agree, joined_file}
 use Rattle.xet_records.proofs.Parts.{for_parts, Holds, held, length-parts, fewer_rows, rows_of_both, rows_of-with_parts, with_parts-rows_of, All-part, All-parts}
 
 -- a flag as a number
@@ -100,7 +100,7 @@ part_absent r whole part absent =
     no_rows (rows_of part r) (whole.parts part ∙ ap (λ (b : Bool). if b then size_of_part part r.metadata.num_entries else 0) absent)
 
 -- a record takes nothing from one whose parts it has
-pub nothing_taken : (a b : MDBFileInfo) → ((part : OptionalPart) → IsTrue (has_part b part) → IsTrue (has_part a part)) → merged a b ≡ a
+pub nothing_taken : (a b : MDBFileInfo) → ((part : OptionalPart) → IsTrue (has_part b part) → IsTrue (has_part a part)) → merged_file a b ≡ a
 nothing_taken a b has_all =
     let none : (part : OptionalPart) → (has_part b part && not (has_part a part)) ≡ false = λ part. none_gained (has_part a part) (has_part b part) (has_all part) in
     let flags : a.metadata.file_flags + flags_of (λ part. has_part b part && not (has_part a part)) ≡ a.metadata.file_flags =
@@ -153,22 +153,22 @@ gained false true = refl
 gained false false = refl
 
 module _ (a b : MDBFileInfo) where
-  pub has_part-merged : (part : OptionalPart) → has_part (merged a b) part ≡ (has_part a part || has_part b part)
-  has_part-merged part =
+  pub has_part-merged_file : (part : OptionalPart) → has_part (merged_file a b) part ≡ (has_part a part || has_part b part)
+  has_part-merged_file part =
       let takes : OptionalPart → Bool = λ p. has_part b p && not (has_part a p) in
       let sum : (p : OptionalPart) → bit_at a.metadata.file_flags (bit_of p) + one (takes p) ≡ one (has_part a p || has_part b p) =
       λ p. ap (λ n. n + one (takes p)) (one_announced a.metadata.file_flags p) ∙ gained (has_part a p) (has_part b p) in
       one_shows _ (has_part a part || has_part b part)
       (bits_added a.metadata.file_flags takes (λ p. omega (arith, sum p, one_small (has_part a p || has_part b p))) part ∙ sum part)
 
-  pub rows_of-merged : (part : OptionalPart) → rows_of part (merged a b) ≡ (if has_part b part && not (has_part a part) then rows_of part b else rows_of part a)
-  rows_of-merged part = rows_of-with_parts _ _ _ (λ p. either_holds p (has_part b p && not (has_part a p)) (rows_of p b) (rows_of p a) (held b p) (held a p)) part
+  pub rows_of-merged_file : (part : OptionalPart) → rows_of part (merged_file a b) ≡ (if has_part b part && not (has_part a part) then rows_of part b else rows_of part a)
+  rows_of-merged_file part = rows_of-with_parts _ _ _ (λ p. either_holds p (has_part b p && not (has_part a p)) (rows_of p b) (rows_of p a) (held b p) (held a p)) part
 
-  has_part-joined : (part : OptionalPart) → has_part (joined a b) part ≡ (has_part a part || has_part b part)
-  has_part-joined part = announces-flags_of (λ p. has_part a p || has_part b p) part
+  has_part-joined_file : (part : OptionalPart) → has_part (joined_file a b) part ≡ (has_part a part || has_part b part)
+  has_part-joined_file part = announces-flags_of (λ p. has_part a p || has_part b p) part
 
-  pub rows_of-joined : (part : OptionalPart) → rows_of part (joined a b) ≡ (if has_part a part then rows_of part a else rows_of part b)
-  rows_of-joined part = rows_of-with_parts _ _ _ (λ p. either_holds p (has_part a p) (rows_of p a) (rows_of p b) (held a p) (held b p)) part
+  pub rows_of-joined_file : (part : OptionalPart) → rows_of part (joined_file a b) ≡ (if has_part a part then rows_of part a else rows_of part b)
+  rows_of-joined_file part = rows_of-with_parts _ _ _ (λ p. either_holds p (has_part a p) (rows_of p a) (rows_of p b) (held a p) (held b p)) part
 
 -- the rows of a merged record are those that the header of a mix announces
 taken_rows : {X : Type 0} (v w : Bool) (n : ℕ) (xs ys : List X) → length xs ≡ (if v then n else 0) → length ys ≡ (if w then n else 0)
@@ -178,24 +178,24 @@ taken_rows true false n xs ys first second = first
 taken_rows false true n xs ys first second = second
 taken_rows false false n xs ys first second = first
 
-pub merged_rows : (a b : MDBFileInfo) → FitsItsHeader a → FitsItsHeader b → IsSameFile a.metadata b.metadata → row_count (merged a b) ≡ 1 + rows_after (mixed_header a.metadata b.metadata)
+pub merged_rows : (a b : MDBFileInfo) → FitsItsHeader a → FitsItsHeader b → IsSameFile a.metadata b.metadata → row_count (merged_file a b) ≡ 1 + rows_after (mixed_header a.metadata b.metadata)
 merged_rows a b a_whole b_whole same =
     let h = mixed_header a.metadata b.metadata in
-    let each : (part : OptionalPart) → length (rows_of part (merged a b)) ≡ part_rows part h =
-    λ part. ap length (rows_of-merged a b part)
+    let each : (part : OptionalPart) → length (rows_of part (merged_file a b)) ≡ part_rows part h =
+    λ part. ap length (rows_of-merged_file a b part)
     ∙ taken_rows (has_part a part) (has_part b part) (size_of_part part a.metadata.num_entries) (rows_of part a) (rows_of part b) (a_whole.parts part)
     (b_whole.parts part ∙ ap (λ n. if has_part b part then size_of_part part n else 0) (sym same.num_entries))
     ∙ ap (λ (u : Bool). if u then size_of_part part a.metadata.num_entries else 0) (sym (announces-flags_of (λ p. has_part a p || has_part b p) part)) in
-    omega (arith, a_whole.segments, length-parts (λ part. rows_of part (merged a b)) h each)
+    omega (arith, a_whole.segments, length-parts (λ part. rows_of part (merged_file a b)) h each)
 
 -- as many as those of the second at least, and of both at most
-pub merged_more : (a b : MDBFileInfo) → FitsItsHeader a → FitsItsHeader b → IsSameFile a.metadata b.metadata → row_count b ≤ row_count (merged a b)
+pub merged_more : (a b : MDBFileInfo) → FitsItsHeader a → FitsItsHeader b → IsSameFile a.metadata b.metadata → row_count b ≤ row_count (merged_file a b)
 merged_more a b a_whole b_whole same = omega (
   arith,
   a_whole.segments,
   b_whole.segments,
   same.num_entries,
-  fewer_rows (λ p. rows_of p b) (λ p. rows_of p (merged a b)) (λ p. subst (λ n. length (rows_of p b) ≤ n) (ap length (sym (rows_of-merged a b p)))
+  fewer_rows (λ p. rows_of p b) (λ p. rows_of p (merged_file a b)) (λ p. subst (λ n. length (rows_of p b) ≤ n) (ap length (sym (rows_of-merged_file a b p)))
       (of_second (has_part a p) (has_part b p) (size_of_part p a.metadata.num_entries) (rows_of p a) (rows_of p b) (a_whole.parts p)
       (b_whole.parts p ∙ ap (λ n. if has_part b p then size_of_part p n else 0) (sym same.num_entries)))) parts,
 ) where
@@ -205,11 +205,11 @@ merged_more a b a_whole b_whole same = omega (
   of_second false true n xs ys first second = omega arith
   of_second false false n xs ys first second = omega (arith, second)
 
-pub merged_within : (a b : MDBFileInfo) → row_count (merged a b) + 1 ≤ row_count a + row_count b
+pub merged_within : (a b : MDBFileInfo) → row_count (merged_file a b) + 1 ≤ row_count a + row_count b
 merged_within a b = omega (
   arith,
-  rows_of_both (λ p. rows_of p (merged a b)) (λ p. rows_of p a) (λ p. rows_of p b)
-      (λ p. subst (λ n. n ≤ length (rows_of p a) + length (rows_of p b)) (ap length (sym (rows_of-merged a b p))) (of_either (has_part b p && not (has_part a p)) (rows_of p a) (rows_of p b))) parts,
+  rows_of_both (λ p. rows_of p (merged_file a b)) (λ p. rows_of p a) (λ p. rows_of p b)
+      (λ p. subst (λ n. n ≤ length (rows_of p a) + length (rows_of p b)) (ap length (sym (rows_of-merged_file a b p))) (of_either (has_part b p && not (has_part a p)) (rows_of p a) (rows_of p b))) parts,
 ) where
   of_either : {X : Type 0} (v : Bool) (xs ys : List X) → length (if v then ys else xs) ≤ length xs + length ys
   of_either true xs ys = omega arith
@@ -237,22 +237,22 @@ part_regained false true false x y z = refl
 part_regained false false true x y z = refl
 part_regained false false false x y z = refl
 
-pub merged-assoc : (a b c : MDBFileInfo) → merged (merged a b) c ≡ merged a (merged b c)
-merged-assoc a b c =
+pub merged_file-assoc : (a b c : MDBFileInfo) → merged_file (merged_file a b) c ≡ merged_file a (merged_file b c)
+merged_file-assoc a b c =
     let u : OptionalPart → Bool = λ part. has_part a part in
     let v : OptionalPart → Bool = λ part. has_part b part in
     let w : OptionalPart → Bool = λ part. has_part c part in
     let front : flags_of (λ part. v part && not (u part)) + flags_of (λ part. w part && not (u part || v part)) ≡ flags_of (λ part. (v part || w part) && not (u part)) =
     sums_added _ _ _ (λ part. flag_regained (u part) (v part) (w part) (2 ^ bit_of part)) parts in
-    let flags : (merged (merged a b) c).metadata.file_flags ≡ (merged a (merged b c)).metadata.file_flags =
-    (λ i. a.metadata.file_flags + flags_of (λ part. v part && not (u part)) + flags_of (λ part. w part && not (has_part-merged a b part i)))
+    let flags : (merged_file (merged_file a b) c).metadata.file_flags ≡ (merged_file a (merged_file b c)).metadata.file_flags =
+    (λ i. a.metadata.file_flags + flags_of (λ part. v part && not (u part)) + flags_of (λ part. w part && not (has_part-merged_file a b part i)))
     ∙ omega (arith, front)
-    ∙ (λ i. a.metadata.file_flags + flags_of (λ part. sym (has_part-merged b c part) i && not (u part))) in
-    let rows : (part : OptionalPart) → (if w part && not (has_part (merged a b) part) then rows_of part c else rows_of part (merged a b))
-    ≡ (if has_part (merged b c) part && not (u part) then rows_of part (merged b c) else rows_of part a) =
-    λ part. (λ i. if w part && not (has_part-merged a b part i) then rows_of part c else rows_of-merged a b part i)
+    ∙ (λ i. a.metadata.file_flags + flags_of (λ part. sym (has_part-merged_file b c part) i && not (u part))) in
+    let rows : (part : OptionalPart) → (if w part && not (has_part (merged_file a b) part) then rows_of part c else rows_of part (merged_file a b))
+    ≡ (if has_part (merged_file b c) part && not (u part) then rows_of part (merged_file b c) else rows_of part a) =
+    λ part. (λ i. if w part && not (has_part-merged_file a b part i) then rows_of part c else rows_of-merged_file a b part i)
     ∙ part_regained (u part) (v part) (w part) (rows_of part a) (rows_of part b) (rows_of part c)
-    ∙ (λ i. if sym (has_part-merged b c part) i && not (u part) then sym (rows_of-merged b c part) i else rows_of part a) in
+    ∙ (λ i. if sym (has_part-merged_file b c part) i && not (u part) then sym (rows_of-merged_file b c part) i else rows_of part a) in
     λ i. with_parts (record a.metadata { file_flags = flags i }) a.segments (λ part. rows part i)
 
 -- agreement of two records with a third passes to what merging makes of them
@@ -263,18 +263,18 @@ part_agreed true false w x y z first second either third = first refl third
 part_agreed false true w x y z first second either third = second refl third
 part_agreed false false w x y z first second either third = absurd (true≢false (sym either))
 
-pub agree-merged : (a b c : MDBFileInfo) → Agree a c → Agree b c → Agree (merged a b) c
-agree-merged a b c first second = record {
+pub agree-merged_file : (a b c : MDBFileInfo) → Agree a c → Agree b c → Agree (merged_file a b) c
+agree-merged_file a b c first second = record {
   segments = first.segments;
-  parts = λ part v w. rows_of-merged a b part ∙ part_agreed (has_part a part) (has_part b part) (has_part c part) (rows_of part a) (rows_of part b) (rows_of part c)
-      (first.parts part) (second.parts part) (sym (has_part-merged a b part) ∙ v) w;
+  parts = λ part v w. rows_of-merged_file a b part ∙ part_agreed (has_part a part) (has_part b part) (has_part c part) (rows_of part a) (rows_of part b) (rows_of part c)
+      (first.parts part) (second.parts part) (sym (has_part-merged_file a b part) ∙ v) w;
 }
 
 -- merging well-formed records gives the record with the parts of both
 both_absent : (a b : MDBFileInfo) → FitsItsHeader a → FitsItsHeader b → (part : OptionalPart) → has_part a part ≡ false → has_part b part ≡ false → rows_of part a ≡ rows_of part b
 both_absent a b a_whole b_whole part v w = part_absent a a_whole part v ∙ sym (part_absent b b_whole part w)
 
-pub merged_is_joined : (a b : MDBFileInfo) → IsWellFormed a → IsWellFormed b → merged a b ≡ joined a b
+pub merged_is_joined : (a b : MDBFileInfo) → IsWellFormed a → IsWellFormed b → merged_file a b ≡ joined_file a b
 merged_is_joined a b a_formed b_formed =
     let flags = ap (λ n. n + flags_of (λ part. has_part b part && not (has_part a part))) a_formed.known_flags ∙ flags_added (has_part a) (has_part b) in
     λ i. with_parts (record a.metadata { file_flags = flags i }) a.segments
@@ -290,27 +290,27 @@ same_file_if_agree a b a_whole b_whole same_hash agree = record {
   num_entries = sym a_whole.segments ∙ ap length agree.segments ∙ b_whole.segments;
 }
 
-pub joined-comm : (a b : MDBFileInfo) → IsWellFormed a → IsWellFormed b → a.metadata.file_hash ≡ b.metadata.file_hash → Agree a b → joined a b ≡ joined b a
-joined-comm a b a_formed b_formed same_hash agree =
+pub joined_file-comm : (a b : MDBFileInfo) → IsWellFormed a → IsWellFormed b → a.metadata.file_hash ≡ b.metadata.file_hash → Agree a b → joined_file a b ≡ joined_file b a
+joined_file-comm a b a_formed b_formed same_hash agree =
     let header = same_header a.metadata b.metadata (flags_of (λ part. has_part a part || has_part b part))
     (same_file_if_agree a b a_formed.whole b_formed.whole same_hash agree) (a_formed.reserved ∙ sym b_formed.reserved)
     ∙ (λ i. record b.metadata { file_flags = flags_of (λ part. or_turned (has_part a part) (has_part b part) i) }) in
     λ i. with_parts (header i) (agree.segments i)
     (λ part. turned (has_part a part) (has_part b part) (rows_of part a) (rows_of part b) (agree.parts part) (both_absent a b a_formed.whole b_formed.whole part) i)
 
-pub joined-idem : (a : MDBFileInfo) → IsWellFormed a → joined a a ≡ a
-joined-idem a formed =
+pub joined_file-idem : (a : MDBFileInfo) → IsWellFormed a → joined_file a a ≡ a
+joined_file-idem a formed =
     let flags = (λ i. flags_of (λ part. or_itself (has_part a part) i)) ∙ sym formed.known_flags in
     (λ i. with_parts (record a.metadata { file_flags = flags i }) a.segments (λ part. itself (has_part a part) (rows_of part a) i)) ∙ with_parts-rows_of a
 
 -- the record with the parts of two well-formed records of one file is well-formed, but for the limit on rows
-pub joined_whole : (a b : MDBFileInfo) → FitsItsHeader a → FitsItsHeader b → IsSameFile a.metadata b.metadata → FitsItsHeader (joined a b)
+pub joined_whole : (a b : MDBFileInfo) → FitsItsHeader a → FitsItsHeader b → IsSameFile a.metadata b.metadata → FitsItsHeader (joined_file a b)
 joined_whole a b a_whole b_whole same = record {
   segments = a_whole.segments;
-  parts = λ part. ap length (rows_of-joined a b part)
+  parts = λ part. ap length (rows_of-joined_file a b part)
       ∙ lengths (has_part a part) (has_part b part) (rows_of part a) (rows_of part b) (size_of_part part a.metadata.num_entries) (a_whole.parts part)
       (b_whole.parts part ∙ ap (λ n. if has_part b part then size_of_part part n else 0) (sym same.num_entries))
-      ∙ ap (λ (u : Bool). if u then size_of_part part a.metadata.num_entries else 0) (sym (has_part-joined a b part));
+      ∙ ap (λ (u : Bool). if u then size_of_part part a.metadata.num_entries else 0) (sym (has_part-joined_file a b part));
 } where
   lengths : {X : Type 0} (v w : Bool) (xs ys : List X) (n : ℕ) → length xs ≡ (if v then n else 0) → length ys ≡ (if w then n else 0)
       → length (if v then xs else ys) ≡ (if v || w then n else 0)
@@ -322,17 +322,17 @@ either_part P true x y first second = first
 either_part P false x y first second = second
 
 -- a fact of each optional row of two records is one of those of their join
-pub All-joined : (P : HashRow → Type 0) (a b : MDBFileInfo) → All P (optional_rows a) → All P (optional_rows b) → All P (optional_rows (joined a b))
-All-joined P a b first second = All-parts P (λ part. rows_of part (joined a b)) (λ part. subst (All P) (sym (rows_of-joined a b part))
+pub All-joined_file : (P : HashRow → Type 0) (a b : MDBFileInfo) → All P (optional_rows a) → All P (optional_rows b) → All P (optional_rows (joined_file a b))
+All-joined_file P a b first second = All-parts P (λ part. rows_of part (joined_file a b)) (λ part. subst (All P) (sym (rows_of-joined_file a b part))
     (either_part (All P) (has_part a part) (rows_of part a) (rows_of part b) (All-part P (λ p. rows_of p a) first part) (All-part P (λ p. rows_of p b) second part)))
 
-joined_well_formed : (a b : MDBFileInfo) → IsWellFormed a → IsWellFormed b → IsSameFile a.metadata b.metadata → row_count (joined a b) ≤ 4294967295 → IsWellFormed (joined a b)
+joined_well_formed : (a b : MDBFileInfo) → IsWellFormed a → IsWellFormed b → IsSameFile a.metadata b.metadata → row_count (joined_file a b) ≤ 4294967295 → IsWellFormed (joined_file a b)
 joined_well_formed a b a_formed b_formed same few = record {
   is_file = a_formed.is_file;
   known_flags = flags_are_known (λ part. has_part a part || has_part b part);
   reserved = a_formed.reserved;
   whole = joined_whole a b a_formed.whole b_formed.whole same;
-  clear = All-joined (λ row. row._unused ≡ 0 ∷ 0 ∷ []) a b a_formed.clear b_formed.clear;
+  clear = All-joined_file (λ row. row._unused ≡ 0 ∷ 0 ∷ []) a b a_formed.clear b_formed.clear;
   rows = few;
   widths = record {
     metadata = record {
@@ -342,11 +342,11 @@ joined_well_formed a b a_formed b_formed same few = record {
       unused = a_formed.widths.metadata.unused;
     };
     segments = a_formed.widths.segments;
-    parts = All-joined FitsHashRow a b a_formed.widths.parts b_formed.widths.parts;
+    parts = All-joined_file FitsHashRow a b a_formed.widths.parts b_formed.widths.parts;
   };
 }
 
-pub merged_well_formed : (a b : MDBFileInfo) → IsWellFormed a → IsWellFormed b → IsSameFile a.metadata b.metadata → row_count (merged a b) ≤ 4294967295 → IsWellFormed (merged a b)
+pub merged_well_formed : (a b : MDBFileInfo) → IsWellFormed a → IsWellFormed b → IsSameFile a.metadata b.metadata → row_count (merged_file a b) ≤ 4294967295 → IsWellFormed (merged_file a b)
 merged_well_formed a b a_formed b_formed same few =
     let is = merged_is_joined a b a_formed b_formed in
     subst IsWellFormed (sym is) (joined_well_formed a b a_formed b_formed same (subst (λ r. row_count r ≤ 4294967295) is few))

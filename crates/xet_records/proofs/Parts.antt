@@ -17,7 +17,7 @@ use Rattle.xet_records.specs.declared.file_structs.MDBFileInfo.{MDBFileInfo}
 use Rattle.xet_records.specs.FileRow.{clear}
 use Rattle.xet_records.specs.Part.{parts, parts_before, part_rows, rows_before, optional_rows_after, rows_of, optional_rows, with_parts, part_of}
 use Rattle.xet_records.specs.FileRecord.{FitsItsHeader, as_read}
-use Rattle.xet_records.specs.View.{keeping}
+use Rattle.xet_records.specs.View.{with_parts_if}
 
 -- a fact for each part
 pub for_parts : (P : OptionalPart → Type 0) → P Verification → P MetadataExt → P AuxExt → (part : OptionalPart) → P part
@@ -196,9 +196,9 @@ pub fewer : (b : Bool) (xs : List HashRow) → length (if b then xs else []) ≤
 fewer true xs = omega arith
 fewer false xs = omega arith
 
-pub rows_of-keeping : (stays : OptionalPart → Bool) (h : FileDataSequenceHeader) (r : MDBFileInfo) (part : OptionalPart)
-    → rows_of part (keeping stays h r) ≡ (if stays part then rows_of part r else [])
-rows_of-keeping stays h r part =
+pub rows_of-with_parts_if : (stays : OptionalPart → Bool) (h : FileDataSequenceHeader) (r : MDBFileInfo) (part : OptionalPart)
+    → rows_of part (with_parts_if stays h r) ≡ (if stays part then rows_of part r else [])
+rows_of-with_parts_if stays h r part =
     rows_of-with_parts h r.segments (λ p. if stays p then rows_of p r else [])
     (λ p. holds_as_many p (rows_of p r) (if stays p then rows_of p r else []) (fewer (stays p) (rows_of p r)) (held r p)) part
 

@@ -42,8 +42,8 @@ abbrev pub has_part : MDBFileInfo → OptionalPart → Bool
 has_part r part = announces r.metadata.file_flags part
 
 -- `a` with each optional part that `b` alone has, and the flag of it
-abbrev pub merged : MDBFileInfo → MDBFileInfo → MDBFileInfo
-merged a b =
+abbrev pub merged_file : MDBFileInfo → MDBFileInfo → MDBFileInfo
+merged_file a b =
     let takes = λ (part : OptionalPart). has_part b part && not (has_part a part) in
     with_parts
     (record a.metadata { file_flags = a.metadata.file_flags + flags_of takes })
@@ -58,8 +58,8 @@ pub record Agree (a b : MDBFileInfo) : Type 0 where
 
 -- the record that has each part that `a` or `b` has; its flags announce these parts and nothing
 -- else
-abbrev pub joined : MDBFileInfo → MDBFileInfo → MDBFileInfo
-joined a b =
+abbrev pub joined_file : MDBFileInfo → MDBFileInfo → MDBFileInfo
+joined_file a b =
     with_parts
     (record a.metadata { file_flags = flags_of (λ part. has_part a part || has_part b part) })
     a.segments

@@ -96,8 +96,8 @@ module _ {H R : Type 0} (K : RecordKind H R) where
       (IsEndOfInput e × EndsInRecord bytes) ⊎ (IsBareInvalidShard e × AnnouncesTooMany bytes)
 
 -- the record under this header, with those of its parts that stay
-abbrev pub keeping : (OptionalPart → Bool) → FileDataSequenceHeader → MDBFileInfo → MDBFileInfo
-keeping stays h r = with_parts h r.segments (λ part. if stays part then rows_of part r else [])
+abbrev pub with_parts_if : (OptionalPart → Bool) → FileDataSequenceHeader → MDBFileInfo → MDBFileInfo
+with_parts_if stays h r = with_parts h r.segments (λ part. if stays part then rows_of part r else [])
 
 -- the header without verification rows: the bits of the other parts alone, and a zero reserved word
 abbrev pub header_without_verification : FileDataSequenceHeader → FileDataSequenceHeader
@@ -111,28 +111,28 @@ header_without_verification h =
 -- a record without its verification rows
 abbrev pub without_verification : MDBFileInfo → MDBFileInfo
 without_verification r =
-    keeping (all_but Verification) (header_without_verification r.metadata) r
+    with_parts_if (all_but Verification) (header_without_verification r.metadata) r
 
 -- the record that is written: verification rows are left out unless they are wanted, and all else
 -- is as it is
-abbrev pub as_wanted : Bool → MDBFileInfo → MDBFileInfo
-as_wanted wanted r =
+abbrev pub with_verification_if : Bool → MDBFileInfo → MDBFileInfo
+with_verification_if wanted r =
     if has_verification r.metadata.file_flags && not wanted then without_verification r else r
 
 -- a record without its auxiliary row: its header has bit 29 cleared, and all else is as it is
 abbrev pub without_aux : MDBFileInfo → MDBFileInfo
 without_aux r =
-    keeping (all_but AuxExt)
+    with_parts_if (all_but AuxExt)
     (record r.metadata { file_flags = with_flag AuxExt false r.metadata.file_flags })
     r
 
 -- the record, without its auxiliary row unless that is wanted
-abbrev pub aux_as_wanted : Bool → MDBFileInfo → MDBFileInfo
-aux_as_wanted wanted r = if wanted then r else without_aux r
+abbrev pub with_aux_if : Bool → MDBFileInfo → MDBFileInfo
+with_aux_if wanted r = if wanted then r else without_aux r
 
 -- the records, without their auxiliary rows unless those are wanted
-abbrev pub auxes_as_wanted : Bool → List MDBFileInfo → List MDBFileInfo
-auxes_as_wanted wanted rs = if wanted then rs else map without_aux rs
+abbrev pub all_with_aux_if : Bool → List MDBFileInfo → List MDBFileInfo
+all_with_aux_if wanted rs = if wanted then rs else map without_aux rs
 
 -- all parts are kept
 abbrev pub everything : KeptParts
@@ -140,7 +140,7 @@ everything = record { verification = true; aux_ext = true }
 
 -- the record that is written where these parts are kept
 abbrev pub as_kept : KeptParts → MDBFileInfo → MDBFileInfo
-as_kept kept r = aux_as_wanted kept.aux_ext (as_wanted kept.verification r)
+as_kept kept r = with_aux_if kept.aux_ext (with_verification_if kept.verification r)
 
 -- verification rows are wanted, and the record has none
 abbrev pub LacksVerification : Bool → MDBFileInfo → Type 0

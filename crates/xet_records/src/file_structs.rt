@@ -10,7 +10,7 @@ ghost use Rattle.std.specs.Io.KnownBytes.{Appends, Consumes};
 ghost use Rattle.xet_records.specs.FileRecord.{has_verification, has_metadata_ext, has_aux_ext, rows_after, row_count, file_record_bytes, size_of_file, FitsItsHeader, IsStored, as_read, file_records};
 ghost use Rattle.xet_records.specs.Part.{rows_of};
 ghost use Rattle.xet_records.specs.Steps.FileRecord.{HasAnnounced};
-ghost use Rattle.xet_records.specs.Merging.{IsSameFile, has_part, merged};
+ghost use Rattle.xet_records.specs.Merging.{IsSameFile, has_part, merged_file};
 ghost use Rattle.xet_records.specs.Reading.{ReadsOrEnds, ReadsRowsAfter, IsTruncatedRecord, HasRefusedHeader};
 ghost use Rattle.xet_base.specs.Table.{IsBareInvalidShard};
 ghost use Rattle.xet_base.specs.Errors.{IsEndOfInput, IsDeviceError, IsWriteError, IsInvalidShard};
@@ -156,7 +156,7 @@ impl MDBFileInfo {
     #[tactic(auto, using(crate::proofs::Parts::either_row))]
     pub fn merge_from(&mut self, alloc: Global, other: &Self) -> Result<()>
         requires { IsSameFile self.old.metadata other.now.metadata }
-        ensures ok { OnOk result (self.new ≡ merged self.old other.now) }
+        ensures ok { OnOk result (self.new ≡ merged_file self.old other.now) }
         ensures err { OnErr result (self.new ≡ self.old) }
         ensures causes { IfErr result (λ e. (e ≡ CoreError.OutOfMemory)
             × IsTrue (has_verification other.now.metadata.file_flags)

@@ -3,7 +3,7 @@ use Rattle.std.specs.Prelude.{◌≡◌, ℕ, ◌+◌, ◌<◌, ◌≤◌, List,
 use Rattle.std.specs.declared.io.Error.{Error}
 use Rattle.std.specs.declared.result.Result.{Result}
 use Rattle.xet_base.specs.declared.interpolation_search.table_range.TableRange.{TableRange}
-use Rattle.xet_base.specs.Source.{Source, advanced, moved}
+use Rattle.xet_base.specs.Source.{Source, after_read, after_seek}
 use Rattle.xet_base.specs.Table.{Table, row_offset, key_at, HasKey, hits_below, Finds, ActsAsReadFull}
 use Rattle.xet_base.specs.Steps.Table.{TableFailure}
 
@@ -16,7 +16,7 @@ table_in range bytes =
 pub record ReadsKey (t : Table) (i : ℕ) (old new : Source) (found : ℕ) : Type 0 where
   pub there : HasKey t i
   pub is_key : found ≡ key_at t i
-  pub after : new ≡ advanced (moved old (row_offset t i)) 8
+  pub after : new ≡ after_read (after_seek old (row_offset t i)) 8
 
 -- each value is read from `width` bytes, by a function with this result
 abbrev pub ReadsValues : {R V : Type 0} → ℕ → (R → Source) → (R → Result V Error → R → Type 0)
@@ -40,7 +40,7 @@ pub record IsRow (t : Table) (key i : ℕ) : Type 0 where
 
 -- the value was stored behind the first `count` results where there was room, and the results were
 -- left where not
-pub record Kept {V : Type 0} (old new : List V) (count : ℕ) (value : V) (count_new : ℕ)
+pub record KeepsValue {V : Type 0} (old new : List V) (count : ℕ) (value : V) (count_new : ℕ)
     : Type 0 where
   pub room : count < length old → (new ≡ set old count value) × (count_new ≡ count + 1)
   pub full : length old ≤ count → (new ≡ old) × (count_new ≡ count)

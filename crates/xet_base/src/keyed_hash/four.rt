@@ -1,7 +1,7 @@
 //! Four keyed hashes at once: each word of a state is a vector, with one lane for each hash.
 
 ghost use Rattle.std.specs.Prelude.{◌≡◌, ℕ, ◌<◌, [], ◌∷◌, map, slice_index, slice_index_or};
-ghost use Rattle.xet_base.specs.KeyedHash.{mix_columns, mix_diagonals, permuted, state_after, initial_state, message_of, keyed_bytes};
+ghost use Rattle.xet_base.specs.KeyedHash.{mix_columns, mix_diagonals, next_message, state_after, initial_state, message_of, keyed_bytes};
 ghost use Rattle.xet_base.specs.Steps.Lanes.{lane};
 
 pub(super) mod chunks;
@@ -178,9 +178,9 @@ fn mix_diagonals(states: Lanes, m: &Lanes) -> Lanes
 
 // The messages for the next round.
 #[inline(always)]
-#[tactic(auto, unfolding(crate::specs::KeyedHash::permuted))]
+#[tactic(auto, unfolding(crate::specs::KeyedHash::next_message))]
 fn permuted(m: &Lanes) -> Lanes
-    ensures { (j : ℕ) → j < 4 → lane j result ≡ permuted (lane j m.now) }
+    ensures { (j : ℕ) → j < 4 → lane j result ≡ next_message (lane j m.now) }
 {
     [
         m[2], m[6], m[3], m[10], m[7], m[0], m[4], m[13], m[1], m[11], m[12], m[5], m[9], m[14],

@@ -15,7 +15,7 @@ use Rattle.xet_records.specs.Part.{rows_of}
 use Rattle.xet_records.specs.RecordKind.{RecordKind}
 use Rattle.xet_records.specs.FileRecord.{file_records}
 use Rattle.xet_records.specs.XorbRecord.{xorb_records}
-use Rattle.xet_records.proofs.Merging.{announces-flags_of, rows_of-joined}
+use Rattle.xet_records.proofs.Merging.{announces-flags_of, rows_of-joined_file}
 use Rattle.xet_shards.specs.declared.shard_format.ends.info.MDBShardInfo.{MDBShardInfo}
 use Rattle.xet_shards.specs.Content.SetOperations.{ShardsAgree}
 use Rattle.xet_shards.specs.Ends.Ends.{HasHeaderAndFooter}
@@ -26,7 +26,7 @@ use Rattle.xet_core_structures.specs.declared.set_operations.trees.parts.Part.{P
 use Rattle.xet_core_structures.specs.declared.set_operations.trees.parts.PlacedShard.{PlacedShard}
 use Rattle.xet_core_structures.specs.declared.set_operations.trees.placed.PlacedRecord.{PlacedRecord}
 use Rattle.xet_core_structures.specs.Agreement.Agreement.{HoldsAt, AgreeAt, HoldShards, InputsAgree}
-use Rattle.xet_core_structures.specs.Records.ByteUnion.{mixed, IsUnitedFile, IsEitherFile, IsEitherXorb, IsByteUnion}
+use Rattle.xet_core_structures.specs.Records.ByteUnion.{mixed_file, IsUnitedFile, IsEitherFile, IsEitherXorb, IsByteUnion}
 use Rattle.xet_core_structures.specs.Records.RecordPairs.{Combines}
 use Rattle.xet_core_structures.specs.Records.ShardContents.{HasShard}
 use Rattle.xet_core_structures.specs.TwoShards.ByteResults.{keyed_info, key_of, UnitesBytes}
@@ -42,7 +42,7 @@ use Rattle.xet_core_structures.proofs.Records.Equalities.{announces_more, agrees
 use Rattle.xet_core_structures.proofs.Records.ListMaps.{get-list_map, shard_of, lists_hold}
 use Rattle.xet_core_structures.proofs.Records.ShardContents.{only_shard}
 use Rattle.xet_core_structures.proofs.Trees.TreeXorbs.{shard_under}
-use Rattle.xet_core_structures.proofs.TwoShards.Mixing.{rows_of-mixed}
+use Rattle.xet_core_structures.proofs.TwoShards.Mixing.{rows_of-mixed_file}
 
 -- what is made of two records is known to be made of records that agree
 module _ {H R : Type 0} (K : RecordKind H R) (agree : R → R → Type 0) (makes : Option R → Option R → Option R → Type 0) (g h : PlacedRecord H) where
@@ -60,11 +60,11 @@ turned a b agree = record { segments = sym agree.segments; parts = λ part has a
 
 -- the union of two files that agree covers both
 module _ (a b c : MDBFileInfo) (agree : Agree a b) where
-  has_mixed : (part : OptionalPart) → has_part (mixed a b) part ≡ (has_part a part || has_part b part)
+  has_mixed : (part : OptionalPart) → has_part (mixed_file a b) part ≡ (has_part a part || has_part b part)
   has_mixed part = announces-flags_of (λ p. has_part a p || has_part b p) part
 
-  rows_mixed : (part : OptionalPart) → rows_of part (mixed a b) ≡ (if has_part a part then rows_of part a else rows_of part b)
-  rows_mixed part = rows_of-mixed a b part ∙ rows_of-joined a b part
+  rows_mixed : (part : OptionalPart) → rows_of part (mixed_file a b) ≡ (if has_part a part then rows_of part a else rows_of part b)
+  rows_mixed part = rows_of-mixed_file a b part ∙ rows_of-joined_file a b part
 
   covers_first : IsUnitedFile a b c → Covers Agree c a
   covers_first (inl (more, is)) t agrees = subst (λ r. Agree r t) is agrees

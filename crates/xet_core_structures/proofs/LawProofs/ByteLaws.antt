@@ -11,7 +11,7 @@ use Rattle.xet_records.specs.declared.xorb_structs.MDBXorbInfo.{MDBXorbInfo}
 use Rattle.xet_records.specs.declared.file_structs.part.OptionalPart.{OptionalPart}
 use Rattle.xet_records.specs.Part.{flags_of, rows_of, with_parts}
 use Rattle.xet_records.proofs.Parts.{with_parts-rows_of}
-use Rattle.xet_records.specs.Merging.{has_part, merged}
+use Rattle.xet_records.specs.Merging.{has_part, merged_file}
 use Rattle.xet_shards.specs.Content.Joining.{either_file}
 use Rattle.xet_shards.specs.Content.SetOperations.{IsUnion, IsDifference, ShardsAgree}
 use Rattle.xet_shards.specs.Content.Shard.{Shard, IsShard, empty_shard}
@@ -104,7 +104,7 @@ nothing_more false w more = refl
 nothing_more true true more = refl
 nothing_more true false more = absurd (true≢false (sym (more refl)))
 
-merged_kept : (r s : MDBFileInfo) → ((part : OptionalPart) → (has_part s part && not (has_part r part)) ≡ false) → merged r s ≡ r
+merged_kept : (r s : MDBFileInfo) → ((part : OptionalPart) → (has_part s part && not (has_part r part)) ≡ false) → merged_file r s ≡ r
 merged_kept r s none =
     let flags : r.metadata.file_flags + flags_of (λ part. has_part s part && not (has_part r part)) ≡ r.metadata.file_flags =
     (λ i. r.metadata.file_flags + flags_of (λ part. none part i)) ∙ omega arith in

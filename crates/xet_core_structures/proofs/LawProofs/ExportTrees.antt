@@ -22,7 +22,7 @@ use Rattle.xet_records.specs.declared.file_structs.rows.FileDataSequenceEntry.{F
 use Rattle.xet_records.specs.declared.file_structs.MDBFileInfo.{MDBFileInfo}
 use Rattle.xet_records.specs.declared.xorb_structs.MDBXorbInfo.{MDBXorbInfo}
 use Rattle.xet_records.specs.FileRecord.{file_records, file_records_in}
-use Rattle.xet_records.specs.View.{auxes_as_wanted}
+use Rattle.xet_records.specs.View.{all_with_aux_if}
 use Rattle.xet_records.specs.XorbRecord.{xorb_records}
 use Rattle.xet_records.proofs.RecordKinds.{xorb_laws, version_known}
 use Rattle.xet_shards.specs.declared.shard_format.ends.footer.MDBShardFileFooter.{MDBShardFileFooter}
@@ -32,7 +32,7 @@ use Rattle.xet_shards.specs.ShardInMemory.ChunkQuery.{run_at, run_length}
 use Rattle.xet_shards.specs.Write.Layout.{if_included, layout_of, header_value, shard_header_bytes, shard_footer_bytes, offsets_of, sums_of, footer_value, plain_options_in, layout_in as layout_in_version}
 use Rattle.xet_shards.specs.Write.WrittenShard.{HasFilesIn, IsBytesOf}
 use Rattle.xet_shards.specs.Content.Joins.{IsJoinOf, AgreePairwise}
-use Rattle.xet_shards.specs.Export.KeyedExport.{exported, Exports, ExportsWith, export_options, xorbs_after, keyed_chunk, keyed_xorb, keyed_xorbs}
+use Rattle.xet_shards.specs.Export.KeyedExport.{exported_bytes, Exports, ExportsWith, export_options, xorbs_after, keyed_chunk, keyed_xorb, keyed_xorbs}
 use Rattle.xet_shards.specs.Content.KeyedShards.{keyed_shard}
 use Rattle.xet_shards.specs.Write.Section.{section_bytes, total_rows}
 use Rattle.xet_shards.specs.Read.SectionReading.{IsSection}
@@ -110,7 +110,7 @@ module _ (key : DataHash) (inputs : List (List ℕ)) (plan : MergePlan) (shards 
   pub tree_of_exports : (out : List ℕ) → TreeWrites inputs plan out → out ≡ keyed_layout (keyed_shard key join) key
   tree_of_exports out writes = (keyed_tree inputs key plan (map (keyed_shard key) shards) (keyed_shard key join) out held writes).0
 
-  pub export_of_join : (out : List ℕ) → TreeWrites inputs plan out → out ≡ exported (values join.files) (values join.xorbs) (export_options key 0 18446744073709551615 true true true)
+  pub export_of_join : (out : List ℕ) → TreeWrites inputs plan out → out ≡ exported_bytes (values join.files) (values join.xorbs) (export_options key 0 18446744073709551615 true true true)
   export_of_join out writes = tree_of_exports out writes ∙ sym (exported_is join (keyed_options key) refl)
 
   pub exports_refused : (e : CoreError) → TreeRefusal inputs plan e → MergeRefused join e
@@ -120,7 +120,7 @@ module _ (key : DataHash) (inputs : List (List ℕ)) (plan : MergePlan) (shards 
   ]
 
 -- an export of a shard is the layout of the shard under the key, without files where they are not asked for
-exported_in : (s : Shard) (options : LayoutOptions) → exported (values s.files) (values s.xorbs) options ≡ layout_of (if_included options.file_table (values s.files)) (values (keyed_shard options.key s).xorbs) options
+exported_in : (s : Shard) (options : LayoutOptions) → exported_bytes (values s.files) (values s.xorbs) options ≡ layout_of (if_included options.file_table (values s.files)) (values (keyed_shard options.key s).xorbs) options
 exported_in s options = λ i. layout_of (if_included options.file_table (values s.files)) (sym (values-keyed options.key s) i) options
 
 -- what an export of the shard's bytes writes, in whichever version they are, with auxiliary rows or without
@@ -147,8 +147,8 @@ module _ (aux : Bool) (s : Shard) (options : LayoutOptions) (old new : Source) (
       only_list xorb_records xorb_laws (drop (48 + length (section_bytes file_records (values s.files))) (layout_in_version is.version s is.expiry)) exports.xorbs (values s.xorbs)
       (subst (λ bytes. IsSection xorb_records bytes exports.xorbs) (λ i. drop (after_files i) (is.bytes_are i)) exports.xorb_section) (xorb_section_of_shard is.version s is.expiry is.shard)
 
-  pub export_of_bytes : Appends before after (exported (auxes_as_wanted aux (values s.files)) (values s.xorbs) options)
-  export_of_bytes = subst (Appends before after) (λ i. exported (auxes_as_wanted aux (files_read i)) (xorbs_read i) options) exports.written
+  pub export_of_bytes : Appends before after (exported_bytes (all_with_aux_if aux (values s.files)) (values s.xorbs) options)
+  export_of_bytes = subst (Appends before after) (λ i. exported_bytes (all_with_aux_if aux (files_read i)) (xorbs_read i) options) exports.written
 
 pub export_written : (s : Shard) (options : LayoutOptions) (old new : Source) (before after : Option (List ℕ)) (n : ℕ) → IsBytesOf s (bytes_left old)
     → Exports options old new before after n → Appends before after (layout_of (if_included options.file_table (values s.files)) (values (keyed_shard options.key s).xorbs) options)
@@ -245,7 +245,7 @@ module _ (files : List MDBFileInfo) (xorbs : List MDBXorbInfo) (key : DataHash) 
   after_timestamps = rest_of (export_footer 0 0)
 
   pub split_at_timestamps : (now valid : ℕ)
-      → exported files xorbs (full_form now valid) ≡ before_timestamps ++ u64_bytes now ++ u64_bytes (now + valid) ++ after_timestamps
+      → exported_bytes files xorbs (full_form now valid) ≡ before_timestamps ++ u64_bytes now ++ u64_bytes (now + valid) ++ after_timestamps
   unfolding layout_of shard_footer_bytes
   split_at_timestamps now valid =
       let f = export_footer now valid in

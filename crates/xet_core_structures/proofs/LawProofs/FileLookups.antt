@@ -27,7 +27,7 @@ use Rattle.xet_shards.proofs.Lookup.MapAnswers.{map_answers}
 use Rattle.xet_shards.proofs.Lookup.ShardLookups.{lookup_written, bounds_ever}
 use Rattle.xet_shards.proofs.Lookup.TableLookups.{IsLookedUp, answered, not_answered, lookup_bounded, collision_bounded}
 use Rattle.xet_shards.proofs.Write.TableOrder.{hashes_ascend}
-use Rattle.xet_shards.proofs.Ends.Widths.{fits_in_form}
+use Rattle.xet_shards.proofs.Ends.Widths.{fits_with_options}
 use Rattle.xet_core_structures.specs.declared.set_operations.MergePlan.{MergePlan}
 use Rattle.xet_core_structures.specs.declared.set_operations.MergePlan.TheVariants.{Leaf, Both'}
 use Rattle.xet_core_structures.specs.Records.ByteUnion.{IsByteUnion}
@@ -93,17 +93,17 @@ module _ (x : List ℕ) (i : MDBShardInfo) (y : List ℕ) (j : MDBShardInfo) (ol
     appends,
   )
 
-  pub union_in_form : WritesResult IsByteUnion x i y j old new info → WritesReadable IsByteUnion x i y j old new info
-  union_in_form = with_options IsByteUnion (union_readable x i y j)
+  pub union_with_options : WritesResult IsByteUnion x i y j old new info → WritesReadable IsByteUnion x i y j old new info
+  union_with_options = with_options IsByteUnion (union_readable x i y j)
 
-  pub difference_in_form : WritesResult IsDifference x i y j old new info → WritesReadable IsDifference x i y j old new info
-  difference_in_form = with_options IsDifference (difference_readable x i y j)
+  pub difference_with_options : WritesResult IsDifference x i y j old new info → WritesReadable IsDifference x i y j old new info
+  difference_with_options = with_options IsDifference (difference_readable x i y j)
 
 -- what is written of a readable shard under the key of an input
 pub under_key_of : (x : List ℕ) (i : MDBShardInfo) (c : Shard) → HasHeaderAndFooter x i → IsReadable c → IsBytesUnderKey (key_of i) c (keyed_layout c (key_of i)) (keyed_info c (key_of i))
 under_key_of x i c x_ends readable =
     written_under (key_of i) c readable
-    (fits_in_form (values c.files) (values c.xorbs) (keyed_options (key_of i)) readable.files.fits readable.xorbs.fits x_ends.footer_widths.key (omega arith) (omega arith))
+    (fits_with_options (values c.files) (values c.xorbs) (keyed_options (key_of i)) readable.files.fits readable.xorbs.fits x_ends.footer_widths.key (omega arith) (omega arith))
 
 -- what a union or a difference of bytes writes
 pub union_under : (x : List ℕ) (i : MDBShardInfo) (y : List ℕ) (j : MDBShardInfo) (c : Shard) → HasHeaderAndFooter x i → HaveResult IsByteUnion x i y j c

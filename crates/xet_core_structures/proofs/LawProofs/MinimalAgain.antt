@@ -22,8 +22,8 @@ use Rattle.xet_records.specs.Part.{announces, all_but}
 use Rattle.xet_records.specs.XorbRow.{FitsChunk}
 use Rattle.xet_records.specs.XorbRecord.{xorb_records, IsStoredXorb}
 use Rattle.xet_records.specs.declared.file_structs.view.KeptParts.{KeptParts}
-use Rattle.xet_records.specs.View.{as_wanted, without_verification, aux_as_wanted, as_kept}
-use Rattle.xet_records.proofs.KeptParts.{keeping-whole, without_aux-stored}
+use Rattle.xet_records.specs.View.{with_verification_if, without_verification, with_aux_if, as_kept}
+use Rattle.xet_records.proofs.KeptParts.{with_parts_if-whole, without_aux-stored}
 use Rattle.xet_records.proofs.Merging.{announces-flags_of}
 use Rattle.xet_records.proofs.RecordKinds.{xorb_laws, version_known}
 use Rattle.xet_shards.specs.declared.streaming_shard.file_start.FileStart.{FileStart}
@@ -37,7 +37,7 @@ use Rattle.xet_shards.specs.Read.SectionReading.{IsSection}
 use Rattle.xet_shards.proofs.Write.Layouts.{length-shard_header_bytes}
 use Rattle.xet_shards.proofs.StreamingShard.MinimalLaws.{subset_again, written_again}
 use Rattle.xet_shards.proofs.StreamingShard.MinimalReading.{reads_fit, none_fit, kept_fit}
-use Rattle.xet_shards.proofs.StreamingShard.MinimalWriting.{marked_whole, as_wanted-fits, rows_as_kept, rows_kept}
+use Rattle.xet_shards.proofs.StreamingShard.MinimalWriting.{marked_whole, with_verification_if-fits, rows_as_kept, rows_kept}
 use Rattle.xet_shards.proofs.Read.Readback.{after_section, after_xorbs, layout_from_48}
 use Rattle.xet_shards.proofs.Write.Sections.{section_there, files_laws, fits_ever, section_bytes_in}
 use Rattle.xet_shards.proofs.Read.SectionUnique.{only_list}
@@ -102,10 +102,10 @@ read_fits with_files with_xorbs old new m (mid, header, sections) = record {
     xorbs_too false at xorbs none = subst (FitsSection xorb_records) (sym none.1) (none_fit xorb_records)
 
 -- without verification rows a record is stored as before
-file_as_wanted : (wanted : Bool) (r : MDBFileInfo) → IsStored r → IsStored (as_wanted wanted r)
+file_as_wanted : (wanted : Bool) (r : MDBFileInfo) → IsStored r → IsStored (with_verification_if wanted r)
 file_as_wanted wanted r stored =
     let leaves_out = has_verification r.metadata.file_flags && not wanted in
-    record { is_file = still_file leaves_out; whole = still_whole leaves_out; widths = as_wanted-fits wanted r stored.widths }
+    record { is_file = still_file leaves_out; whole = still_whole leaves_out; widths = with_verification_if-fits wanted r stored.widths }
   where
     still_file : (b : Bool) → (if b then without_verification r else r).metadata.file_hash ≢ all_ones
     still_file true = stored.is_file
@@ -113,16 +113,16 @@ file_as_wanted wanted r stored =
 
     still_whole : (b : Bool) → FitsItsHeader (if b then without_verification r else r)
     still_whole true =
-        keeping-whole (all_but Verification) (without_verification r).metadata r stored.whole refl
+        with_parts_if-whole (all_but Verification) (without_verification r).metadata r stored.whole refl
         (announces-flags_of (λ part. all_but Verification part && announces r.metadata.file_flags part))
     still_whole false = stored.whole
 
 file_as_kept : (kept : KeptParts) (r : MDBFileInfo) → IsStored r → IsStored (as_kept kept r)
 file_as_kept kept r stored = either kept.aux_ext
   where
-    either : (b : Bool) → IsStored (aux_as_wanted b (as_wanted kept.verification r))
+    either : (b : Bool) → IsStored (with_aux_if b (with_verification_if kept.verification r))
     either true = file_as_wanted kept.verification r stored
-    either false = without_aux-stored (as_wanted kept.verification r) (file_as_wanted kept.verification r stored)
+    either false = without_aux-stored (with_verification_if kept.verification r) (file_as_wanted kept.verification r stored)
 
 files_as_kept : (kept : KeptParts) (files : List MDBFileInfo) → FitsSection file_records files → FitsSection file_records (map (as_kept kept) files)
 files_as_kept kept files fits = record {

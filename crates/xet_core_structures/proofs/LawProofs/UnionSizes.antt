@@ -34,7 +34,7 @@ use Rattle.xet_shards.proofs.Write.XorbLayouts.{length-with_options, length-chun
 use Rattle.xet_core_structures.specs.declared.set_operations.MergePlan.{MergePlan}
 use Rattle.xet_core_structures.specs.declared.set_operations.MergePlan.TheVariants.{Leaf, Both'}
 use Rattle.xet_core_structures.specs.TwoShards.ByteResults.{keyed_options, keyed_info, keyed_layout, key_of, HaveResult, UnitesBytes}
-use Rattle.xet_core_structures.specs.Records.ByteUnion.{mixed, IsUnitedFile, IsEitherFile, IsEitherXorb, IsByteUnion}
+use Rattle.xet_core_structures.specs.Records.ByteUnion.{mixed_file, IsUnitedFile, IsEitherFile, IsEitherXorb, IsByteUnion}
 use Rattle.xet_core_structures.specs.Records.ShardContents.{IsSectionOf, HasShard}
 use Rattle.xet_core_structures.specs.Trees.MergeTrees.{leaves, HasUnion, TreeWrites}
 use Rattle.xet_core_structures.specs.TwoShards.Readable.{IsBytesUnderKey}
@@ -52,16 +52,16 @@ one_row : (b : Bool) (x y : Option HashRow) → length (option_to_list (slice_ge
 one_row true x y = omega (arith, ap (λ o. length (option_to_list o)) (either_row true x y))
 one_row false x y = omega (arith, ap (λ o. length (option_to_list o)) (either_row false x y))
 
-part_rows_of_mix : (a b : MDBFileInfo) (part : OptionalPart) → length (rows_of part (mixed a b)) ≤ length (rows_of part a) + length (rows_of part b)
+part_rows_of_mix : (a b : MDBFileInfo) (part : OptionalPart) → length (rows_of part (mixed_file a b)) ≤ length (rows_of part a) + length (rows_of part b)
 part_rows_of_mix a b =
-    for_parts (λ p. length (rows_of p (mixed a b)) ≤ length (rows_of p a) + length (rows_of p b))
+    for_parts (λ p. length (rows_of p (mixed_file a b)) ≤ length (rows_of p a) + length (rows_of p b))
     (length-either _ a.verification b.verification) (one_row _ a.metadata_ext b.metadata_ext) (one_row _ a.aux_ext b.aux_ext)
 
 united_rows : (a b c : MDBFileInfo) → IsUnitedFile a b c → row_count c ≤ row_count a + row_count b
 united_rows a b c (inl (includes, is)) = omega (arith, ap row_count is)
 united_rows a b c (inr (inl (less, includes, is))) = omega (arith, ap row_count is)
 united_rows a b c (inr (inr (less, neither, counts, is))) =
-    omega (arith, ap row_count is, rows_of_both (λ p. rows_of p (mixed a b)) (λ p. rows_of p a) (λ p. rows_of p b) (part_rows_of_mix a b) parts)
+    omega (arith, ap row_count is, rows_of_both (λ p. rows_of p (mixed_file a b)) (λ p. rows_of p a) (λ p. rows_of p b) (part_rows_of_mix a b) parts)
 
 -- so has the record of each hash
 either_rows : (o p r : Option MDBFileInfo) (v : MDBFileInfo) → IsEitherFile o p r → r ≡ Some v → row_count v ≤ counted row_count o + counted row_count p

@@ -14,9 +14,9 @@ use Rattle.xet_records.specs.declared.record_reader.FormatVersion.{FormatVersion
 use Rattle.xet_records.specs.declared.file_structs.part.OptionalPart.{OptionalPart}
 use Rattle.xet_records.specs.FileRecord.{file_records_in}
 use Rattle.xet_records.specs.Part.{bit_of, flags_of, rows_of, with_parts}
-use Rattle.xet_records.specs.Merging.{IncludesBits, has_part, Agree, joined}
+use Rattle.xet_records.specs.Merging.{IncludesBits, has_part, Agree, joined_file}
 use Rattle.xet_records.proofs.Parts.{with_parts-rows_of}
-use Rattle.xet_records.proofs.Merging.{bit_within, part_absent, joined-comm, same_file_if_agree, merged_is_joined}
+use Rattle.xet_records.proofs.Merging.{bit_within, part_absent, joined_file-comm, same_file_if_agree, merged_is_joined}
 use Rattle.xet_shards.specs.declared.shard_format.ends.info.MDBShardInfo.{MDBShardInfo}
 use Rattle.xet_shards.specs.Ends.Ends.{HasHeaderAndFooter}
 use Rattle.xet_shards.specs.Content.Joining.{either_file}
@@ -30,13 +30,13 @@ use Rattle.xet_shards.proofs.Ends.EndsUnique.{only_info, ends_of_layout, not_uns
 use Rattle.xet_shards.proofs.Content.Overlays.{union_unique}
 use Rattle.xet_shards.proofs.Write.Sections.{files_fit, files_fit_in, xorbs_fit}
 use Rattle.xet_shards.proofs.Content.Unions.{IsKnown, known, same_either}
-use Rattle.xet_shards.proofs.Ends.Widths.{fits_in_form}
-use Rattle.xet_core_structures.specs.Records.ByteUnion.{mixed, IsUnitedFile, IsEitherFile, IsByteUnion}
+use Rattle.xet_shards.proofs.Ends.Widths.{fits_with_options}
+use Rattle.xet_core_structures.specs.Records.ByteUnion.{mixed_file, IsUnitedFile, IsEitherFile, IsByteUnion}
 use Rattle.xet_core_structures.specs.TwoShards.ByteResults.{keyed_options, keyed_layout, key_of, HaveNoUnion, UnionRefusal, UnitesBytes, LoadRefusal, BytesRefusal}
 use Rattle.xet_core_structures.specs.Trees.ExportTrees.{FitsOptions}
 use Rattle.xet_core_structures.specs.Records.ShardContents.{HoldsShard}
 use Rattle.xet_core_structures.specs.Trees.MergeTrees.{MergeRefused}
-use Rattle.xet_core_structures.proofs.Records.ShardContents.{only_shard, held_whole, held_well, holds_in_form}
+use Rattle.xet_core_structures.proofs.Records.ShardContents.{only_shard, held_whole, held_well, holds_with_options}
 
 -- whether one set of bits includes another is decided
 bit_is : (x : ℕ) → x < 2 → (x ≡ 0) ⊎ (x ≡ 1)
@@ -94,8 +94,8 @@ part_more false true x y more none = absurd (true≢false (sym (more refl)))
 part_more false false x y more none = sym (none refl refl)
 
 module _ (q : DataHash) (a b : MDBFileInfo) (one : IsKnown q a) (other : IsKnown q b) where
-  joined-more : IncludesBits a.metadata.file_flags b.metadata.file_flags → joined a b ≡ a
-  joined-more all =
+  joined_file-more : IncludesBits a.metadata.file_flags b.metadata.file_flags → joined_file a b ≡ a
+  joined_file-more all =
       let more : (part : OptionalPart) → has_part b part ≡ true → has_part a part ≡ true =
       λ part. bit_kept a.metadata.file_flags b.metadata.file_flags (bit_of part) (bit_within part) all in
       let flags = (λ i. flags_of (λ part. or_more (has_part a part) (has_part b part) (more part) i)) ∙ sym one.well_formed.known_flags in
@@ -104,23 +104,23 @@ module _ (q : DataHash) (a b : MDBFileInfo) (one : IsKnown q a) (other : IsKnown
       (λ n k. part_absent a one.well_formed.whole part n ∙ sym (part_absent b other.well_formed.whole part k)) i))
       ∙ with_parts-rows_of a
 
-  mixed_is_joined : mixed a b ≡ joined a b
-  mixed_is_joined = λ i. record (joined a b) { metadata = record (joined a b).metadata { _unused = sym one.well_formed.reserved i } }
+  mixed_is_joined : mixed_file a b ≡ joined_file a b
+  mixed_is_joined = λ i. record (joined_file a b) { metadata = record (joined_file a b).metadata { _unused = sym one.well_formed.reserved i } }
 
 module _ (q : DataHash) (a b : MDBFileInfo) (one : IsKnown q a) (other : IsKnown q b) (agree : Agree a b) where
-  joined-less : IncludesBits b.metadata.file_flags a.metadata.file_flags → joined a b ≡ b
-  joined-less all = joined-comm a b one.well_formed other.well_formed (sym one.keyed ∙ other.keyed) agree ∙ joined-more q b a other one all
+  joined_file-less : IncludesBits b.metadata.file_flags a.metadata.file_flags → joined_file a b ≡ b
+  joined_file-less all = joined_file-comm a b one.well_formed other.well_formed (sym one.keyed ∙ other.keyed) agree ∙ joined_file-more q b a other one all
 
-  united_is_joined : (c : MDBFileInfo) → IsUnitedFile a b c → c ≡ joined a b
-  united_is_joined c (inl (all, is)) = is ∙ sym (joined-more q a b one other all)
-  united_is_joined c (inr (inl (lacks, all, is))) = is ∙ sym (joined-less all)
+  united_is_joined : (c : MDBFileInfo) → IsUnitedFile a b c → c ≡ joined_file a b
+  united_is_joined c (inl (all, is)) = is ∙ sym (joined_file-more q a b one other all)
+  united_is_joined c (inr (inl (lacks, all, is))) = is ∙ sym (joined_file-less all)
   united_is_joined c (inr (inr (lacks, wants, counts, is))) = is ∙ mixed_is_joined q a b one other
 
-  joined_is_united : IsUnitedFile a b (joined a b)
+  joined_is_united : IsUnitedFile a b (joined_file a b)
   joined_is_united = elim (included a.metadata.file_flags b.metadata.file_flags) [
-    | inl all ↦ inl (all, joined-more q a b one other all)
+    | inl all ↦ inl (all, joined_file-more q a b one other all)
     | inr lacks ↦ elim (included b.metadata.file_flags a.metadata.file_flags) [
-      | inl all ↦ inr (inl (lacks, all, joined-less all))
+      | inl all ↦ inr (inl (lacks, all, joined_file-less all))
       | inr wants ↦ inr (inr (
         lacks,
         wants,
@@ -148,7 +148,7 @@ module _ (q : DataHash) where
   is_either (Some x) (Some y) first second agree =
       let own = first x refl in
       let others = second y refl in
-      (joined x y, ap Some (merged_is_joined x y own.well_formed others.well_formed), joined_is_united q x y own others (agree x y refl refl))
+      (joined_file x y, ap Some (merged_is_joined x y own.well_formed others.well_formed), joined_is_united q x y own others (agree x y refl refl))
 
 module _ (a b c : Shard) (first : IsShard a) (second : IsShard b) (agree : ShardsAgree a b) where
   byte_union_is_union : IsByteUnion a b c → IsUnion a b c
@@ -172,14 +172,14 @@ abbrev info_in : Shard → LayoutOptions → MDBShardInfo
 info_in s options = info_of (values s.files) (values s.xorbs) options
 
 module _ (s : Shard) (options : LayoutOptions) (shard : IsShard s) (fits : FitsOptions options) where
-  ends_in_form : HasHeaderAndFooter (layout_in s options) (info_in s options)
-  ends_in_form =
+  ends_with_options : HasHeaderAndFooter (layout_in s options) (info_in s options)
+  ends_with_options =
       ends_of_layout (values s.files) (values s.xorbs) options
-      (fits_in_form (values s.files) (values s.xorbs) options (files_fit s shard) (xorbs_fit s shard) fits.key fits.creation fits.expiry)
+      (fits_with_options (values s.files) (values s.xorbs) options (files_fit s shard) (xorbs_fit s shard) fits.key fits.creation fits.expiry)
 
   -- the bytes of a shard with layout options hold it, under the options' key
-  pub held_in_form : FitsSection (file_records_in options.version) (values s.files) → HoldsShard options.key s (layout_in s options)
-  held_in_form files = record { shard = shard; has = record { info = info_in s options; ends = ends_in_form; holds = holds_in_form s options shard files }; under = refl }
+  pub held_with_options : FitsSection (file_records_in options.version) (values s.files) → HoldsShard options.key s (layout_in s options)
+  held_with_options files = record { shard = shard; has = record { info = info_in s options; ends = ends_with_options; holds = holds_with_options s options shard files }; under = refl }
 
 module _ (key : DataHash) (s : Shard) (bytes : List ℕ) (held : HoldsShard key s bytes) where
   -- they have no other header and footer
@@ -209,7 +209,7 @@ module _ (a b c : Shard) (key : DataHash) (x y : List ℕ) (one : HoldsShard key
       let found = union_found out unites in
       let shard = union_is_shard a b c one.shard other.shard agree union found.1 in
       let fits : FitsOptions (keyed_options key) = record { key = fits_key key a x one; creation = omega arith; expiry = omega arith } in
-      (found.0, subst (HoldsShard key c) (sym found.0) (held_in_form c (keyed_options key) shard fits (files_fit c shard)))
+      (found.0, subst (HoldsShard key c) (sym found.0) (held_with_options c (keyed_options key) shard fits (files_fit c shard)))
 
   no_union : RowsFitU32 c → ¬ HaveNoUnion x one.has.info y other.has.info
   no_union few (inl files) = files.none a.files b.files c.files one.has.holds.files other.has.holds.files (union_is_byte_union a b c one.shard other.shard agree union).files few.files
@@ -232,7 +232,7 @@ module _ (a b c : Shard) (key : DataHash) (x y : List ℕ) (one : HoldsShard key
 
 -- the bytes of a shard hold it, with any layout options whose version has its files
 pub form_held : (s : Shard) (options : LayoutOptions) → IsShard s → HasFilesIn options.version s → FitsOptions options → HoldsShard options.key s (layout_in s options)
-form_held s options shard has fits = held_in_form s options shard fits (files_fit_in options.version s shard has)
+form_held s options shard has fits = held_with_options s options shard fits (files_fit_in options.version s shard has)
 
 -- those that are written without options hold it without a key
 expiry_fits : (expiry : Option ℕ) → IfSome expiry (λ e. e < 2 ^ 64) → (plain_options expiry).expiry < 2 ^ 64

@@ -119,8 +119,8 @@ same_xorbs [] = refl
 same_xorbs (x ∷ xs) = ap (λ ys. x ∷ ys) (same_xorbs xs)
 
 module _ (s : Shard) (options : LayoutOptions) (shard : IsShard s) (fits : FitsSection (file_records_in options.version) (values s.files)) where
-  pub holds_in_form : Holds (layout_of (values s.files) (values s.xorbs) options) (info_of (values s.files) (values s.xorbs) options) s
-  holds_in_form = record {
+  pub holds_with_options : Holds (layout_of (values s.files) (values s.xorbs) options) (info_of (values s.files) (values s.xorbs) options) s
+  holds_with_options = record {
     files = subst (λ v. IsSectionOf (file_records_in v) (files_at (layout_of (values s.files) (values s.xorbs) options) (info_of (values s.files) (values s.xorbs) options)) s.files) (sym (version_known options.version)) (record {
       stored = values s.files;
       section = file_section_in (values s.files) (values s.xorbs) options fits;

@@ -7,7 +7,7 @@ use Rattle.xet_records.specs.FileRecord.{file_records, file_rows_bytes, as_read,
 use Rattle.xet_records.specs.Merging.{IncludesBits, mixed_header}
 use Rattle.xet_records.proofs.RecordKinds.{file_laws}
 use Rattle.xet_core_structures.specs.declared.set_operations.trees.placed.PlacedRecord.{PlacedRecord}
-use Rattle.xet_core_structures.specs.Records.ByteUnion.{mixed, IsEitherFile}
+use Rattle.xet_core_structures.specs.Records.ByteUnion.{mixed_file, IsEitherFile}
 use Rattle.xet_core_structures.specs.Steps.Placed.{MakesPlaced}
 use Rattle.xet_core_structures.specs.Steps.Placed.{Places}
 use Rattle.xet_core_structures.specs.Steps.MergeJoin.{IsRecordHeader}
@@ -33,27 +33,27 @@ module _ (g h : PlacedRecord FileDataSequenceHeader) where
   module _ (hash : g.header.file_hash ≡ h.header.file_hash) where
     -- the rows of a mix of both, after its header
     pub mix_placed : g.header.num_entries ≡ h.header.num_entries → (p : PlacedRecord FileDataSequenceHeader) → p.header ≡ mixed_header g.header h.header → (r s : MDBFileInfo)
-        → Places file_records g r → Places file_records h s → p.rows.now ≡ file_rows_bytes (mixed r s) → Places file_records p (mixed r s)
+        → Places file_records g r → Places file_records h s → p.rows.now ≡ file_rows_bytes (mixed_file r s) → Places file_records p (mixed_file r s)
     mix_placed count p header r s one other rows =
         let same_count : r.metadata.num_entries ≡ s.metadata.num_entries = ap (λ (k : FileDataSequenceHeader). k.num_entries) (sym (header_1 r one)) ∙ count ∙ ap (λ (k : FileDataSequenceHeader). k.num_entries) (header_2 s other) in
         let mix = mixed_readable g.header.file_hash r s (readable g g.header.file_hash r refl one) (readable h g.header.file_hash s hash other) same_count in
-        let header_is : (mixed r s).metadata ≡ p.header = (λ i. mixed_header (sym (header_1 r one) i) (sym (header_2 s other) i)) ∙ sym header in
+        let header_is : (mixed_file r s).metadata ≡ p.header = (λ i. mixed_header (sym (header_1 r one) i) (sym (header_2 s other) i)) ∙ sym header in
         record {
-          header = subst (IsRecordHeader file_records) header_is (record { is_record = file_laws.is_record (mixed r s) mix.stored; fits = file_laws.header_fits (mixed r s) mix.stored });
+          header = subst (IsRecordHeader file_records) header_is (record { is_record = file_laws.is_record (mixed_file r s) mix.stored; fits = file_laws.header_fits (mixed_file r s) mix.stored });
           rows = record {
-            stored = mixed r s;
+            stored = mixed_file r s;
             same_header = header_is;
             is_stored = λ is_record fits. mix.stored;
-            size = file_laws.size_after (mixed r s) mix.stored ∙ ap (λ k. 48 * rows_after k) header_is;
-            taken = ([], rows ∙ sym (append-nil (file_rows_bytes (mixed r s))));
+            size = file_laws.size_after (mixed_file r s) mix.stored ∙ ap (λ k. 48 * rows_after k) header_is;
+            taken = ([], rows ∙ sym (append-nil (file_rows_bytes (mixed_file r s))));
             returned = mix.unchanged;
           };
         }
 
   pub mix_made : (¬ IncludesBits g.header.file_flags h.header.file_flags) × (¬ IncludesBits h.header.file_flags g.header.file_flags) → g.header.num_entries ≡ h.header.num_entries
       → (p : PlacedRecord FileDataSequenceHeader) → p.header ≡ mixed_header g.header h.header
-      → ((r s : MDBFileInfo) → Places file_records g r → Places file_records h s → Places file_records p (mixed r s)) → MakesPlaced file_records IsEitherFile g h p
+      → ((r s : MDBFileInfo) → Places file_records g r → Places file_records h s → Places file_records p (mixed_file r s)) → MakesPlaced file_records IsEitherFile g h p
   mix_made neither count p header mixes = (
     ap (λ (k : FileDataSequenceHeader). k.file_hash) header,
-    λ r s one other. (mixed r s, mixes r s one other, makes_mix g.header h.header neither.0 neither.1 r s (header_1 r one) (header_2 s other) count),
+    λ r s one other. (mixed_file r s, mixes r s one other, makes_mix g.header h.header neither.0 neither.1 r s (header_1 r one) (header_2 s other) count),
   )

@@ -2,7 +2,7 @@
 use Rattle.std.proofs.Common.{◌≡◌, inl, inr, ℕ, List, drop, sym, ap, ◌∙◌, subst, arith}
 use Rattle.xet_base.specs.declared.error.CoreError.{CoreError}
 use Rattle.xet_base.specs.declared.source.MemorySource.{MemorySource}
-use Rattle.xet_base.specs.Source.{Source, FailedBy, moved, bytes_left}
+use Rattle.xet_base.specs.Source.{Source, FailedBy, after_seek, bytes_left}
 use Rattle.xet_records.specs.declared.file_structs.header.FileDataSequenceHeader.{FileDataSequenceHeader}
 use Rattle.xet_records.specs.declared.xorb_structs.XorbChunkSequenceHeader.{XorbChunkSequenceHeader}
 use Rattle.xet_records.specs.declared.record_reader.FormatVersion.TheVariants.{V3}
@@ -28,17 +28,17 @@ use Rattle.xet_core_structures.proofs.Trees.Parts.{xorbs_refused}
 use Rattle.xet_core_structures.proofs.TwoShards.Results.{section_serves}
 
 module _ (bytes : List ℕ) (info : MDBShardInfo) (start there mid : MemorySource) (files : List (PlacedRecord FileDataSequenceHeader)) (start_is : (in_memory start).bytes ≡ bytes)
-    (there_is : in_memory there ≡ moved (in_memory start) info.metadata.file_info_offset) (taken : ReadsPlaced file_records (version_of info.header.version) (in_memory there) (in_memory mid) files) where
+    (there_is : in_memory there ≡ after_seek (in_memory start) info.metadata.file_info_offset) (taken : ReadsPlaced file_records (version_of info.header.version) (in_memory there) (in_memory mid) files) where
   read : ReadsSection (files_of info) (in_memory start) (in_memory mid) info.metadata.file_info_offset taken.0
   read = subst (λ s. StreamsSection (files_of info) s (in_memory mid) taken.0) there_is taken.1
 
   mid_bytes : (in_memory mid).bytes ≡ bytes
-  mid_bytes = (section_serves (files_of info) (moved (in_memory start) info.metadata.file_info_offset) (in_memory mid) taken.0 read).bytes ∙ start_is
+  mid_bytes = (section_serves (files_of info) (after_seek (in_memory start) info.metadata.file_info_offset) (in_memory mid) taken.0 read).bytes ∙ start_is
 
   has_files : HasFiles bytes info
   has_files = (read.stored, subst (λ b. IsSection (files_of info) (files_at b info) read.stored) start_is read.section, stored_ascend file_records file_laws read.stored taken.0 read.returned taken.2)
 
-  module _ (there_2 new : MemorySource) (there_2_is : in_memory there_2 ≡ moved (in_memory mid) info.metadata.xorb_info_offset) where
+  module _ (there_2 new : MemorySource) (there_2_is : in_memory there_2 ≡ after_seek (in_memory mid) info.metadata.xorb_info_offset) where
     left_is : bytes_left (in_memory there_2) ≡ xorbs_at bytes info
     left_is = ap (λ (s : Source). bytes_left s) there_2_is ∙ ap (drop info.metadata.xorb_info_offset) mid_bytes
 

@@ -24,7 +24,7 @@ use Rattle.xet_core_structures.specs.Records.Ranges.{IsPartOf, is_within}
 use Rattle.xet_core_structures.specs.Records.ShardContents.{HoldsShard, IsTruncated, IsMalformed}
 use Rattle.xet_core_structures.specs.Trees.MergeTrees.{leaves, InputIs, MergeRefused}
 use Rattle.xet_core_structures.specs.Trees.RangeTrees.{IsRangeOf, ReadRefusal, RangeWrites, RangeRefusal, IsRangeMerge, IsHeldLayout}
-use Rattle.xet_core_structures.proofs.Records.ByteUnions.{held_in_form, info_found, loads_well, fits_key}
+use Rattle.xet_core_structures.proofs.Records.ByteUnions.{held_with_options, info_found, loads_well, fits_key}
 use Rattle.xet_core_structures.proofs.Records.ShardContents.{only_shard, held_whole, held_well}
 use Rattle.xet_core_structures.proofs.Records.Within.{part_is_shard, one_part, part_of, part_of_is, part_of-preserves}
 use Rattle.xet_core_structures.proofs.Records.Zipped.{zipped_parts, zipped_with}
@@ -53,7 +53,7 @@ module _ (range : HashRange) (inputs : List (List ℕ)) (key : DataHash) where
       let out_is : out ≡ keyed_layout t key = is.bytes_are ∙ (λ k. keyed_layout (part_is k) (key_of (info_is k))) ∙ ap (keyed_layout t) held.under in
       let shard = part_is_shard (is_within range) s t part held.shard in
       let fits : FitsOptions (keyed_options key) = record { key = fits_key key s x held; creation = omega arith; expiry = omega arith } in
-      (subst (HoldsShard key t) (sym out_is) (held_in_form t (keyed_options key) shard fits (files_fit t shard)), out_is)
+      (subst (HoldsShard key t) (sym out_is) (held_with_options t (keyed_options key) shard fits (files_fit t shard)), out_is)
 
   part_shard : (t : Shard) (x : List ℕ) → HoldsWhole t x → IsShard t
   part_shard t x (s, held, part) = part_is_shard (is_within range) s t part held.shard

@@ -26,11 +26,11 @@ use Rattle.xet_records.specs.FileRecord.{file_records, file_record_bytes, file_r
 use Rattle.xet_records.specs.Rows.{ReadsRows}
 use Rattle.xet_records.proofs.Reading.{length-read}
 use Rattle.xet_records.proofs.Parts.{these_rows, these_counted, rows_of-counted, rows_bytes}
-use Rattle.xet_records.proofs.Merging.{rows_of-joined}
+use Rattle.xet_records.proofs.Merging.{rows_of-joined_file}
 use Rattle.xet_records.proofs.RecordKinds.{file_laws, parts_read}
 use Rattle.xet_shards.specs.declared.shard_format.write.written.WrittenFiles.{WrittenFiles}
 use Rattle.xet_shards.specs.Write.Written.{IsFileOf, HasWritten}
-use Rattle.xet_core_structures.specs.Records.ByteUnion.{mixed}
+use Rattle.xet_core_structures.specs.Records.ByteUnion.{mixed_file}
 use Rattle.xet_core_structures.specs.Steps.MixedFiles.{WritesMix, WritesMixRows, WritesEither, EitherFails}
 use Rattle.xet_core_structures.specs.Steps.MixedFiles.EitherFails.{output_fails as either_output_fails, first_fails as either_first_fails, second_fails as either_second_fails}
 use Rattle.xet_core_structures.specs.Steps.MergeJoin.{IsRecordHeader, PairFails}
@@ -118,7 +118,7 @@ module _ (g h : FileDataSequenceHeader) (old_1 a_1 new_1 old_2 a_2 new_2 : Sourc
       λ count part. (λ i. if announces g.file_flags part then rows_of-counted g ss firsts len_1 part i else rows_of-counted h ts seconds len_2 part i)
       ∙ rows_chosen (announces g.file_flags part) (announces h.file_flags part) (size_of_part part g.num_entries) (part_rows part g) (part_rows part h) (firsts part) (seconds part) refl
       (ap (λ n. if announces h.file_flags part then size_of_part part n else 0) (sym count)) (len_1 part) (len_2 part) in
-      let all : g.num_entries ≡ h.num_entries → optional_rows (mixed one two) ≡ flat_map chosen parts = λ count. λ i. flat_map (λ part. (rows_of-joined one two part ∙ each count part) i) parts in
+      let all : g.num_entries ≡ h.num_entries → optional_rows (mixed_file one two) ≡ flat_map chosen parts = λ count. λ i. flat_map (λ part. (rows_of-joined_file one two part ∙ each count part) i) parts in
       record {
         one = one;
         other = two;
@@ -142,7 +142,7 @@ module _ (g h : FileDataSequenceHeader) (old new : Sources) (start w0 w1 : Optio
   mix_written size rows total v w first second hash count counted fits front mixes adds =
       let one_is = header_of_found file_records file_laws _ g mixes.one mixes.reads_first in
       let two_is = header_of_found file_records file_laws _ h mixes.other mixes.reads_second in
-      let row_total : row_count (mixed mixes.one mixes.other) ≡ 1 + rows_after (mixed_header g h) =
+      let row_total : row_count (mixed_file mixes.one mixes.other) ≡ 1 + rows_after (mixed_header g h) =
       rows_of_mix g h mixes.one mixes.other one_is two_is (record_of file_records file_laws g old.first new.first mixes.one mixes.reads_first first).2
       (record_of file_records file_laws h old.second new.second mixes.other mixes.reads_second second).2 hash count in
       record {
@@ -151,7 +151,7 @@ module _ (g h : FileDataSequenceHeader) (old new : Sources) (start w0 w1 : Optio
         reads_first = mixes.reads_first;
         reads_second = mixes.reads_second;
         few = omega (arith, fits, counted, row_total);
-        bytes = subst (λ k. Appends start w1 (header_row k ++ file_rows_bytes (mixed mixes.one mixes.other))) (λ i. mixed_header (sym one_is i) (sym two_is i))
+        bytes = subst (λ k. Appends start w1 (header_row k ++ file_rows_bytes (mixed_file mixes.one mixes.other))) (λ i. mixed_header (sym one_is i) (sym two_is i))
             (Appends-trans start w0 w1 _ _ front (mixes.rows count));
-        written = λ before have. adds before (mixed mixes.one mixes.other) have (record { word = ap (λ (k : FileDataSequenceHeader). k.file_hash.word0) one_is; rows = row_total ∙ sym counted; bytes = mixes.size });
+        written = λ before have. adds before (mixed_file mixes.one mixes.other) have (record { word = ap (λ (k : FileDataSequenceHeader). k.file_hash.word0) one_is; rows = row_total ∙ sym counted; bytes = mixes.size });
       }

@@ -18,10 +18,10 @@ use Rattle.xet_records.specs.declared.file_structs.rows.HashRow.{HashRow}
 use Rattle.xet_records.specs.FileRow.{FitsHashRow}
 use Rattle.xet_records.specs.Part.{rows_of}
 use Rattle.xet_records.specs.FileRecord.{row_count, rows_after, IsStored}
-use Rattle.xet_records.specs.Merging.{has_part, joined, mixed_header}
-use Rattle.xet_records.proofs.Merging.{joined_whole, flags_fit, All-joined}
+use Rattle.xet_records.specs.Merging.{has_part, joined_file, mixed_header}
+use Rattle.xet_records.proofs.Merging.{joined_whole, flags_fit, All-joined_file}
 use Rattle.xet_records.proofs.Parts.{for_parts}
-use Rattle.xet_core_structures.specs.Records.ByteUnion.{mixed}
+use Rattle.xet_core_structures.specs.Records.ByteUnion.{mixed_file}
 use Rattle.xet_core_structures.specs.Steps.MixedFiles.{WritesEither, EitherFails}
 use Rattle.xet_core_structures.specs.Steps.MixedFiles.EitherFails.{output_fails, first_fails, second_fails}
 use Rattle.xet_core_structures.specs.TwoShards.Streams.{streams}
@@ -29,15 +29,15 @@ use Rattle.xet_core_structures.specs.Steps.Streams.{sources}
 use Rattle.xet_core_structures.proofs.TwoShards.OneSection.{serves_same, taken_serves}
 
 -- a mix has the parts of a join
-pub rows_of-mixed : (a b : MDBFileInfo) (part : OptionalPart) → rows_of part (mixed a b) ≡ rows_of part (joined a b)
-rows_of-mixed a b part = for_parts (λ p. rows_of p (mixed a b) ≡ rows_of p (joined a b)) refl refl refl part
+pub rows_of-mixed_file : (a b : MDBFileInfo) (part : OptionalPart) → rows_of part (mixed_file a b) ≡ rows_of part (joined_file a b)
+rows_of-mixed_file a b part = for_parts (λ p. rows_of p (mixed_file a b) ≡ rows_of p (joined_file a b)) refl refl refl part
 
-pub mixed_stored : (a b : MDBFileInfo) → IsStored a → IsStored b → a.metadata.file_hash ≡ b.metadata.file_hash → a.metadata.num_entries ≡ b.metadata.num_entries → IsStored (mixed a b)
+pub mixed_stored : (a b : MDBFileInfo) → IsStored a → IsStored b → a.metadata.file_hash ≡ b.metadata.file_hash → a.metadata.num_entries ≡ b.metadata.num_entries → IsStored (mixed_file a b)
 mixed_stored a b one other hash counts =
     let whole = joined_whole a b one.whole other.whole (record { file_hash = hash; num_entries = counts }) in
     record {
       is_file = one.is_file;
-      whole = record { segments = whole.segments; parts = λ part. ap length (rows_of-mixed a b part) ∙ whole.parts part };
+      whole = record { segments = whole.segments; parts = λ part. ap length (rows_of-mixed_file a b part) ∙ whole.parts part };
       widths = record {
         metadata = record {
           file_hash = one.widths.metadata.file_hash;
@@ -46,7 +46,7 @@ mixed_stored a b one other hash counts =
           unused = omega arith;
         };
         segments = one.widths.segments;
-        parts = All-joined FitsHashRow a b one.widths.parts other.widths.parts;
+        parts = All-joined_file FitsHashRow a b one.widths.parts other.widths.parts;
       };
     }
 
@@ -58,14 +58,14 @@ module _ (g h : FileDataSequenceHeader) (a b : MDBFileInfo) (a_is : a.metadata �
   same_count : a.metadata.num_entries ≡ b.metadata.num_entries
   same_count = ap (λ (k : FileDataSequenceHeader). k.num_entries) a_is ∙ count ∙ sym (ap (λ (k : FileDataSequenceHeader). k.num_entries) b_is)
 
-  pub is_stored : IsStored (mixed a b)
+  pub is_stored : IsStored (mixed_file a b)
   is_stored = mixed_stored a b one other same_hash same_count
 
-  header_is : (mixed a b).metadata ≡ mixed_header g h
+  header_is : (mixed_file a b).metadata ≡ mixed_header g h
   header_is = λ i. mixed_header (a_is i) (b_is i)
 
-  pub rows_of_mix : row_count (mixed a b) ≡ 1 + rows_after (mixed_header g h)
-  rows_of_mix = file_laws.rows (mixed a b) is_stored ∙ ap (λ k. 1 + rows_after k) header_is
+  pub rows_of_mix : row_count (mixed_file a b) ≡ 1 + rows_after (mixed_header g h)
+  rows_of_mix = file_laws.rows (mixed_file a b) is_stored ∙ ap (λ k. 1 + rows_after k) header_is
 
 not_zero : (n : ℕ) → n ≢ 0 → (n == 0) ≡ false
 not_zero zero some = absurd (some refl)

@@ -21,7 +21,7 @@ use Rattle.xet_records.specs.declared.file_structs.rows.HashRow.{HashRow}
 use Rattle.xet_records.specs.FileRow.{clear}
 use Rattle.xet_records.specs.Part.{rows_of, with_parts}
 use Rattle.xet_records.proofs.Parts.{rows_of-returned, with_parts-rows_of}
-use Rattle.xet_records.proofs.Merging.{rows_of-joined}
+use Rattle.xet_records.proofs.Merging.{rows_of-joined_file}
 use Rattle.xet_records.specs.FileRecord.{file_records, as_read}
 use Rattle.xet_records.specs.XorbRecord.{xorb_records, IsXorb}
 use Rattle.xet_records.specs.Merging.{has_part}
@@ -33,12 +33,12 @@ use Rattle.xet_shards.specs.Write.Tables.{hash_in}
 use Rattle.xet_shards.proofs.ShardInMemory.FileUnions.{entry-holds}
 use Rattle.xet_shards.proofs.ShardInMemory.Sums.{all_of_map}
 use Rattle.xet_core_structures.specs.TwoShards.ByteResults.{HaveResult}
-use Rattle.xet_core_structures.specs.Records.ByteUnion.{mixed, IsUnitedFile, IsEitherFile, IsEitherXorb, IsByteUnion}
+use Rattle.xet_core_structures.specs.Records.ByteUnion.{mixed_file, IsUnitedFile, IsEitherFile, IsEitherXorb, IsByteUnion}
 use Rattle.xet_core_structures.specs.Steps.RecordPairs.{IsRest}
 use Rattle.xet_core_structures.specs.Records.ShardContents.{IsSectionOf}
 use Rattle.xet_core_structures.specs.TwoShards.Readable.{AreReadable}
 use Rattle.xet_core_structures.proofs.Records.RecordsAsRead.{all_handed}
-use Rattle.xet_core_structures.proofs.TwoShards.Mixing.{mixed_stored, rows_of-mixed}
+use Rattle.xet_core_structures.proofs.TwoShards.Mixing.{mixed_stored, rows_of-mixed_file}
 
 -- reading returns again what it returned
 cleared_twice : (rows : List HashRow) → map clear (map clear rows) ≡ map clear rows
@@ -113,12 +113,12 @@ pub readable_ever : {H R : Type 0} (K : RecordKind H R) (version : FormatVersion
 readable_ever K version q r is = record { keyed = is.keyed; stored = stored_ever K version r is.stored; unchanged = is.unchanged }
 
 -- a mix of two files has rows of either
-pub mixed_readable : (q : DataHash) (a b : MDBFileInfo) → IsReadableAs file_records q a → IsReadableAs file_records q b → a.metadata.num_entries ≡ b.metadata.num_entries → IsReadableAs file_records q (mixed a b)
+pub mixed_readable : (q : DataHash) (a b : MDBFileInfo) → IsReadableAs file_records q a → IsReadableAs file_records q b → a.metadata.num_entries ≡ b.metadata.num_entries → IsReadableAs file_records q (mixed_file a b)
 mixed_readable q a b one other counts =
     record {
       keyed = one.keyed;
       stored = mixed_stored a b one.stored other.stored (sym one.keyed ∙ other.keyed) counts;
-      unchanged = unchanged_if (mixed a b) (λ part. subst (λ rows. map clear rows ≡ rows) (sym (rows_of-mixed a b part ∙ rows_of-joined a b part))
+      unchanged = unchanged_if (mixed_file a b) (λ part. subst (λ rows. map clear rows ≡ rows) (sym (rows_of-mixed_file a b part ∙ rows_of-joined_file a b part))
           (either_part (has_part a part) (rows_of part a) (rows_of part b) (rows_unchanged a one.unchanged part) (rows_unchanged b other.unchanged part)));
     } where
       either_part : (v : Bool) (xs ys : List HashRow) → map clear xs ≡ xs → map clear ys ≡ ys → map clear (if v then xs else ys) ≡ (if v then xs else ys)

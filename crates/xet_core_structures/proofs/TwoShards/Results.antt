@@ -33,7 +33,7 @@ use Rattle.xet_core_structures.specs.Steps.MergeJoin.{SectionRefusal, CannotComb
 use Rattle.xet_core_structures.specs.Steps.MergeJoin.SectionsFail.{output_fails, first_fails, second_fails, refused}
 use Rattle.xet_core_structures.specs.Steps.Streams.{sources}
 use Rattle.xet_core_structures.proofs.Records.ListMaps.{values-list_map, combined_maps, shard_of, lists_hold}
-use Rattle.xet_core_structures.proofs.LawProofs.FileLookups.{union_in_form, difference_in_form}
+use Rattle.xet_core_structures.proofs.LawProofs.FileLookups.{union_with_options, difference_with_options}
 use Rattle.xet_core_structures.proofs.TwoShards.Refusals.{no_union, always_rest}
 
 -- at most one record is made of two
@@ -167,7 +167,7 @@ module _ (x : List ℕ) (i : MDBShardInfo) (y : List ℕ) (j : MDBShardInfo) (on
 pub union_laws : OperationLaws IsByteUnion IsEitherFile IsEitherXorb UnionRefusal
 union_laws = record {
   written = λ x i y j one other result old new info have made written. union_written x i y j one other have result old new info made written;
-  with_options = union_in_form;
+  with_options = union_with_options;
   not_read = not_read;
   no_files = λ x i y j e same invalid none. inr (same, inr (invalid, inl (no_union file_records file_laws (version_of i.header.version) (version_of j.header.version) IsEitherFile files_unique (files_at x i) (files_at y j) none)));
   no_xorbs = λ x i y j e same invalid none. inr (same, inr (invalid, inr (no_union xorb_records xorb_laws V3 V3 IsEitherXorb xorbs_unique (xorbs_at x i) (xorbs_at y j) none)));
@@ -176,7 +176,7 @@ union_laws = record {
 pub difference_laws : OperationLaws IsDifference IsRest IsRest DifferenceRefusal
 difference_laws = record {
   written = λ x i y j one other result old new info have made written. difference_written x i y j one other have result old new info made written;
-  with_options = difference_in_form;
+  with_options = difference_with_options;
   not_read = λ x i y j e refusal. refusal;
   no_files = λ x i y j e same invalid none. absurd (always_rest file_records file_laws (version_of i.header.version) (version_of j.header.version) (files_at x i) (files_at y j) none);
   no_xorbs = λ x i y j e same invalid none. absurd (always_rest xorb_records xorb_laws V3 V3 (xorbs_at x i) (xorbs_at y j) none);

@@ -4,7 +4,7 @@ use Rattle.std.specs.Prelude.{IfOk, IfErr}
 use Rattle.std.specs.declared.result.Result.{Result}
 use Rattle.std.specs.Io.KnownBytes.{Appends}
 use Rattle.xet_base.specs.declared.error.CoreError.{CoreError}
-use Rattle.xet_base.specs.Source.{Source, DeviceFailure, moved}
+use Rattle.xet_base.specs.Source.{Source, DeviceFailure, after_seek}
 use Rattle.xet_base.specs.Table.{NoFailure}
 use Rattle.xet_records.specs.declared.file_structs.MDBFileInfo.{MDBFileInfo}
 use Rattle.xet_records.specs.declared.xorb_structs.MDBXorbInfo.{MDBXorbInfo}
@@ -64,16 +64,16 @@ module _ (IsResult : Shard → Shard → Shard → Type 0) (Refusal : List ℕ �
   operation_failed failure e same is = not_operated IsResult Fails i j old new e (failed_by _ failure e same is.written) is.sources
 
 -- what holds of a source after a seek holds without it
-unmoved : (one new : Source) (at : ℕ) → NoFailure (moved one at) new → NoFailure one new
+unmoved : (one new : Source) (at : ℕ) → NoFailure (after_seek one at) new → NoFailure one new
 unmoved one new at no_failure = record { bytes = no_failure.bytes; failures = no_failure.failures; last_failure = no_failure.last_failure }
 
 -- a source was not moved to its section
 module _ {H R : Type 0} (K : RecordKind H R) (v w : FormatVersion) (makes : Option R → Option R → Option R → Type 0) (one two new : Source) (at_1 at_2 : ℕ) (e : CoreError) where
-  pub first_not_moved : new.bytes ≡ one.bytes → DeviceFailure one new e → SectionsFail K v w makes (sources (moved one at_1) (moved two at_2)) (sources new two) (Input e)
+  pub first_not_moved : new.bytes ≡ one.bytes → DeviceFailure one new e → SectionsFail K v w makes (sources (after_seek one at_1) (after_seek two at_2)) (sources new two) (Input e)
   first_not_moved bytes failed = first_fails e refl (record { bytes = bytes; cause = inl failed }) (record { bytes = refl; failures = refl; last_failure = refl })
 
-  pub second_not_moved : (there : Source) → there ≡ moved one at_1 → new.bytes ≡ two.bytes → DeviceFailure two new e → SectionsFail K v w makes (sources (moved one at_1) (moved two at_2)) (sources there new) (Input e)
-  second_not_moved there is bytes failed = second_fails e refl (record { bytes = bytes; cause = inl failed }) (serves_same (moved one at_1) there is)
+  pub second_not_moved : (there : Source) → there ≡ after_seek one at_1 → new.bytes ≡ two.bytes → DeviceFailure two new e → SectionsFail K v w makes (sources (after_seek one at_1) (after_seek two at_2)) (sources there new) (Input e)
+  second_not_moved there is bytes failed = second_fails e refl (record { bytes = bytes; cause = inl failed }) (serves_same (after_seek one at_1) there is)
 
 module _ (old_1 old_2 : Source) (i j : MDBShardInfo) (same : key_of i ≡ key_of j) (IsResult : Shard → Shard → Shard → Type 0)
     (IsFile : Option MDBFileInfo → Option MDBFileInfo → Option MDBFileInfo → Type 0) (IsXorb : Option MDBXorbInfo → Option MDBXorbInfo → Option MDBXorbInfo → Type 0)
@@ -82,13 +82,13 @@ module _ (old_1 old_2 : Source) (i j : MDBShardInfo) (same : key_of i ≡ key_of
   Cause = Refusal old_1.bytes i old_2.bytes j
 
   pub files_failed : (new_1 new_2 : Source) (start end : Option (List ℕ)) (failure : CopyFailure)
-      → SectionsFail file_records (version_of i.header.version) (version_of j.header.version) IsFile (sources (moved old_1 i.metadata.file_info_offset) (moved old_2 j.metadata.file_info_offset)) (sources new_1 new_2) failure
+      → SectionsFail file_records (version_of i.header.version) (version_of j.header.version) IsFile (sources (after_seek old_1 i.metadata.file_info_offset) (after_seek old_2 j.metadata.file_info_offset)) (sources new_1 new_2) failure
       → OperatesOn IsResult Refusal i j (streams old_1 old_2 start) (streams new_1 new_2 end) (Err failure)
   files_failed new_1 new_2 start end failure fails =
       let v = version_of i.header.version in
       let w = version_of j.header.version in
-      let at_1 = moved old_1 i.metadata.file_info_offset in
-      let at_2 = moved old_2 j.metadata.file_info_offset in
+      let at_1 = after_seek old_1 i.metadata.file_info_offset in
+      let at_2 = after_seek old_2 j.metadata.file_info_offset in
       not_operated IsResult _ i j _ _ failure
       (sections_failed file_records v w IsFile at_1 new_1 at_2 new_2 old_1 old_2 Cause refl refl
       (λ e refusal. laws.not_read old_1.bytes i old_2.bytes j e (inr (same, files_of_first old_1.bytes i old_2.bytes j e refusal)))
@@ -97,16 +97,16 @@ module _ (old_1 old_2 : Source) (i j : MDBShardInfo) (same : key_of i ≡ key_of
       (sections_kept file_records v w IsFile at_1 new_1 at_2 new_2 failure fails)
 
   module _ (mid_1 mid_2 : Source) (files : WrittenFiles) (after_header after_files : Option (List ℕ))
-      (combined : WritesCombined file_records (version_of i.header.version) (version_of j.header.version) IsFile (streams (moved old_1 i.metadata.file_info_offset) (moved old_2 j.metadata.file_info_offset) after_header)
+      (combined : WritesCombined file_records (version_of i.header.version) (version_of j.header.version) IsFile (streams (after_seek old_1 i.metadata.file_info_offset) (after_seek old_2 j.metadata.file_info_offset) after_header)
       (streams mid_1 mid_2 after_files) (HasWritten files)) where
     served_1 : NoFailure old_1 mid_1
-    served_1 = unmoved old_1 mid_1 i.metadata.file_info_offset (section_serves (files_of i) (moved old_1 i.metadata.file_info_offset) mid_1 combined.firsts combined.first)
+    served_1 = unmoved old_1 mid_1 i.metadata.file_info_offset (section_serves (files_of i) (after_seek old_1 i.metadata.file_info_offset) mid_1 combined.firsts combined.first)
 
     served_2 : NoFailure old_2 mid_2
-    served_2 = unmoved old_2 mid_2 j.metadata.file_info_offset (section_serves (files_of j) (moved old_2 j.metadata.file_info_offset) mid_2 combined.seconds combined.second)
+    served_2 = unmoved old_2 mid_2 j.metadata.file_info_offset (section_serves (files_of j) (after_seek old_2 j.metadata.file_info_offset) mid_2 combined.seconds combined.second)
 
     -- the file sections that were read
-    files_read : (version : FormatVersion) (old new : Source) (at : ℕ) (found : List MDBFileInfo) → StreamsSection (file_records_in version) (moved old at) new found → Ascends file_records found
+    files_read : (version : FormatVersion) (old new : Source) (at : ℕ) (found : List MDBFileInfo) → StreamsSection (file_records_in version) (after_seek old at) new found → Ascends file_records found
         → (files : List MDBFileInfo) × IsSection (file_records_in version) (drop at old.bytes) files × Ascends file_records files
     files_read version old new at found read ascends = (read.stored, read.section, stored_ascend file_records file_laws read.stored found read.returned ascends)
 
@@ -117,11 +117,11 @@ module _ (old_1 old_2 : Source) (i j : MDBShardInfo) (same : key_of i ≡ key_of
     files_2 = files_read (version_of j.header.version) old_2 mid_2 j.metadata.file_info_offset combined.seconds combined.second combined.second_ascends
 
     pub xorbs_failed : (new_1 new_2 : Source) (start end : Option (List ℕ)) (failure : CopyFailure)
-        → SectionsFail xorb_records V3 V3 IsXorb (sources (moved mid_1 i.metadata.xorb_info_offset) (moved mid_2 j.metadata.xorb_info_offset)) (sources new_1 new_2) failure
+        → SectionsFail xorb_records V3 V3 IsXorb (sources (after_seek mid_1 i.metadata.xorb_info_offset) (after_seek mid_2 j.metadata.xorb_info_offset)) (sources new_1 new_2) failure
         → OperatesOn IsResult Refusal i j (streams old_1 old_2 start) (streams new_1 new_2 end) (Err failure)
     xorbs_failed new_1 new_2 start end failure fails =
-        let at_1 = moved mid_1 i.metadata.xorb_info_offset in
-        let at_2 = moved mid_2 j.metadata.xorb_info_offset in
+        let at_1 = after_seek mid_1 i.metadata.xorb_info_offset in
+        let at_2 = after_seek mid_2 j.metadata.xorb_info_offset in
         let kept = sections_kept xorb_records V3 V3 IsXorb at_1 new_1 at_2 new_2 failure fails in
         not_operated IsResult _ i j _ _ failure
         (sections_failed xorb_records V3 V3 IsXorb at_1 new_1 at_2 new_2 old_1 old_2 Cause served_1.failures served_2.failures
@@ -132,7 +132,7 @@ module _ (old_1 old_2 : Source) (i j : MDBShardInfo) (same : key_of i ≡ key_of
         (kept.0 ∙ served_1.bytes, kept.1 ∙ served_2.bytes)
 
     module _ (new_1 new_2 : Source) (xorbs : WrittenXorbs) (after_xorbs : Option (List ℕ))
-        (further : WritesCombined xorb_records V3 V3 IsXorb (streams (moved mid_1 i.metadata.xorb_info_offset) (moved mid_2 j.metadata.xorb_info_offset) after_files) (streams new_1 new_2 after_xorbs) (HasWrittenXorbs xorbs)) where
+        (further : WritesCombined xorb_records V3 V3 IsXorb (streams (after_seek mid_1 i.metadata.xorb_info_offset) (after_seek mid_2 j.metadata.xorb_info_offset) after_files) (streams new_1 new_2 after_xorbs) (HasWrittenXorbs xorbs)) where
       abbrev one : Records
       one = record { files = combined.firsts; xorbs = further.firsts }
 
@@ -153,10 +153,10 @@ module _ (old_1 old_2 : Source) (i j : MDBShardInfo) (same : key_of i ≡ key_of
       are_combined = record { files = combined.combined; xorbs = further.combined; few_files = combined.few; few_xorbs = further.few }
 
       whole_1 : NoFailure old_1 new_1
-      whole_1 = serves_on old_1 mid_1 new_1 served_1 (unmoved mid_1 new_1 i.metadata.xorb_info_offset (section_serves xorb_records (moved mid_1 i.metadata.xorb_info_offset) new_1 further.firsts further.first))
+      whole_1 = serves_on old_1 mid_1 new_1 served_1 (unmoved mid_1 new_1 i.metadata.xorb_info_offset (section_serves xorb_records (after_seek mid_1 i.metadata.xorb_info_offset) new_1 further.firsts further.first))
 
       whole_2 : NoFailure old_2 new_2
-      whole_2 = serves_on old_2 mid_2 new_2 served_2 (unmoved mid_2 new_2 j.metadata.xorb_info_offset (section_serves xorb_records (moved mid_2 j.metadata.xorb_info_offset) new_2 further.seconds further.second))
+      whole_2 = serves_on old_2 mid_2 new_2 served_2 (unmoved mid_2 new_2 j.metadata.xorb_info_offset (section_serves xorb_records (after_seek mid_2 j.metadata.xorb_info_offset) new_2 further.seconds further.second))
 
       -- both sections are combined, and the tables and the footer written, unless the output fails
       pub tables_written : (start end : Option (List ℕ)) (r : Result MDBShardInfo CopyFailure) → Appends start after_header (shard_header_bytes (header_value V3))

@@ -14,17 +14,17 @@ use Rattle.xet_records.specs.Merging.{IncludesBits, Compares, has_part, mixed_he
 use Rattle.xet_records.specs.declared.file_structs.rows.HashRow.{HashRow}
 use Rattle.xet_records.specs.Part.{parts, rows_of}
 use Rattle.xet_records.proofs.Parts.{rows_of_both}
-use Rattle.xet_records.proofs.Merging.{rows_of-joined}
+use Rattle.xet_records.proofs.Merging.{rows_of-joined_file}
 use Rattle.xet_records.specs.Reading.{ReadsRowsAfter}
 use Rattle.xet_records.proofs.RecordKinds.{file_laws}
-use Rattle.xet_core_structures.specs.Records.ByteUnion.{mixed, IsEitherFile}
+use Rattle.xet_core_structures.specs.Records.ByteUnion.{mixed_file, IsEitherFile}
 use Rattle.xet_core_structures.specs.Records.RecordPairs.{IsMadeOf}
 use Rattle.xet_core_structures.specs.Steps.MixedFiles.{MixesFiles, MixHasTooManyRows}
 use Rattle.xet_core_structures.specs.Steps.MergeJoin.{IsRecordHeader, ReadsOptionalRecord, MakesRecord, CannotMake}
 use Rattle.xet_core_structures.specs.Steps.MergeJoin.CannotMake.{nothing_made, too_many_rows}
 use Rattle.xet_core_structures.specs.TwoShards.Streams.{streams}
 use Rattle.xet_core_structures.specs.Steps.Streams.{sources}
-use Rattle.xet_core_structures.proofs.TwoShards.Mixing.{mixed_stored, rows_of_mix, rows_of-mixed}
+use Rattle.xet_core_structures.proofs.TwoShards.Mixing.{mixed_stored, rows_of_mix, rows_of-mixed_file}
 use Rattle.xet_core_structures.proofs.TwoShards.Pairs.{fails_so, record_of}
 use Rattle.xet_core_structures.proofs.TwoShards.OneSection.{header_of_found}
 
@@ -48,9 +48,9 @@ module _ (g h : FileDataSequenceHeader) (lacks : ¬ IncludesBits g.file_flags h.
   wants_all : ¬ IncludesBits s.metadata.file_flags r.metadata.file_flags
   wants_all all = wants (subst (λ p. p) (λ i. IncludesBits (sym s_is i).file_flags (sym r_is i).file_flags) all)
 
-  pub makes_mix : g.num_entries ≡ h.num_entries → IsEitherFile (Some r) (Some s) (Some (mixed r s))
+  pub makes_mix : g.num_entries ≡ h.num_entries → IsEitherFile (Some r) (Some s) (Some (mixed_file r s))
   makes_mix count = (
-    mixed r s,
+    mixed_file r s,
     refl,
     inr (inr (
       lacks_all,
@@ -106,7 +106,7 @@ module _ (g h : FileDataSequenceHeader) (old_1 new_1 old_2 new_2 : Source) where
 
   module _ (first : IsRecordHeader file_records g) (second : IsRecordHeader file_records h) (hash : g.file_hash ≡ h.file_hash) (count : g.num_entries ≡ h.num_entries)
       (neither : (¬ IncludesBits g.file_flags h.file_flags) × (¬ IncludesBits h.file_flags g.file_flags)) where
-    mix_of : (r s : MDBFileInfo) → ReadsRowsAfter file_records g (ReadsBytes old_1 new_1) r → ReadsRowsAfter file_records h (ReadsBytes old_2 new_2) s → IsMadeOf file_records (Some r) (Some s) (mixed r s)
+    mix_of : (r s : MDBFileInfo) → ReadsRowsAfter file_records g (ReadsBytes old_1 new_1) r → ReadsRowsAfter file_records h (ReadsBytes old_2 new_2) s → IsMadeOf file_records (Some r) (Some s) (mixed_file r s)
     mix_of r s read also =
         let r_is = sym (flags_1 r read) in
         let s_is = sym (flags_2 s also) in
@@ -116,8 +116,8 @@ module _ (g h : FileDataSequenceHeader) (old_1 new_1 old_2 new_2 : Source) where
               (ap (λ (k : FileDataSequenceHeader). k.num_entries) r_is ∙ count ∙ ap (λ (k : FileDataSequenceHeader). k.num_entries) (sym s_is));
           rows = omega (
             arith,
-            rows_of_both (λ p. rows_of p (mixed r s)) (λ p. rows_of p r) (λ p. rows_of p s) (λ p. subst (λ n. n ≤ length (rows_of p r) + length (rows_of p s))
-                (ap length (sym (rows_of-mixed r s p ∙ rows_of-joined r s p))) (either_rows (has_part r p) (rows_of p r) (rows_of p s))) parts,
+            rows_of_both (λ p. rows_of p (mixed_file r s)) (λ p. rows_of p r) (λ p. rows_of p s) (λ p. subst (λ n. n ≤ length (rows_of p r) + length (rows_of p s))
+                (ap length (sym (rows_of-mixed_file r s p ∙ rows_of-joined_file r s p))) (either_rows (has_part r p) (rows_of p r) (rows_of p s))) parts,
           );
           hash = of_either same;
         } where
@@ -131,13 +131,13 @@ module _ (g h : FileDataSequenceHeader) (old_1 new_1 old_2 new_2 : Source) where
     mix_made rows Before After old new (Ok v) mixes = record {
       one = Some mixes.one;
       other = Some mixes.other;
-      made = Some (mixed mixes.one mixes.other);
+      made = Some (mixed_file mixes.one mixes.other);
       reads_first = (mixes.one, refl, mixes.reads_first);
       reads_second = (mixes.other, refl, mixes.reads_second);
       is_made = makes_mix g h neither.0 neither.1 mixes.one mixes.other (flags_1 mixes.one mixes.reads_first) (flags_2 mixes.other mixes.reads_second) count;
       made_of = mix_of mixes.one mixes.other mixes.reads_first mixes.reads_second;
       few = mixes.few;
-      bytes = subst (Appends old new) (sym (append-nil (file_record_bytes (mixed mixes.one mixes.other)))) mixes.bytes;
+      bytes = subst (Appends old new) (sym (append-nil (file_record_bytes (mixed_file mixes.one mixes.other)))) mixes.bytes;
       written = mixes.written;
     }
     mix_made rows Before After old new (Err failure) fails =
@@ -147,14 +147,14 @@ module _ (g h : FileDataSequenceHeader) (old_1 new_1 old_2 new_2 : Source) where
             → CannotMake file_records IsEitherFile rows one other
         cannot one other (r, is, read) (s, at, also) many =
             subst (λ p. p) (λ i. CannotMake file_records IsEitherFile rows (sym is i) (sym at i))
-            (too_many_rows (mixed r s) (makes_mix g h neither.0 neither.1 r s (flags_1 r read) (flags_2 s also) count) (mix_of r s read also) (many r s is at))
+            (too_many_rows (mixed_file r s) (makes_mix g h neither.0 neither.1 r s (flags_1 r read) (flags_2 s also) count) (mix_of r s read also) (many r s is at))
 
   -- the rows of a mix have no room
   module _ (first : IsRecordHeader file_records g) (second : IsRecordHeader file_records h) (hash : g.file_hash ≡ h.file_hash) (count : g.num_entries ≡ h.num_entries) where
     pub mix_rows : (rows total : ℕ) → total ≡ 1 + rows_after (mixed_header g h) → 4294967295 < rows + total → (one other : Option MDBFileInfo)
         → ReadsOptionalRecord file_records (Some g) old_1 new_1 one → ReadsOptionalRecord file_records (Some h) old_2 new_2 other → MixHasTooManyRows rows one other
     mix_rows rows total counted many one other (r, is, read) (s, at, also) = λ x y x_is y_is.
-        subst (λ p. p) (λ i. 4294967295 < rows + row_count (mixed (same_Some r x (sym is ∙ x_is) i) (same_Some s y (sym at ∙ y_is) i)))
+        subst (λ p. p) (λ i. 4294967295 < rows + row_count (mixed_file (same_Some r x (sym is ∙ x_is) i) (same_Some s y (sym at ∙ y_is) i)))
         (omega (
           arith,
           many,

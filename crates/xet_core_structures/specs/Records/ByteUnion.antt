@@ -6,13 +6,13 @@ use Rattle.xet_base.specs.declared.merklehash.DataHash.{DataHash}
 use Rattle.xet_records.specs.declared.file_structs.MDBFileInfo.{MDBFileInfo}
 use Rattle.xet_records.specs.declared.xorb_structs.MDBXorbInfo.{MDBXorbInfo}
 use Rattle.xet_records.specs.declared.file_structs.part.OptionalPart.{OptionalPart}
-use Rattle.xet_records.specs.Merging.{IncludesBits, has_part, joined}
+use Rattle.xet_records.specs.Merging.{IncludesBits, has_part, joined_file}
 use Rattle.xet_shards.specs.Content.Shard.{Shard}
 
 -- a header with the known flags that either record has, the first's segments, and each
 -- optional part from the first where it has it, else from the second
-abbrev pub mixed : MDBFileInfo → MDBFileInfo → MDBFileInfo
-mixed a b = record (joined a b) { metadata = record (joined a b).metadata { _unused = 0 } }
+abbrev pub mixed_file : MDBFileInfo → MDBFileInfo → MDBFileInfo
+mixed_file a b = record (joined_file a b) { metadata = record (joined_file a b).metadata { _unused = 0 } }
 
 -- of two files with the same hash: the first, if its flags have all bits of the second's; else the
 -- second, if its flags have all bits of the first's; else a mix of both, which requires equal
@@ -24,7 +24,7 @@ IsUnitedFile a b c =
     × IncludesBits b.metadata.file_flags a.metadata.file_flags × (c ≡ b))
     ⊎ ((¬ IncludesBits a.metadata.file_flags b.metadata.file_flags)
     × (¬ IncludesBits b.metadata.file_flags a.metadata.file_flags)
-    × (a.metadata.num_entries ≡ b.metadata.num_entries) × (c ≡ mixed a b))
+    × (a.metadata.num_entries ≡ b.metadata.num_entries) × (c ≡ mixed_file a b))
 
 -- the file of a hash, where each shard may have one
 abbrev pub IsEitherFile : Option MDBFileInfo → Option MDBFileInfo → Option MDBFileInfo → Type 0

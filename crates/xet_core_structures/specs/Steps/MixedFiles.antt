@@ -13,7 +13,7 @@ use Rattle.xet_records.specs.declared.row_copier.CopyFailure.TheVariants.{Input,
 use Rattle.xet_records.specs.FileRecord.{file_records, file_record_bytes, file_rows_bytes, row_count, size_of_file}
 use Rattle.xet_records.specs.Reading.{ReadsRowsAfter}
 use Rattle.xet_records.specs.Rows.{ReadsRows}
-use Rattle.xet_core_structures.specs.Records.ByteUnion.{mixed}
+use Rattle.xet_core_structures.specs.Records.ByteUnion.{mixed_file}
 use Rattle.xet_core_structures.specs.Steps.MergeJoin.{PairFails}
 use Rattle.xet_core_structures.specs.TwoShards.Streams.{Streams}
 use Rattle.xet_core_structures.specs.Steps.Streams.{Sources, inputs_of}
@@ -30,10 +30,10 @@ pub record WritesMix (first second : FileDataSequenceHeader) (old new : Streams)
   pub reads_first : ReadsRowsAfter file_records first (ReadsBytes old.first new.first) one
   pub reads_second : ReadsRowsAfter file_records second (ReadsBytes old.second new.second) other
   -- the rows before, and those of the mix, fit a section
-  pub few : rows + row_count (mixed one other) ≤ MAX_ROWS
-  pub bytes : Appends old.out new.out (file_record_bytes (mixed one other))
+  pub few : rows + row_count (mixed_file one other) ≤ MAX_ROWS
+  pub bytes : Appends old.out new.out (file_record_bytes (mixed_file one other))
   -- the mix was gathered after the records before it
-  pub written : (front : List MDBFileInfo) → Before front → After (front ++ mixed one other ∷ [])
+  pub written : (front : List MDBFileInfo) → Before front → After (front ++ mixed_file one other ∷ [])
 
 -- both records were read, and the rows of a mix of them were written, if they have as many
 -- segments; this is the size of the file in bytes
@@ -44,8 +44,8 @@ pub record WritesMixRows (first second : FileDataSequenceHeader) (old new : Stre
   pub reads_first : ReadsRowsAfter file_records first (ReadsBytes old.first new.first) one
   pub reads_second : ReadsRowsAfter file_records second (ReadsBytes old.second new.second) other
   pub rows : first.num_entries ≡ second.num_entries
-      → Appends old.out new.out (file_rows_bytes (mixed one other))
-  pub size : size_of_file (mixed one other) ≡ bytes
+      → Appends old.out new.out (file_rows_bytes (mixed_file one other))
+  pub size : size_of_file (mixed_file one other) ≡ bytes
 
 -- the outcome for the rows of a mix: they were written, or the output failed or an input
 abbrev pub MixesRows : FileDataSequenceHeader → FileDataSequenceHeader → Streams → Streams
@@ -57,7 +57,7 @@ MixesRows first second old new result =
 -- the mix has too many rows beside those before it
 abbrev pub MixHasTooManyRows : ℕ → Option MDBFileInfo → Option MDBFileInfo → Type 0
 MixHasTooManyRows rows one other =
-    (r s : MDBFileInfo) → one ≡ Some r → other ≡ Some s → MAX_ROWS < rows + row_count (mixed r s)
+    (r s : MDBFileInfo) → one ≡ Some r → other ≡ Some s → MAX_ROWS < rows + row_count (mixed_file r s)
 
 -- the outcome of a mix: it was written and gathered, or the output failed or an input, or it has
 -- too many rows

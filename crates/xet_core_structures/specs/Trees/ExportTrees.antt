@@ -3,13 +3,13 @@ use Rattle.std.specs.Prelude.{◌≡◌, ℕ, ◌^◌, ◌<◌, Bool, true, List
 use Rattle.xet_records.specs.declared.record_reader.FormatVersion.TheVariants.{V3}
 use Rattle.std.specs.FinMap.{get, values}
 use Rattle.xet_base.specs.Source.{Source, bytes_left}
-use Rattle.xet_records.specs.View.{auxes_as_wanted}
+use Rattle.xet_records.specs.View.{all_with_aux_if}
 use Rattle.xet_base.specs.declared.merklehash.DataHash.{DataHash}
 use Rattle.xet_base.specs.Hash.{IsHash}
 use Rattle.xet_records.specs.declared.file_structs.rows.FileDataSequenceEntry.{FileDataSequenceEntry}
 use Rattle.xet_shards.specs.declared.shard_format.ends.options.LayoutOptions.{LayoutOptions}
 use Rattle.xet_shards.specs.ShardInMemory.ChunkQuery.{run_at}
-use Rattle.xet_shards.specs.Export.KeyedExport.{exported, ExportsWith}
+use Rattle.xet_shards.specs.Export.KeyedExport.{exported_bytes, ExportsWith}
 use Rattle.xet_shards.specs.Content.Shard.{Shard}
 use Rattle.xet_shards.specs.Content.ShardsWithoutAux.{shard_without_aux}
 use Rattle.xet_shards.specs.Write.WrittenShard.{HasFilesIn}
@@ -29,16 +29,16 @@ pub record IsExportOptions (key : DataHash) (options : LayoutOptions) : Type 0 w
   pub fits : FitsOptions options
 
 -- a shard with its auxiliary rows or without
-abbrev pub shard_as_wanted : Bool → Shard → Shard
-shard_as_wanted aux s = if aux then s else shard_without_aux s
+abbrev pub shard_with_aux_if : Bool → Shard → Shard
+shard_with_aux_if aux s = if aux then s else shard_without_aux s
 
 -- the bytes are an export of this shard under a key, with files, with auxiliary rows or without, in
 -- a version that has its files
 pub record IsExportOf (aux : Bool) (key : DataHash) (s : Shard) (bytes : List ℕ) : Type 0 where
   pub options : LayoutOptions
   pub is_form : IsExportOptions key options
-  pub files : HasFilesIn options.version (shard_as_wanted aux s)
-  pub bytes_are : bytes ≡ exported (auxes_as_wanted aux (values s.files)) (values s.xorbs) options
+  pub files : HasFilesIn options.version (shard_with_aux_if aux s)
+  pub bytes_are : bytes ≡ exported_bytes (all_with_aux_if aux (values s.files)) (values s.xorbs) options
 
 -- a tree with a union, over exports under one key of shards that agree, and their join
 abbrev pub IsMergeOfExports : Bool → DataHash → List (List ℕ) → MergePlan → List Shard → Shard

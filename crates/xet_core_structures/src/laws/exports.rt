@@ -10,14 +10,14 @@ ghost use Rattle.xet_base.specs.Bytes.{u64_bytes};
 ghost use Rattle.xet_base.specs.KeyedHash.{no_key};
 ghost use Rattle.xet_base.specs.Source.{Source, bytes_left};
 ghost use Rattle.xet_records.specs.declared.file_structs.rows.FileDataSequenceEntry.{FileDataSequenceEntry};
-ghost use Rattle.xet_records.specs.View.{without_aux, auxes_as_wanted};
+ghost use Rattle.xet_records.specs.View.{without_aux, all_with_aux_if};
 ghost use Rattle.xet_records.specs.declared.xorb_structs.MDBXorbInfo.{MDBXorbInfo};
 ghost use Rattle.xet_records.specs.declared.xorb_structs.XorbChunkSequenceEntry.{XorbChunkSequenceEntry};
 ghost use Rattle.xet_shards.specs.ShardInMemory.ChunkLookup.{ChunkLocation};
 ghost use Rattle.xet_shards.specs.ShardInMemory.ChunkQuery.{run_length};
 ghost use Rattle.xet_shards.specs.Content.Joins.{IsJoinOf, AgreePairwise};
 ghost use Rattle.xet_shards.specs.Content.ShardsWithoutAux.{shard_without_aux};
-ghost use Rattle.xet_shards.specs.Export.KeyedExport.{keyed_chunk, exported, export_options, Exports, ExportsWith};
+ghost use Rattle.xet_shards.specs.Export.KeyedExport.{keyed_chunk, exported_bytes, export_options, Exports, ExportsWith};
 ghost use Rattle.xet_shards.specs.Content.KeyedShards.{keyed_shard};
 ghost use Rattle.xet_shards.specs.declared.shard_format.ends.options.LayoutOptions.{LayoutOptions};
 ghost use Rattle.xet_shards.specs.Write.Layout.{if_included, layout_of};
@@ -27,7 +27,7 @@ ghost use Rattle.xet_shards.specs.Lookup.WrittenQueries.{HasChunkAt, RunAmong};
 ghost use Rattle.xet_shards.specs.Write.WrittenShard.{IsBytesOf, IsBytesWithoutExpiry};
 ghost use Rattle.xet_core_structures.specs.declared.set_operations.MergePlan.{MergePlan};
 ghost use Rattle.xet_core_structures.specs.TwoShards.ByteResults.{keyed_layout};
-ghost use Rattle.xet_core_structures.specs.Trees.ExportTrees.{shard_as_wanted, IsExportedAt, IsMergeOfExports, run_under};
+ghost use Rattle.xet_core_structures.specs.Trees.ExportTrees.{shard_with_aux_if, IsExportedAt, IsMergeOfExports, run_under};
 ghost use Rattle.xet_core_structures.specs.Trees.MergeTrees.{leaves, TreeWrites, TreeRefusal, IsMerge, IsMergeOfWritten, MergeRefused};
 
 /// A shard with its chunk hashes under a key is a shard, and an export with files is its layout.
@@ -35,7 +35,7 @@ pub fn keyed_shards_are_exported()
     ensures shards { (key : DataHash) → (s : Shard) → IsShard s → IsShard (keyed_shard key s) }
     ensures bytes { (s : Shard) → (options : LayoutOptions) → options.file_table ≡ true
         → let keyed = keyed_shard options.key s in
-        exported (values s.files) (values s.xorbs) options
+        exported_bytes (values s.files) (values s.xorbs) options
         ≡ layout_of (values keyed.files) (values keyed.xorbs) options }
 {}
 
@@ -75,16 +75,16 @@ pub fn exports_merge_to_the_export_of_the_join()
         → (before after : Option (List ℕ)) → (size : ℕ) → IsBytesOf s (bytes_left old)
         → ExportsWith aux options old new before after size
         → Appends before after
-        (exported (auxes_as_wanted aux (values s.files)) (values s.xorbs) options) }
+        (exported_bytes (all_with_aux_if aux (values s.files)) (values s.xorbs) options) }
     ensures bytes { (aux : Bool) → (inputs : List (List ℕ)) → (plan : MergePlan)
         → (key : DataHash) → (shards : List Shard) → (join : Shard) → (out : List ℕ)
         → IsMergeOfExports aux key inputs plan shards join → TreeWrites inputs plan out
-        → out ≡ exported (auxes_as_wanted aux (values join.files)) (values join.xorbs)
+        → out ≡ exported_bytes (all_with_aux_if aux (values join.files)) (values join.xorbs)
         (export_options key 0 18446744073709551615 true true true) }
     ensures timestamps { (aux : Bool) → (s : Shard) → (key : DataHash)
         → (before after : List ℕ) × (length after ≡ 80)
         × ((now valid : ℕ)
-        → exported (auxes_as_wanted aux (values s.files)) (values s.xorbs)
+        → exported_bytes (all_with_aux_if aux (values s.files)) (values s.xorbs)
         (export_options key now valid true true true)
         ≡ before ++ u64_bytes now ++ u64_bytes (now + valid) ++ after) }
     ensures exchanged { (aux : Bool) → (inputs outs : List (List ℕ)) → (plan : MergePlan)
@@ -100,14 +100,14 @@ pub fn exports_merge_to_the_export_of_the_join()
     ensures refusals { (aux : Bool) → (inputs : List (List ℕ)) → (plan : MergePlan)
         → (key : DataHash) → (shards : List Shard) → (join : Shard) → (e : CoreError)
         → IsMergeOfExports aux key inputs plan shards join → TreeRefusal inputs plan e
-        → MergeRefused (shard_as_wanted aux join) e }
+        → MergeRefused (shard_with_aux_if aux join) e }
 {}
 
 /// The bytes that a tree writes for shards that agree have the runs of chunks of these shards, and
 /// no others. In those of their exports under a key a run is at least as long, and the shards under
 /// the key have such a join again. An export of the bytes, with any layout options, writes the
 /// layout of the join under the options' key, without files where they are not asked for
-/// (`exported`), and in that a run is at least as long as in the join (`exported_runs`).
+/// (`exported_bytes`), and in that a run is at least as long as in the join (`exported_runs`).
 pub fn merges_keep_runs()
     ensures kept { (inputs : List (List ℕ)) → (plan : MergePlan) → (shards : List Shard)
         → (join s : Shard) → (out : List ℕ) → (q : DataHash) → (index : ℕ)

@@ -18,7 +18,7 @@ ghost use Rattle.xet_base.specs.Errors.{IsWriteError, IsNoEnd};
 ghost use Rattle.xet_records.specs.FileRow.{header_row, hash_row, clear};
 ghost use Rattle.xet_records.specs.Part.{flags_of, rows_of, rows_before};
 ghost use Rattle.xet_records.specs.FileRecord.{has_verification, has_metadata_ext, has_aux_ext, row_count, file_record_bytes, as_read, file_records, rows_after, FitsItsHeader, IsStored};
-ghost use Rattle.xet_records.specs.View.{BeginsWithHeaderRow, BeginsWithFile, NoView, without_verification, as_wanted, as_kept, LacksVerification, IsIoOther};
+ghost use Rattle.xet_records.specs.View.{BeginsWithHeaderRow, BeginsWithFile, NoView, without_verification, with_verification_if, as_kept, LacksVerification, IsIoOther};
 ghost use Rattle.xet_records.specs.Steps.View.{keeps};
 ghost use Rattle.xet_records.specs.Limits.{MAX_ROWS};
 
@@ -245,7 +245,7 @@ impl MDBFileInfoView {
 
     /// The size in bytes of the record as `serialize` writes it.
     pub fn byte_size(&self, with_verification: bool) -> usize
-        ensures { result ≡ 48 * row_count (as_wanted with_verification self.now) }
+        ensures { result ≡ 48 * row_count (with_verification_if with_verification self.now) }
     {
         self.byte_size_of_kept(KeptParts {
             verification: with_verification,
@@ -282,9 +282,9 @@ impl MDBFileInfoView {
     pub fn serialize<W: Write>(&self, writer: &mut W, with_verification: bool) -> Result<usize>
         ensures bytes { OnOk result
             (Appends (W.contents writer.old) (W.contents writer.new)
-            (file_record_bytes (as_wanted with_verification self.now))) }
+            (file_record_bytes (with_verification_if with_verification self.now))) }
         ensures count { IfOk result
-            (λ n. n ≡ 48 * row_count (as_wanted with_verification self.now)) }
+            (λ n. n ≡ 48 * row_count (with_verification_if with_verification self.now)) }
         ensures missing { LacksVerification with_verification self.now
             → IsErrAnd result IsIoOther × (writer.new ≡ writer.old) }
         ensures causes { IfErr result IsWriteError }

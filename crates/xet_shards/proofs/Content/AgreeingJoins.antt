@@ -15,7 +15,7 @@ use Rattle.xet_records.specs.declared.xorb_structs.MDBXorbInfo.{MDBXorbInfo}
 use Rattle.xet_records.specs.FileRecord.{row_count, IsWellFormed}
 use Rattle.xet_records.specs.XorbRecord.{xorb_row_count, IsXorb}
 use Rattle.xet_records.specs.Part.{parts, rows_of}
-use Rattle.xet_records.specs.Merging.{Agree, has_part, merged, part_in}
+use Rattle.xet_records.specs.Merging.{Agree, has_part, merged_file, part_in}
 use Rattle.xet_records.proofs.Parts.{fewer_rows}
 use Rattle.xet_records.proofs.Merging.{same_file_if_agree, merged_well_formed}
 use Rattle.xet_shards.specs.Content.Shard.{Shard, IsShard, file_hash_of, xorb_hash_of}
@@ -105,7 +105,7 @@ known_either q (Some r) None t first second agree few is = first t is
 known_either q (Some r) (Some s) t first second agree few is =
     let own = first r refl in
     let other = second s refl in
-    let same = same_Some (merged r s) t is in
+    let same = same_Some (merged_file r s) t is in
     record {
       keyed = own.keyed ∙ ap file_hash_of same;
       well_formed = subst IsWellFormed same (merged_well_formed r s own.well_formed other.well_formed

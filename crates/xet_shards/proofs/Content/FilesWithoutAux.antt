@@ -3,7 +3,7 @@ use Rattle.std.proofs.Common.{◌≤◌, Bool, true, false, List, map, arith}
 use Rattle.std.proofs.lemmas.List.Elements.{All-map, All-weaker}
 use Rattle.xet_records.specs.declared.file_structs.MDBFileInfo.{MDBFileInfo}
 use Rattle.xet_records.specs.FileRecord.{file_records, row_count, IsStored}
-use Rattle.xet_records.specs.View.{without_aux, auxes_as_wanted}
+use Rattle.xet_records.specs.View.{without_aux, all_with_aux_if}
 use Rattle.xet_records.proofs.KeptParts.{without_aux-stored, without_aux-rows}
 use Rattle.xet_shards.specs.Write.WithOptions.{FitsSection}
 use Rattle.xet_shards.specs.Write.Section.{total_rows}
@@ -18,6 +18,6 @@ section-without_aux files fits = record {
   rows = omega (arith, rows-without_aux files, fits.rows);
 }
 
-pub section-aux_as_wanted : (aux : Bool) (files : List MDBFileInfo) → FitsSection file_records files → FitsSection file_records (auxes_as_wanted aux files)
-section-aux_as_wanted true files fits = fits
-section-aux_as_wanted false files fits = section-without_aux files fits
+pub section-with_aux_if : (aux : Bool) (files : List MDBFileInfo) → FitsSection file_records files → FitsSection file_records (all_with_aux_if aux files)
+section-with_aux_if true files fits = fits
+section-with_aux_if false files fits = section-without_aux files fits

@@ -12,9 +12,9 @@ use Rattle.xet_records.specs.declared.file_structs.rows.HashRow.{HashRow}
 use Rattle.xet_records.specs.declared.file_structs.part.OptionalPart.{OptionalPart}
 use Rattle.xet_records.specs.declared.file_structs.MDBFileInfo.{MDBFileInfo}
 use Rattle.xet_records.specs.Part.{flags_of, rows_of, with_parts}
-use Rattle.xet_records.specs.Merging.{Agree, has_part, merged, part_in, file_with}
-use Rattle.xet_records.proofs.Parts.{with_parts-rows_of, rows_of-keeping}
-use Rattle.xet_records.proofs.Merging.{flags_added, part_absent, has_part-merged, rows_of-merged}
+use Rattle.xet_records.specs.Merging.{Agree, has_part, merged_file, part_in, file_with}
+use Rattle.xet_records.proofs.Parts.{with_parts-rows_of, rows_of-with_parts_if}
+use Rattle.xet_records.proofs.Merging.{flags_added, part_absent, has_part-merged_file, rows_of-merged_file}
 use Rattle.xet_shards.specs.Content.Shard.{Shard, IsShard, empty_shard, file_hash_of}
 use Rattle.xet_shards.specs.Content.Joining.{either_file}
 use Rattle.xet_shards.specs.Content.SetOperations.{IsUnion, ShardsAgree}
@@ -27,9 +27,9 @@ pub either_part : {X : Type 0} (o p : Option X) → ((x y : X) → o ≡ Some x 
 either_part o p same x = (λ is. grind arith, λ (either : (o ≡ Some x) ⊎ (p ≡ Some x)). grind (arith, same_either o p same))
 
 -- a part of a merged record
-part_in-merged : (part : OptionalPart) (a b : MDBFileInfo) → part_in part (merged a b) ≡ option_or (part_in part a) (part_in part b)
-part_in-merged part a b =
-    (λ i. if has_part-merged a b part i then Some (rows_of-merged a b part i) else None) ∙ by_cases (has_part a part) (has_part b part) (rows_of part a) (rows_of part b)
+part_in-merged_file : (part : OptionalPart) (a b : MDBFileInfo) → part_in part (merged_file a b) ≡ option_or (part_in part a) (part_in part b)
+part_in-merged_file part a b =
+    (λ i. if has_part-merged_file a b part i then Some (rows_of-merged_file a b part i) else None) ∙ by_cases (has_part a part) (has_part b part) (rows_of part a) (rows_of part b)
   where
     by_cases : (v w : Bool) (xs ys : List HashRow) → (if v || w then Some (if w && not v then ys else xs) else None) ≡ option_or (if v then Some xs else None) (if w then Some ys else None)
     by_cases true true xs ys = refl
@@ -74,7 +74,7 @@ module _ (q : DataHash) where
         flags = ap (λ (s : MDBFileInfo). s.metadata.file_flags) is ∙ (λ i. flags_of (λ part. sym (announced (has_part r part) (rows_of part r)) i));
         segments = sym (ap (λ (s : MDBFileInfo). s.metadata.num_entries) is);
         absent = λ part none. ap (rows_of part) (is ∙ (λ i. with_parts header r.segments (λ p. rows_kept (has_part r p) (rows_of p r) i)))
-            ∙ rows_of-keeping (has_part r) header r part ∙ ap (λ (v : Bool). if v then rows_of part r else []) none;
+            ∙ rows_of-with_parts_if (has_part r) header r part ∙ ap (λ (v : Bool). if v then rows_of part r else []) none;
       }
 
   known_header : (r : MDBFileInfo) → IsKnown q r → HasPlainHeader r
@@ -86,15 +86,15 @@ module _ (q : DataHash) where
     absent = part_absent r known.well_formed.whole;
   }
 
-  merged_header : (r s : MDBFileInfo) → HasPlainHeader r → HasPlainHeader s → HasPlainHeader (merged r s)
+  merged_header : (r s : MDBFileInfo) → HasPlainHeader r → HasPlainHeader s → HasPlainHeader (merged_file r s)
   merged_header r s one other = record {
     keyed = one.keyed;
     reserved = one.reserved;
     flags = ap (λ n. n + flags_of (λ part. has_part s part && not (has_part r part))) one.flags ∙ flags_added (has_part r) (has_part s)
-        ∙ (λ i. flags_of (λ part. sym (has_part-merged r s part) i));
+        ∙ (λ i. flags_of (λ part. sym (has_part-merged_file r s part) i));
     segments = one.segments;
-    absent = λ part none. rows_of-merged r s part
-        ∙ neither (has_part r part) (has_part s part) (rows_of part r) (rows_of part s) (sym (has_part-merged r s part) ∙ none) (one.absent part);
+    absent = λ part none. rows_of-merged_file r s part
+        ∙ neither (has_part r part) (has_part s part) (rows_of part r) (rows_of part s) (sym (has_part-merged_file r s part) ∙ none) (one.absent part);
   } where
     neither : (v w : Bool) (xs ys : List HashRow) → (v || w) ≡ false → (v ≡ false → xs ≡ []) → (if w && not v then ys else xs) ≡ []
     neither v w xs ys none absent = grind arith
@@ -106,7 +106,7 @@ module _ (q : DataHash) where
   part_either : (part : OptionalPart) (o p : Option MDBFileInfo) → option_and_then (part_in part) (either_file o p) ≡ option_or (option_and_then (part_in part) o) (option_and_then (part_in part) p)
   part_either part None p = refl
   part_either part (Some r) None = sym (or_none (part_in part r))
-  part_either part (Some r) (Some s) = part_in-merged part r s
+  part_either part (Some r) (Some s) = part_in-merged_file part r s
 
   abbrev IsPlainFile : Option MDBFileInfo → Type 0
   IsPlainFile o = (r : MDBFileInfo) → o ≡ Some r → HasPlainHeader r
@@ -114,7 +114,7 @@ module _ (q : DataHash) where
   plain_either : (o p : Option MDBFileInfo) → IsPlainFile o → IsPlainFile p → IsPlainFile (either_file o p)
   plain_either None p first second t is = second t is
   plain_either (Some r) None first second t is = first t is
-  plain_either (Some r) (Some s) first second t is = subst HasPlainHeader (same_Some (merged r s) t is) (merged_header r s (first r refl) (second s refl))
+  plain_either (Some r) (Some s) first second t is = subst HasPlainHeader (same_Some (merged_file r s) t is) (merged_header r s (first r refl) (second s refl))
 
   -- parts of files that agree
   pub same_segments : (o p : Option MDBFileInfo) → ((r s : MDBFileInfo) → o ≡ Some r → p ≡ Some s → Agree r s) → (x y : List FileDataSequenceEntry)

@@ -19,7 +19,7 @@ use Rattle.xet_shards.specs.Content.SetOperations.{IsUnion, ShardsAgree}
 use Rattle.xet_shards.specs.Content.Joins.{IsJoinOf}
 use Rattle.xet_shards.specs.ShardInMemory.ChunkQuery.{run_length}
 use Rattle.xet_shards.specs.Write.Layout.{LayoutOptions, if_included, layout_of}
-use Rattle.xet_shards.specs.Export.KeyedExport.{keyed_chunk, keyed_xorb, keyed_xorbs, exported}
+use Rattle.xet_shards.specs.Export.KeyedExport.{keyed_chunk, keyed_xorb, keyed_xorbs, exported_bytes}
 use Rattle.xet_shards.specs.Content.KeyedShards.{keyed_entries, keyed_shard}
 use Rattle.xet_shards.proofs.Content.KeyedHashes.{keyed_stored, keyed_rows, keyed_total}
 use Rattle.xet_shards.proofs.Content.MappedMaps.{entries-mapped, values-mapped, get-mapped, mapped_some}
@@ -115,7 +115,7 @@ module _ (key : DataHash) (shards : List Shard) (c : Shard) where
 
 -- an export of a shard's lists with files is the layout of the shard under the key
 pub exported_is : (s : Shard) (options : LayoutOptions) → options.file_table ≡ true
-    → exported (values s.files) (values s.xorbs) options ≡ layout_of (values (keyed_shard options.key s).files) (values (keyed_shard options.key s).xorbs) options
+    → exported_bytes (values s.files) (values s.xorbs) options ≡ layout_of (values (keyed_shard options.key s).files) (values (keyed_shard options.key s).xorbs) options
 exported_is s options with_files = λ i. layout_of (if_included (with_files i) (values s.files)) (sym (values-keyed options.key s) i) options
 
 -- a run of hashes under no key is at most as long as under a key, at the chunks with hashes under it

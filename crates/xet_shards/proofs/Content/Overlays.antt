@@ -13,7 +13,7 @@ use Rattle.xet_records.specs.declared.file_structs.MDBFileInfo.{MDBFileInfo}
 use Rattle.xet_records.specs.declared.xorb_structs.MDBXorbInfo.{MDBXorbInfo}
 use Rattle.xet_records.specs.FileRecord.{file_records, row_count}
 use Rattle.xet_records.specs.XorbRecord.{xorb_records}
-use Rattle.xet_records.specs.Merging.{merged}
+use Rattle.xet_records.specs.Merging.{merged_file}
 use Rattle.xet_shards.specs.Write.Section.{total_rows}
 use Rattle.xet_shards.specs.Content.Shard.{Shard, FileMap, XorbMap}
 use Rattle.xet_shards.specs.Content.Joining.{entry, either_file}
@@ -89,21 +89,21 @@ sum-entries f es fs e push = ap (λ gs. sum_by f (values_of gs)) push ∙ ap (su
 abbrev pub other_xorb : MDBXorbInfo → MDBXorbInfo → MDBXorbInfo
 other_xorb own other = other
 
-either_file_is : (o p : Option MDBFileInfo) → either_joined merged o p ≡ either_file o p
+either_file_is : (o p : Option MDBFileInfo) → either_joined merged_file o p ≡ either_file o p
 either_file_is o p = grind arith
 
 either_xorb_is : (o p : Option MDBXorbInfo) → either_joined other_xorb o p ≡ option_or p o
 either_xorb_is o p = grind arith
 
 -- the maps of a union
-pub are_united_files : (es : List (DataHash × MDBFileInfo)) (b c : FileMap) → ((q : DataHash) → get c q ≡ either_file (entry es q) (get b q)) → c ≡ overlay merged es b
-are_united_files es b c is = is_overlay merged es b c (λ q. is q ∙ sym (either_file_is (entry es q) (get b q)))
+pub are_united_files : (es : List (DataHash × MDBFileInfo)) (b c : FileMap) → ((q : DataHash) → get c q ≡ either_file (entry es q) (get b q)) → c ≡ overlay merged_file es b
+are_united_files es b c is = is_overlay merged_file es b c (λ q. is q ∙ sym (either_file_is (entry es q) (get b q)))
 
 pub are_united_xorbs : (es : List (DataHash × MDBXorbInfo)) (b c : XorbMap) → ((q : DataHash) → get c q ≡ option_or (get b q) (entry es q)) → c ≡ overlay other_xorb es b
 are_united_xorbs es b c is = is_overlay other_xorb es b c (λ q. is q ∙ sym (either_xorb_is (entry es q) (get b q)))
 
 abbrev united_files : FileMap → FileMap → FileMap
-united_files a b = overlay merged (entries a) b
+united_files a b = overlay merged_file (entries a) b
 
 abbrev pub united_xorbs : XorbMap → XorbMap → XorbMap
 united_xorbs a b = overlay other_xorb (entries a) b
@@ -114,7 +114,7 @@ united_shard a b = record { files = united_files a.files b.files; xorbs = united
 
 pub union_exists : (a b : Shard) → IsUnion a b (united_shard a b)
 union_exists a b = record {
-  files = λ q. cc (get-overlay merged (entries a.files) b.files q, get-entries a.files q, either_file_is (get a.files q) (get b.files q));
+  files = λ q. cc (get-overlay merged_file (entries a.files) b.files q, get-entries a.files q, either_file_is (get a.files q) (get b.files q));
   xorbs = λ q. cc (get-overlay other_xorb (entries a.xorbs) b.xorbs q, get-entries a.xorbs q, either_xorb_is (get a.xorbs q) (get b.xorbs q));
 }
 
@@ -126,10 +126,10 @@ pub can_join_united : (a b : Shard) → CanUnite a b → CanJoinFiles a.files b.
 can_join_united a b can = λ q r s own other.
     let union = union_exists a b in
     let few = can.rows (united_shard a b) union in
-    let there : get (united_files a.files b.files) q ≡ Some (merged r s) = union.files q ∙ (λ i. either_file (own i) (other i)) in
+    let there : get (united_files a.files b.files) q ≡ Some (merged_file r s) = union.files q ∙ (λ i. either_file (own i) (other i)) in
     record {
       same = can.same q r s own other;
-      rows = omega (arith, few.files, sum-remove hash_cmp-IsTotalOrder hash_cmp-IsAntisymmetric row_count (united_files a.files b.files) q (merged r s) there);
+      rows = omega (arith, few.files, sum-remove hash_cmp-IsTotalOrder hash_cmp-IsAntisymmetric row_count (united_files a.files b.files) q (merged_file r s) there);
     }
 
 -- whether shards may be united shows in the rows of their union, however they are counted

@@ -8,8 +8,8 @@ use Rattle.xet_base.specs.Hash.{hash_cmp}
 use Rattle.xet_base.proofs.HashOrder.{hash_cmp-IsTotalOrder, hash_cmp-IsAntisymmetric}
 use Rattle.xet_records.specs.declared.file_structs.MDBFileInfo.{MDBFileInfo}
 use Rattle.xet_records.specs.FileRecord.{IsWellFormed}
-use Rattle.xet_records.specs.Merging.{Agree, merged}
-use Rattle.xet_records.proofs.Merging.{merged_is_joined, merged-assoc, agree-merged, joined-comm, joined-idem, same_file_if_agree}
+use Rattle.xet_records.specs.Merging.{Agree, merged_file}
+use Rattle.xet_records.proofs.Merging.{merged_is_joined, merged_file-assoc, agree-merged_file, joined_file-comm, joined_file-idem, same_file_if_agree}
 use Rattle.xet_shards.specs.Content.Shard.{Shard, IsShard, empty_shard, file_hash_of}
 use Rattle.xet_shards.specs.Content.Joining.{either_file}
 use Rattle.xet_shards.specs.Content.SetOperations.{IsUnion, ShardsAgree, RowsFitU32, CanUnite}
@@ -47,7 +47,7 @@ files_turned q (Some r) (Some s) first second agree =
     let own = first r refl in
     let others = second s refl in
     ap Some (merged_is_joined r s own.well_formed others.well_formed
-    ∙ joined-comm r s own.well_formed others.well_formed (sym own.keyed ∙ others.keyed) (agree r s refl refl)
+    ∙ joined_file-comm r s own.well_formed others.well_formed (sym own.keyed ∙ others.keyed) (agree r s refl refl)
     ∙ sym (merged_is_joined s r others.well_formed own.well_formed))
 
 -- in either order
@@ -60,7 +60,7 @@ files_grouped : (o p r : Option MDBFileInfo) → either_file (either_file o p) r
 files_grouped None p r = refl
 files_grouped (Some x) None r = refl
 files_grouped (Some x) (Some y) None = refl
-files_grouped (Some x) (Some y) (Some z) = ap Some (merged-assoc x y z)
+files_grouped (Some x) (Some y) (Some z) = ap Some (merged_file-assoc x y z)
 
 -- in either grouping
 pub union-assoc : (a b c ab bc left right : Shard) → IsUnion a b ab → IsUnion ab c left → IsUnion b c bc → IsUnion a bc right → left ≡ right
@@ -71,7 +71,7 @@ union-assoc a b c ab bc left right one then_c other then_a = same_shard left rig
 
 files_repeated : (q : DataHash) (o : Option MDBFileInfo) → ((r : MDBFileInfo) → o ≡ Some r → IsKnown q r) → either_file o o ≡ o
 files_repeated q None first = refl
-files_repeated q (Some r) first = let own = first r refl in ap Some (merged_is_joined r r own.well_formed own.well_formed ∙ joined-idem r own.well_formed)
+files_repeated q (Some r) first = let own = first r refl in ap Some (merged_is_joined r r own.well_formed own.well_formed ∙ joined_file-idem r own.well_formed)
 
 -- a shard with itself
 pub union-idem : (a c : Shard) → IsShard a → IsUnion a a c → c ≡ a
@@ -106,7 +106,7 @@ files_agree : (o p : Option MDBFileInfo) (r t : MDBFileInfo) → ((x : MDBFileIn
     → either_file o p ≡ Some r → Agree r t
 files_agree None p r t first second is = second r is
 files_agree (Some x) None r t first second is = first r is
-files_agree (Some x) (Some y) r t first second is = subst (λ z. Agree z t) (same_Some (merged x y) r is) (agree-merged x y t (first x refl) (second y refl))
+files_agree (Some x) (Some y) r t first second is = subst (λ z. Agree z t) (same_Some (merged_file x y) r is) (agree-merged_file x y t (first x refl) (second y refl))
 
 xorbs_agree : {X : Type 0} (o p : Option X) (r t : X) → ((x : X) → o ≡ Some x → x ≡ t) → ((y : X) → p ≡ Some y → y ≡ t) → option_or p o ≡ Some r → r ≡ t
 xorbs_agree o p r t first second is = grind arith

@@ -6,7 +6,7 @@ use Rattle.std.specs.declared.io.Error.{Error}
 use Rattle.xet_base.specs.declared.error.CoreError.{CoreError}
 use Rattle.xet_base.specs.Bytes.{u64_bytes}
 use Rattle.xet_base.specs.Errors.{IsEndOfInput, IsBareShardVersion, FromDevice}
-use Rattle.xet_base.specs.Source.{Source, ReadsBytes, Fails, moved, bytes_left}
+use Rattle.xet_base.specs.Source.{Source, ReadsBytes, Fails, after_seek, bytes_left}
 use Rattle.xet_base.proofs.Bytes.{length-u64_bytes, u64_bytes-injective}
 use Rattle.xet_base.proofs.Lists.{front_is}
 use Rattle.xet_base.specs.InputLaws.{ReadsBytes-trans}
@@ -82,15 +82,15 @@ one_version bytes a b =
     ∙ version_known b.version
 
 -- the first 48 bytes were read, as a header
-module _ (old start mid : Source) (h : MDBShardFileHeader) (first : start ≡ moved old 0) (read : ReadsBytes start mid (shard_header_bytes h)) where
-  taken : ReadsBytes (moved old 0) mid (shard_header_bytes h)
+module _ (old start mid : Source) (h : MDBShardFileHeader) (first : start ≡ after_seek old 0) (read : ReadsBytes start mid (shard_header_bytes h)) where
+  taken : ReadsBytes (after_seek old 0) mid (shard_header_bytes h)
   taken = subst (λ s. ReadsBytes s mid (shard_header_bytes h)) first read
 
   bytes_same : mid.bytes ≡ old.bytes
   bytes_same = ap (λ (s : Source). s.bytes) taken.after
 
   begins : old.bytes ≡ shard_header_bytes h ++ bytes_left mid
-  begins = ReadsBytes-consumes (moved old 0) mid (shard_header_bytes h) taken
+  begins = ReadsBytes-consumes (after_seek old 0) mid (shard_header_bytes h) taken
 
   front_is_header : take 48 old.bytes ≡ shard_header_bytes h
   front_is_header = front_is 48 old.bytes (shard_header_bytes h) (bytes_left mid) (length-shard_header_bytes h) begins
@@ -115,11 +115,11 @@ module _ (old start mid : Source) (h : MDBShardFileHeader) (first : start ≡ mo
     no_seek new f e fails from = device_failed new 1 f e (omega arith) (subst (λ s. Fails s new 1 f) known.1 fails) from
 
     -- the last 200 bytes
-    module _ (end : Source) (sought : end ≡ moved asked (n - 200)) (enough : 200 ≤ n) where
-      there : end ≡ moved mid (n - 200)
-      there = sought ∙ ap (λ s. moved s (n - 200)) known.1
+    module _ (end : Source) (sought : end ≡ after_seek asked (n - 200)) (enough : 200 ≤ n) where
+      there : end ≡ after_seek mid (n - 200)
+      there = sought ∙ ap (λ s. after_seek s (n - 200)) known.1
 
-      last_is : bytes_left (moved mid (n - 200)) ≡ last_bytes old.bytes
+      last_is : bytes_left (after_seek mid (n - 200)) ≡ last_bytes old.bytes
       last_is = λ i. drop ((known.0 ∙ ap length bytes_same) i - 200) (bytes_same i)
 
       size : 200 ≤ length old.bytes

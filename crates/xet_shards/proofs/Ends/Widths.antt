@@ -24,9 +24,9 @@ in_at_most : {X : Type 0} (b : Bool) (xs : List X) → length (if_included b xs)
 in_at_most b xs = grind arith
 
 -- those of any records that fit their sections, with any layout options
-pub fits_in_form : (files : List MDBFileInfo) (xorbs : List MDBXorbInfo) (options : LayoutOptions) → FitsSection file_records files → FitsSection xorb_records xorbs → IsHash options.key
+pub fits_with_options : (files : List MDBFileInfo) (xorbs : List MDBXorbInfo) (options : LayoutOptions) → FitsSection file_records files → FitsSection xorb_records xorbs → IsHash options.key
     → options.creation < 2 ^ 64 → options.expiry < 2 ^ 64 → FitsFooter (footer_value files xorbs options)
-fits_in_form files xorbs options files_in xorbs_in key creation expiry =
+fits_with_options files xorbs options files_in xorbs_in key creation expiry =
     let f = footer_value files xorbs options in
     let widths : All FitsRecord files = λ k r below. (files_in.stored k r below).widths in
     let few_files : length files ≤ 4294967295 = omega (arith, length-le-rows files, files_in.rows) in
@@ -54,5 +54,5 @@ expiry_fits expiry fits = grind arith
 
 pub fits_written : (s : Shard) (expiry : Option ℕ) → IsShard s → IfSome expiry (λ e. e < 2 ^ 64) → FitsFooter (info_value s expiry).metadata
 fits_written s expiry shard fits =
-    fits_in_form (values s.files) (values s.xorbs) (plain_options expiry) (files_fit s shard) (xorbs_fit s shard)
+    fits_with_options (values s.files) (values s.xorbs) (plain_options expiry) (files_fit s shard) (xorbs_fit s shard)
     (record { word0 = omega arith; word1 = omega arith; word2 = omega arith; word3 = omega arith }) (omega arith) (expiry_fits expiry fits)

@@ -13,8 +13,8 @@ use Rattle.std.proofs.lemmas.Grind.{flat_map-append}
 use Rattle.xet_base.specs.declared.error.CoreError.{CoreError}
 use Rattle.xet_base.specs.Errors.{CoreResult, IsWriteError}
 use Rattle.xet_base.specs.KeyedHash.{no_key}
-use Rattle.xet_base.specs.Source.{Source, ReadsBytes, advanced, bytes_left}
-use Rattle.xet_base.specs.InputLaws.{failed_after, advanced-advanced}
+use Rattle.xet_base.specs.Source.{Source, ReadsBytes, after_read, bytes_left}
+use Rattle.xet_base.specs.InputLaws.{failed_after, after_read-after_read}
 use Rattle.xet_base.proofs.Reading.{ReadsBytes-consumes}
 use Rattle.xet_records.specs.declared.file_structs.MDBFileInfo.{MDBFileInfo}
 use Rattle.xet_records.specs.declared.xorb_structs.MDBXorbInfo.{MDBXorbInfo}
@@ -22,7 +22,7 @@ use Rattle.xet_records.specs.RecordKind.{RecordKind, in_version, KindLaws}
 use Rattle.xet_records.specs.Reading.{ReadsBookend, CountsRecord, ReadsNextRecord, HasRead}
 use Rattle.xet_records.specs.ViewReading.{CountsStored, ReadsNextView}
 use Rattle.xet_records.specs.FileRecord.{file_records, file_records_in, FitsRecord}
-use Rattle.xet_records.specs.View.{aux_as_wanted, auxes_as_wanted}
+use Rattle.xet_records.specs.View.{with_aux_if, all_with_aux_if}
 use Rattle.xet_records.specs.declared.record_reader.FormatVersion.{FormatVersion}
 use Rattle.xet_records.specs.declared.record_reader.FormatVersion.TheVariants.{V3}
 use Rattle.xet_records.specs.Version.{IsVersion, version_of}
@@ -46,7 +46,7 @@ use Rattle.xet_shards.specs.Export.Rewriting.{HasSections}
 use Rattle.xet_shards.proofs.Ends.EndsUnique.{ends_of_layout}
 use Rattle.xet_shards.proofs.ShardInMemory.Files.{length-le-rows}
 use Rattle.xet_shards.proofs.Content.KeyedHashes.{keyed_section}
-use Rattle.xet_shards.proofs.Content.FilesWithoutAux.{section-aux_as_wanted}
+use Rattle.xet_shards.proofs.Content.FilesWithoutAux.{section-with_aux_if}
 use Rattle.xet_shards.proofs.Write.Layouts.{length-shard_header_bytes, length-shard_footer_bytes}
 use Rattle.xet_shards.proofs.Ends.Loading.{header_of}
 use Rattle.xet_shards.proofs.Read.SectionReading.{section_passed, section_fails}
@@ -68,16 +68,16 @@ if_included-section true files fits = fits
 if_included-section false files fits = record { stored = All-nil file_records.IsStored; rows = omega arith }
 
 -- what an export writes of files is all of them or none, and of xorbs all, under the key
-pub files_exported : (aux : Bool) (options : LayoutOptions) (files : List MDBFileInfo) → flat_map (exported_file aux options) files ≡ if_included options.file_table (auxes_as_wanted aux files)
+pub files_exported : (aux : Bool) (options : LayoutOptions) (files : List MDBFileInfo) → flat_map (exported_file aux options) files ≡ if_included options.file_table (all_with_aux_if aux files)
 files_exported aux options files = by_table options.file_table files ∙ ap (if_included options.file_table) (each aux files)
   where
-    by_table : (b : Bool) (rs : List MDBFileInfo) → flat_map (λ r. if_included b (aux_as_wanted aux r ∷ [])) rs ≡ if_included b (map (aux_as_wanted aux) rs)
+    by_table : (b : Bool) (rs : List MDBFileInfo) → flat_map (λ r. if_included b (with_aux_if aux r ∷ [])) rs ≡ if_included b (map (with_aux_if aux) rs)
     by_table true [] = refl
-    by_table true (r ∷ rs) = ap (λ xs. aux_as_wanted aux r ∷ xs) (by_table true rs)
+    by_table true (r ∷ rs) = ap (λ xs. with_aux_if aux r ∷ xs) (by_table true rs)
     by_table false [] = refl
     by_table false (r ∷ rs) = by_table false rs
 
-    each : (b : Bool) (rs : List MDBFileInfo) → map (aux_as_wanted b) rs ≡ auxes_as_wanted b rs
+    each : (b : Bool) (rs : List MDBFileInfo) → map (with_aux_if b) rs ≡ all_with_aux_if b rs
     each true rs = map-id rs
     each false rs = refl
 
@@ -202,11 +202,11 @@ writing_failed old new taken e read cause = record {
 }
 
 -- what is left after some bytes
-left_after : (s : Source) (n : ℕ) → bytes_left (advanced s n) ≡ drop n (bytes_left s)
+left_after : (s : Source) (n : ℕ) → bytes_left (after_read s n) ≡ drop n (bytes_left s)
 left_after s n = sym (drop-drop n s.at s.bytes)
 
 -- a section was not read or not written
-section_not_exported : {H R : Type 0} (K : RecordKind H R) (version : FormatVersion) (old mid new : Source) (n : ℕ) (e : CoreError) → mid ≡ advanced old n → HasHeader (bytes_left old)
+section_not_exported : {H R : Type 0} (K : RecordKind H R) (version : FormatVersion) (old mid new : Source) (n : ℕ) (e : CoreError) → mid ≡ after_read old n → HasHeader (bytes_left old)
     → (BadSection (in_version K version) (bytes_left mid) e → ExportCase (bytes_left old) e) → ExportsNoSection K version mid new e → ExportFails old new e
 section_not_exported K version old mid new n e at header bad (inl fails) = record {
   bytes = fails.bytes ∙ ap (λ (s : Source). s.bytes) at;
@@ -264,8 +264,8 @@ module _ {old s1 : Source} (h : MDBShardFileHeader) (taken : ReadsBytes old s1 (
   abbrev header_there : HasHeader (bytes_left old)
   header_there = header_of (bytes_left old) (bytes_left s1) h (ReadsBytes-consumes old s1 (shard_header_bytes h) taken) two
 
-  at_files : s1 ≡ advanced old 48
-  at_files = taken.after ∙ ap (advanced old) (length-shard_header_bytes h)
+  at_files : s1 ≡ after_read old 48
+  at_files = taken.after ∙ ap (after_read old) (length-shard_header_bytes h)
 
   files_left : bytes_left s1 ≡ drop 48 (bytes_left old)
   files_left = ap bytes_left at_files ∙ left_after old 48
@@ -283,11 +283,11 @@ module _ {old s1 : Source} (h : MDBShardFileHeader) (taken : ReadsBytes old s1 (
     file_section : IsSection (file_records_in version) (drop 48 (bytes_left old)) files
     file_section = subst (λ bs. IsSection (file_records_in version) bs files) files_left passed.section
 
-    at_xorbs : s2 ≡ advanced old (xorbs_after files)
+    at_xorbs : s2 ≡ after_read old (xorbs_after files)
     at_xorbs =
         let n = 48 * (total_rows file_records files + 1) in
         let sum : 48 + 48 * (total_rows file_records files + 1) ≡ xorbs_after files = omega arith in
-        passed.after ∙ ap (λ s. advanced s n) at_files ∙ advanced-advanced old 48 n ∙ ap (advanced old) sum
+        passed.after ∙ ap (λ s. after_read s n) at_files ∙ after_read-after_read old 48 n ∙ ap (after_read old) sum
 
     xorbs_left : bytes_left s2 ≡ drop (xorbs_after files) (bytes_left old)
     xorbs_left = ap bytes_left at_xorbs ∙ left_after old (xorbs_after files)
@@ -302,10 +302,10 @@ module _ {old s1 : Source} (h : MDBShardFileHeader) (taken : ReadsBytes old s1 (
       pub sections_there : HasSections (bytes_left old) files xorbs
       sections_there = record { header = header_there; file_section = file_section; xorb_section = subst (λ bs. IsSection xorb_records bs xorbs) xorbs_left rest.section }
 
-      at_end : s3 ≡ advanced old (xorbs_after files + 48 * (total_rows xorb_records xorbs + 1))
+      at_end : s3 ≡ after_read old (xorbs_after files + 48 * (total_rows xorb_records xorbs + 1))
       at_end =
           let n = 48 * (total_rows xorb_records xorbs + 1) in
-          rest.after ∙ ap (λ s. advanced s n) at_xorbs ∙ advanced-advanced old (xorbs_after files) n
+          rest.after ∙ ap (λ s. after_read s n) at_xorbs ∙ after_read-after_read old (xorbs_after files) n
 
       pub end_not_written : (e : CoreError) → IsWriteError e → ExportFails old s3 e
       end_not_written e cause = xorbs_not_exported s3 e (inr (record {
@@ -318,14 +318,14 @@ module _ {old s1 : Source} (h : MDBShardFileHeader) (taken : ReadsBytes old s1 (
       -- what is written of them
       module _ (aux : Bool) (options : LayoutOptions) where
         abbrev files_out : List MDBFileInfo
-        files_out = if_included options.file_table (auxes_as_wanted aux files)
+        files_out = if_included options.file_table (all_with_aux_if aux files)
 
         abbrev xorbs_out : List MDBXorbInfo
         xorbs_out = keyed_xorbs options.key xorbs
 
         files_fit : FitsSection file_records files_out
-        files_fit = if_included-section options.file_table (auxes_as_wanted aux files)
-            (section-aux_as_wanted aux files (fits_ever file_records version files (record { stored = file_section.records.are_stored; rows = file_section.records.rows })))
+        files_fit = if_included-section options.file_table (all_with_aux_if aux files)
+            (section-with_aux_if aux files (fits_ever file_records version files (record { stored = file_section.records.are_stored; rows = file_section.records.rows })))
 
         xorbs_fit : FitsSection xorb_records xorbs_out
         xorbs_fit = keyed_section options.key xorbs (record { stored = rest.section.records.are_stored; rows = rest.section.records.rows })

@@ -12,7 +12,7 @@ use Rattle.xet_base.specs.declared.merklehash.DataHash.{DataHash}
 use Rattle.xet_shards.specs.Write.Tables.{hash_in}
 use Rattle.std.specs.declared.io.Error.{Error}
 use Rattle.xet_base.specs.Errors.{FromDevice}
-use Rattle.xet_base.specs.Source.{Source, ReadsBytes, Fails, moved, bytes_left}
+use Rattle.xet_base.specs.Source.{Source, ReadsBytes, Fails, after_seek, bytes_left}
 use Rattle.xet_base.proofs.Reading.{ReadsBytes-consumes}
 use Rattle.xet_base.proofs.Search.{serves_still, serves_moved, serves_advanced}
 use Rattle.xet_records.specs.RecordKind.{RecordKind}
@@ -47,7 +47,7 @@ module _ {H R : Type 0} (K : RecordKind H R) (laws : KindLaws K) where
   info_no_seek offset row old new failure e fits fails is = search rules
 
   -- after a seek to a row
-  module _ (offset row : ℕ) (old mid new : Source) (fits : row_at offset row < 2 ^ 64) (sought : mid ≡ moved old (row_at offset row)) where
+  module _ (offset row : ℕ) (old mid new : Source) (fits : row_at offset row < 2 ^ 64) (sought : mid ≡ after_seek old (row_at offset row)) where
     left_is : bytes_left mid ≡ drop (row_at offset row) old.bytes
     left_is = ap (λ (s : Source). bytes_left s) sought
 

@@ -5,7 +5,7 @@ use Rattle.std.proofs.lemmas.Bool.{both_ways, eq-eqb}
 use Rattle.xet_base.specs.declared.error.CoreError.{CoreError}
 use Rattle.xet_base.specs.Errors.{CoreResult}
 use Rattle.xet_base.specs.Hash.{all_ones}
-use Rattle.xet_base.specs.Source.{Source, DeviceFailure, bytes_left, moved}
+use Rattle.xet_base.specs.Source.{Source, DeviceFailure, bytes_left, after_seek}
 use Rattle.xet_base.proofs.Reading.{ReadsBytes-consumes}
 use Rattle.xet_records.specs.declared.xorb_structs.XorbChunkSequenceHeader.{XorbChunkSequenceHeader}
 use Rattle.xet_records.specs.XorbRow.{xorb_header_row}
@@ -44,7 +44,7 @@ header_fails q some fails = record {
 module _ (q : QueryAt) {old mid : Source} {header : XorbChunkSequenceHeader} (some : false ≡ (length q.hashes == 0)) (read : ReadsHeaderAt q.section q.row old mid header)
     {b : Bool} (is : IsTrue b ↔ (header.xorb_hash ≡ all_ones)) where
   bytes_are : xorb_at q old.bytes ≡ xorb_header_row header ++ bytes_left mid
-  bytes_are = ReadsBytes-consumes (moved old (xorb_offset q)) mid (xorb_header_row header) read.taken
+  bytes_are = ReadsBytes-consumes (after_seek old (xorb_offset q)) mid (xorb_header_row header) read.taken
 
   bytes_same : mid.bytes ≡ old.bytes
   bytes_same = ap (λ (s : Source). s.bytes) read.taken.after

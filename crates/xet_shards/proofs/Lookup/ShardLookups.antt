@@ -37,12 +37,12 @@ one_of K laws d records hash None others =
 -- a lookup of a record among those of any kind that are looked up
 module _ {H R : Type 0} (K : RecordKind H R) (laws : KindLaws K) (d : R) (records : List R) (offset start count : ℕ) (old : Source)
     (is : IsLookedUp K d records offset start count old) where
-  pub lookup_in_form : (new : Source) (hash : DataHash) (r : Result (Option R) CoreError) → LooksUpRecord K (table_at old start count 4) offset hash old new r
+  pub lookup_with_options : (new : Source) (hash : DataHash) (r : Result (Option R) CoreError) → LooksUpRecord K (table_at old start count 4) offset hash old new r
       → MatchResult r (FoundAmong K records hash) (LookupFailsAmong K records hash old new)
-  lookup_in_form new hash (Ok answer) looks =
+  lookup_with_options new hash (Ok answer) looks =
       let found = answered K laws d records offset start count old is hash new answer looks.read in
       (found.0, one_of K laws d records hash answer found.1)
-  lookup_in_form new hash (Err e) looks = not_answered K laws d records offset start count old is hash new e looks.read
+  lookup_with_options new hash (Err e) looks = not_answered K laws d records offset start count old is hash new e looks.read
 
 -- a file that a lookup returns fits its header
 found_fits : (version : FormatVersion) (bytes : List ℕ) (offset : ℕ) (hash : DataHash) (answer : Option MDBFileInfo) (rows : List ℕ)

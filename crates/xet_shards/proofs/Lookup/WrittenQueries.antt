@@ -379,16 +379,16 @@ module _ {files : List MDBFileInfo} {xorbs : List MDBXorbInfo} {options : Layout
     query_costs new (Err e) (some, inl (refused, bounded)) = none_tried new new (chunk_search_costs files xorbs options old footer is with_table hash.word0 new bounded) refl
     query_costs new (Err e) (some, inr queries) = tries_cost new _ queries
 
-  pub query_in_form : All IsXorb xorbs → (qs : List DataHash) (new : Source) (r : CoreResult (Option Run))
+  pub query_with_options : All IsXorb xorbs → (qs : List DataHash) (new : Source) (r : CoreResult (Option Run))
       → QueryOutcome footer qs old new r → MatchResult r (RunAmong options.key qs xorbs) (DeviceFailure old new)
-  query_in_form good [] new (Ok answer) read = read.0
-  query_in_form good [] new (Err e) read = absurd read
-  query_in_form good (q ∷ qs) new (Ok answer) read =
+  query_with_options good [] new (Ok answer) read = read.0
+  query_with_options good [] new (Err e) read = absurd read
+  query_with_options good (q ∷ qs) new (Ok answer) read =
       subst (λ (f : MDBShardFileFooter). RunAmong f.chunk_hash_hmac_key (q ∷ qs) xorbs answer) is.footer_is (query_gives q qs new answer read)
-  query_in_form good (q ∷ qs) new (Err e) read = query_refuses q qs good new e read
+  query_with_options good (q ∷ qs) new (Err e) read = query_refuses q qs good new e read
 
-  pub query_costs_in_form : (qs : List DataHash) (new : Source) (r : CoreResult (Option Run))
+  pub query_costs_with_options : (qs : List DataHash) (new : Source) (r : CoreResult (Option Run))
       → QueryOutcome footer qs old new r → QueryCosts options.key qs xorbs old new
-  query_costs_in_form [] new (Ok answer) read = read.1
-  query_costs_in_form [] new (Err e) read = absurd read
-  query_costs_in_form (q ∷ qs) new r read = subst (λ (f : MDBShardFileFooter). QueryCosts f.chunk_hash_hmac_key (q ∷ qs) xorbs old new) is.footer_is (query_costs q qs new r read)
+  query_costs_with_options [] new (Ok answer) read = read.1
+  query_costs_with_options [] new (Err e) read = absurd read
+  query_costs_with_options (q ∷ qs) new r read = subst (λ (f : MDBShardFileFooter). QueryCosts f.chunk_hash_hmac_key (q ∷ qs) xorbs old new) is.footer_is (query_costs q qs new r read)

@@ -60,11 +60,11 @@ module _ {files : List MDBFileInfo} {xorbs : List MDBXorbInfo} {options : Layout
           → DeviceFailure old new e ⊎ (Absent e × (length x.chunks ≤ index))
       no_run_there Absent new e few refused = refuses_at stored q old there.0 there.1 fits few Absent new e refused
 
-      pub direct_in_form : size_of_chunks x ≤ 4294967295 → (new : Source) (r : CoreResult (Option Run)) → OutcomeAt (λ e. e ≡ InvalidArguments) q old new r
+      pub direct_with_options : size_of_chunks x ≤ 4294967295 → (new : Source) (r : CoreResult (Option Run)) → OutcomeAt (λ e. e ≡ InvalidArguments) q old new r
           → MatchResult r (RunInXorb options.key qs x index) (QueryFailsInXorb qs x index old new)
-      direct_in_form few new (Ok answer) outcome =
+      direct_with_options few new (Ok answer) outcome =
           subst (λ (f : MDBShardFileFooter). RunInXorb f.chunk_hash_hmac_key qs x index answer) is.footer_is (run_there answer outcome.answer)
-      direct_in_form few new (Err e) outcome = (outcome.refused.0, no_run_there (λ e. e ≡ InvalidArguments) new e few outcome.refused)
+      direct_with_options few new (Err e) outcome = (outcome.refused.0, no_run_there (λ e. e ≡ InvalidArguments) new e few outcome.refused)
 
   -- at the bookend after the last
   module _ {row : ℕ} (at : row ≡ total_rows xorb_records xorbs) (qs : List DataHash) (index : ℕ) where

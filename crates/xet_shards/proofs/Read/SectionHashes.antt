@@ -7,8 +7,8 @@ use Rattle.xet_base.specs.declared.error.CoreError.{CoreError}
 use Rattle.xet_base.specs.declared.merklehash.DataHash.{DataHash}
 use Rattle.xet_base.specs.Hash.{hash_cmp}
 use Rattle.xet_base.specs.KeyedHash.{no_key}
-use Rattle.xet_base.specs.InputLaws.{advanced-advanced}
-use Rattle.xet_base.specs.Source.{Source, ReadsBytes, DeviceFailure, FailedBy, advanced, bytes_left}
+use Rattle.xet_base.specs.InputLaws.{after_read-after_read}
+use Rattle.xet_base.specs.Source.{Source, ReadsBytes, DeviceFailure, FailedBy, after_read, bytes_left}
 use Rattle.xet_base.proofs.HashOrder.{hash_cmp-IsTotalOrder}
 use Rattle.xet_base.proofs.Lists.{rest_is}
 use Rattle.xet_base.proofs.Reading.{ReadsBytes-consumes}
@@ -61,7 +61,7 @@ pub record ReadsHashes (old new : Source) (hashes : List DataHash) : Type 0 wher
   pub header : HasHeader (bytes_left old)
   pub files : List MDBFileInfo
   pub section : IsSection (file_records_in header.version) (drop 48 (bytes_left old)) files
-  pub after : new ≡ advanced old (xorbs_after files)
+  pub after : new ≡ after_read old (xorbs_after files)
   pub hashes_are : hashes ≡ map (hash_in file_records) files
 
 -- the bytes after a header that was read
@@ -74,14 +74,14 @@ file_hashes old new found read =
     let version = version_of read.header.version in
     let taken = read.ranges.1 in
     let files = taken.stored in
-    let at : mid ≡ advanced old 48 = read.header_taken.after ∙ ap (advanced old) (length-shard_header_bytes read.header) in
+    let at : mid ≡ after_read old 48 = read.header_taken.after ∙ ap (after_read old) (length-shard_header_bytes read.header) in
     let n = 48 * (total_rows file_records files + 1) in
     let sum : 48 + 48 * (total_rows file_records files + 1) ≡ xorbs_after files = omega arith in
     record {
       header = header_of (bytes_left old) (bytes_left mid) read.header (ReadsBytes-consumes old mid (shard_header_bytes read.header) read.header_taken) read.version;
       files = files;
       section = subst (λ bs. IsSection (file_records_in version) bs files) (sym (after_header old mid read.header read.header_taken)) taken.section;
-      after = taken.after ∙ ap (λ s. advanced s n) at ∙ advanced-advanced old 48 n ∙ ap (advanced old) sum;
+      after = taken.after ∙ ap (λ s. after_read s n) at ∙ after_read-after_read old 48 n ∙ ap (after_read old) sum;
       hashes_are = hashes_of_section (file_records_in version) (files_laws version) ranges_at (λ (r : FileRanges). r.0) (λ at r. refl) mid new found files taken.section read.ranges;
     }
 

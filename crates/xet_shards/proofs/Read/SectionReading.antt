@@ -5,7 +5,7 @@ use Rattle.std.proofs.lemmas.List.Sums.{sum_by-cons}
 use Rattle.xet_base.specs.declared.error.CoreError.{CoreError}
 use Rattle.std.specs.declared.io.Error.{Error}
 use Rattle.xet_base.specs.Errors.{FromDevice}
-use Rattle.xet_base.specs.Source.{Source, ReadsBytes, Fails, FailedBy, ReadCase, ReadFails, advanced, bytes_left}
+use Rattle.xet_base.specs.Source.{Source, ReadsBytes, Fails, FailedBy, ReadCase, ReadFails, after_read, bytes_left}
 use Rattle.xet_base.specs.InputLaws.{ReadsBytes-trans}
 use Rattle.xet_base.proofs.Reading.{ReadsBytes-consumes, lacks_left}
 use Rattle.xet_records.specs.RecordKind.{RecordKind}
@@ -125,7 +125,7 @@ module _ {H R : Type 0} (K : RecordKind H R) (laws : KindLaws K) where
 
     -- the section of the records that were read, whose bookend was read after them
     pub section_passed : (new : Source) → ReadsBookend K (ReadsBytes now new)
-        → IsSection K (bytes_left start) read.stored × (new ≡ advanced start (48 * (sum_by K.row_count read.stored + 1)))
+        → IsSection K (bytes_left start) read.stored × (new ≡ after_read start (48 * (sum_by K.row_count read.stored + 1)))
     section_passed new last =
         let records_bytes = flat_map K.record_bytes read.stored in
         let bookend = K.header_bytes last.header in
@@ -137,7 +137,7 @@ module _ {H R : Type 0} (K : RecordKind H R) (laws : KindLaws K) where
           length-all_record_bytes K.record_bytes K.row_count K.IsStored (length-record_bytes K laws) read.stored read.are_stored,
         ) in (
           search (rules, holds, ReadsBytes-consumes now new bookend last.taken),
-          (ReadsBytes-trans start now new records_bytes bookend read.taken last.taken).after ∙ ap (advanced start) size,
+          (ReadsBytes-trans start now new records_bytes bookend read.taken last.taken).after ∙ ap (after_read start) size,
         )
 
     pub section_ends : (new : Source) → ReadsBookend K (ReadsBytes now new) → StreamsSection K start new found

@@ -9,7 +9,7 @@ use Rattle.std.proofs.lemmas.Grind.{common_steps, flat_map-append}
 use Rattle.std.proofs.Math.Nat.{mul-suc, mul-le-mul_left}
 use Rattle.xet_base.specs.declared.error.CoreError.{CoreError}
 use Rattle.xet_base.specs.declared.error.CoreError.TheVariants.{OutOfMemory}
-use Rattle.xet_base.specs.Source.{Source, ReadsBytes, DeviceFailure, FailedBy, ReadCase, ReadFails, moved, bytes_left}
+use Rattle.xet_base.specs.Source.{Source, ReadsBytes, DeviceFailure, FailedBy, ReadCase, ReadFails, after_seek, bytes_left}
 use Rattle.xet_base.proofs.Lists.{parts_front}
 use Rattle.xet_base.specs.InputLaws.{ReadsBytes-trans}
 use Rattle.xet_base.proofs.Reading.{ReadsBytes-consumes}
@@ -37,9 +37,9 @@ module _ {T : Type 0} (row_bytes : T → List ℕ) (Fits : T → Type 0) (size :
       }
 
   -- what is at an offset, as far as its rows were read
-  module _ (old now : Source) (at count : ℕ) (found : List T) (read : HasReadRows row_bytes Fits size (moved old at) now count found) where
+  module _ (old now : Source) (at count : ℕ) (found : List T) (read : HasReadRows row_bytes Fits size (after_seek old at) now count found) where
     bytes_are_then : drop at old.bytes ≡ flat_map row_bytes found ++ bytes_left now
-    bytes_are_then = ReadsBytes-consumes (moved old at) now (flat_map row_bytes found) read.taken
+    bytes_are_then = ReadsBytes-consumes (after_seek old at) now (flat_map row_bytes found) read.taken
 
     pub table_read : count ≤ 4294967295 → ReadsTable row_bytes Fits size old now at count found
     table_read few =

@@ -8,7 +8,7 @@ use Rattle.std.proofs.lemmas.List.{length-map, map-append, map-id, nil_from_leng
 use Rattle.std.proofs.lemmas.List.Sums.{sum_by-append}
 use Rattle.std.proofs.lemmas.List.Elements.{All-append, All-cons, All-nil}
 use Rattle.xet_base.specs.declared.error.CoreError.{CoreError}
-use Rattle.xet_base.specs.Source.{Source, ReadsBytes, advanced, moved, bytes_left}
+use Rattle.xet_base.specs.Source.{Source, ReadsBytes, after_read, after_seek, bytes_left}
 use Rattle.xet_base.proofs.Reading.{ReadsBytes-consumes}
 use Rattle.xet_records.specs.declared.xorb_structs.MDBXorbInfo.{MDBXorbInfo}
 use Rattle.xet_records.specs.declared.xorb_structs.XorbChunkSequenceEntry.{XorbChunkSequenceEntry}
@@ -73,18 +73,18 @@ more_hashes stop start now new found left after next before read =
     rows_of b = omega (arith, b.read.rows, ap (total_rows xorb_records) (sym (map-id b.read.stored) ∙ b.read.returned))
 
 -- after the xorbs that were read
-module _ (stop : ℕ) (old now : Source) (at : ℕ) (found : List (ℕ × (ℕ × ℕ))) (left : ℕ) (before : HasReadHashes stop (moved old at) now found left) where
+module _ (stop : ℕ) (old now : Source) (at : ℕ) (found : List (ℕ × (ℕ × ℕ))) (left : ℕ) (before : HasReadHashes stop (after_seek old at) now found left) where
   -- they are returned as they are
   same_xorbs : before.read.stored ≡ before.xorbs
   same_xorbs = sym (map-id before.read.stored) ∙ before.read.returned
 
   -- these xorbs are there
-  holds : HoldsRecords xorb_records (bytes_left (moved old at)) before.xorbs (bytes_left now)
-  holds = subst (λ xorbs. HoldsRecords xorb_records (bytes_left (moved old at)) xorbs (bytes_left now)) same_xorbs
-      (record { are_stored = before.read.are_stored; rows = omega (arith, before.read.rows); bytes_are = ReadsBytes-consumes (moved old at) now (flat_map xorb_record_bytes before.read.stored) before.read.taken })
+  holds : HoldsRecords xorb_records (bytes_left (after_seek old at)) before.xorbs (bytes_left now)
+  holds = subst (λ xorbs. HoldsRecords xorb_records (bytes_left (after_seek old at)) xorbs (bytes_left now)) same_xorbs
+      (record { are_stored = before.read.are_stored; rows = omega (arith, before.read.rows); bytes_are = ReadsBytes-consumes (after_seek old at) now (flat_map xorb_record_bytes before.read.stored) before.read.taken })
 
   at_is : now.at ≡ at + 48 * total_rows xorb_records before.xorbs
-  at_is = offset_after xorb_records xorb_laws (moved old at) now before.xorbs left before.read
+  at_is = offset_after xorb_records xorb_laws (after_seek old at) now before.xorbs left before.read
 
   left_is : left ≡ rows_left xorb_records before.xorbs
   left_is = omega (arith, before.read.rows, ap (total_rows xorb_records) same_xorbs)
@@ -92,14 +92,14 @@ module _ (stop : ℕ) (old now : Source) (at : ℕ) (found : List (ℕ × (ℕ �
   -- the bookend, or the stop
   pub hashes_end : (new : Source) → ((now.at < stop) × ReadsBookend xorb_records (ReadsBytes now new)) ⊎ ((stop ≤ now.at) × (new ≡ now)) → ReadsHashes old new at stop found
   hashes_end new (inl (below, last)) =
-      let ended = section_ends xorb_records xorb_laws (moved old at) now before.xorbs left before.read new last in
+      let ended = section_ends xorb_records xorb_laws (after_seek old at) now before.xorbs left before.read new last in
       let same : ended.stored ≡ before.xorbs = sym (map-id ended.stored) ∙ ended.returned in
       record {
         xorbs = before.xorbs;
         rest = ended.section.rest;
-        records = subst (λ xorbs. HoldsRecords xorb_records (bytes_left (moved old at)) xorbs ended.section.rest) same ended.section.records;
+        records = subst (λ xorbs. HoldsRecords xorb_records (bytes_left (after_seek old at)) xorbs ended.section.rest) same ended.section.records;
         before = before.before;
-        end = inl (omega (arith, below, at_is), ended.section.bookend, ended.after ∙ ap (λ xorbs. advanced (moved old at) (48 * (total_rows xorb_records xorbs + 1))) same);
+        end = inl (omega (arith, below, at_is), ended.section.bookend, ended.after ∙ ap (λ xorbs. after_read (after_seek old at) (48 * (total_rows xorb_records xorbs + 1))) same);
         hashes = before.hashes;
       }
   hashes_end new (inr (past, same)) =
@@ -109,7 +109,7 @@ module _ (stop : ℕ) (old now : Source) (at : ℕ) (found : List (ℕ × (ℕ �
         rest = bytes_left now;
         records = holds;
         before = before.before;
-        end = inr (omega (arith, past, at_is), same ∙ before.read.taken.after ∙ ap (advanced (moved old at)) (size ∙ ap (λ xorbs. 48 * total_rows xorb_records xorbs) same_xorbs));
+        end = inr (omega (arith, past, at_is), same ∙ before.read.taken.after ∙ ap (after_read (after_seek old at)) (size ∙ ap (λ xorbs. 48 * total_rows xorb_records xorbs) same_xorbs));
         hashes = before.hashes;
       }
 
@@ -129,4 +129,4 @@ module _ (old new : Source) (at stop : ℕ) (xorbs : List MDBXorbInfo) (section 
       let chunks : MDBXorbInfo → ℕ = λ x. length x.chunks in
       read.hashes ∙ no_chunks_no_hashes read.xorbs (omega (arith, none, ap total_chunks more.1, sum_by-append chunks read.xorbs more.0))
       ∙ ap (map triple_of) (sym (nil_from_length (chunk_table xorbs) (length-chunk_table xorbs ∙ none)))
-  no_hashes_read (Err e) none fails = why_not xorb_records xorb_laws (moved old at) new xorbs section e (search (rules, fails.cause))
+  no_hashes_read (Err e) none fails = why_not xorb_records xorb_laws (after_seek old at) new xorbs section e (search (rules, fails.cause))

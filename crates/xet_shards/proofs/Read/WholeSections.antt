@@ -16,7 +16,7 @@ use Rattle.xet_shards.proofs.Ends.EndsUnique.{ends_of_layout}
 use Rattle.xet_shards.proofs.Ends.Loading.{one_version}
 use Rattle.xet_shards.proofs.Write.Sections.{files_laws, fits_ever}
 use Rattle.xet_shards.proofs.Read.SectionUnique.{only_list, section_or_passes, section_or_cut}
-use Rattle.xet_shards.proofs.Ends.Widths.{fits_in_form}
+use Rattle.xet_shards.proofs.Ends.Widths.{fits_with_options}
 
 -- the layout options that header and footer of a layout name have the version of its own
 pub version_again : (files : List MDBFileInfo) (xorbs : List MDBXorbInfo) (options : LayoutOptions) → (options_of (info_of files xorbs options)).version ≡ options.version
@@ -25,7 +25,7 @@ version_again files xorbs options = version_known options.version
 pub layout_ends : (files : List MDBFileInfo) (xorbs : List MDBXorbInfo) (options : LayoutOptions) → FitsSection (file_records_in options.version) files → FitsSection xorb_records xorbs → IsHash options.key
     → options.creation < 2 ^ 64 → options.expiry < 2 ^ 64 → HasHeaderAndFooter (layout_of files xorbs options) (info_of files xorbs options)
 layout_ends files xorbs options files_fit xorbs_fit key creation expiry =
-    ends_of_layout files xorbs options (fits_in_form files xorbs options (fits_ever file_records options.version files files_fit) xorbs_fit key creation expiry)
+    ends_of_layout files xorbs options (fits_with_options files xorbs options (fits_ever file_records options.version files files_fit) xorbs_fit key creation expiry)
 
 module _ (bytes : List ℕ) (files : List MDBFileInfo) (xorbs : List MDBXorbInfo) (have : HasSections bytes files xorbs) (header : HasHeader bytes) where
   files_there : IsSection (file_records_in header.version) (drop 48 bytes) files

@@ -11,7 +11,7 @@ use Rattle.xet_base.specs.Hash.{hash_cmp}
 use Rattle.xet_base.proofs.HashOrder.{hash_cmp-IsTotalOrder, hash_cmp-IsAntisymmetric, same_key}
 use Rattle.xet_records.specs.declared.file_structs.MDBFileInfo.{MDBFileInfo}
 use Rattle.xet_records.specs.FileRecord.{IsWellFormed}
-use Rattle.xet_records.specs.Merging.{merged}
+use Rattle.xet_records.specs.Merging.{merged_file}
 use Rattle.xet_records.proofs.Merging.{merged_well_formed}
 use Rattle.xet_shards.specs.Content.Shard.{FileMap, file_hash_of}
 use Rattle.xet_shards.specs.Content.Joining.{entry, either_file}
@@ -63,7 +63,7 @@ pub can_join_more : (es fs : List (DataHash × MDBFileInfo)) (e : DataHash × MD
 can_join_more es fs e b push before new = subst (λ gs. CanJoinEntries gs b) (sym push) (All-push (λ d. (s : MDBFileInfo) → get b d.0 ≡ Some s → CanJoinFile d.1 s) es e before new)
 
 -- the record that is put where a store has the file
-pub joined_file : (o : Option MDBFileInfo) (own file joined : MDBFileInfo) → Some own ≡ o → joined ≡ merged own file → IsWellFormed own → IsWellFormed file → CanJoinFile own file → file_hash_of own ≡ file_hash_of file → IsJoinedFile o file joined
+pub joined_file : (o : Option MDBFileInfo) (own file joined : MDBFileInfo) → Some own ≡ o → joined ≡ merged_file own file → IsWellFormed own → IsWellFormed file → CanJoinFile own file → file_hash_of own ≡ file_hash_of file → IsJoinedFile o file joined
 joined_file o own file joined there is own_formed formed can hash =
     record {
       file = ap Some is ∙ ap (λ p. either_file p (Some file)) there;

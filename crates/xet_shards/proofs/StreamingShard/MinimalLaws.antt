@@ -15,8 +15,8 @@ use Rattle.xet_records.proofs.Merging.{announces-flags_of}
 use Rattle.xet_records.specs.XorbRow.{is_marked, with_mark}
 use Rattle.xet_records.specs.declared.file_structs.view.KeptParts.{KeptParts}
 use Rattle.xet_records.specs.declared.file_structs.rows.FileDataSequenceEntry.{FileDataSequenceEntry}
-use Rattle.xet_records.specs.View.{as_wanted, without_verification, without_aux, aux_as_wanted, as_kept}
-use Rattle.xet_records.proofs.KeptParts.{cleared, segments_kept, keeping-again}
+use Rattle.xet_records.specs.View.{with_verification_if, without_verification, without_aux, with_aux_if, as_kept}
+use Rattle.xet_records.proofs.KeptParts.{cleared, segments_kept, with_parts_if-again}
 use Rattle.xet_shards.specs.declared.streaming_shard.file_start.FileStart.{FileStart}
 use Rattle.xet_shards.specs.StreamingShard.MinimalShard.{start_cmp, start_of_file, is_start, chunk_of, marked_if, mark_starts, is_eligible, eligible_in, ascending_hashes, eligible_hashes}
 
@@ -77,10 +77,10 @@ and_false : (b : Bool) → (b && false) ≡ false
 and_false true = refl
 and_false false = refl
 
-all_wanted : (r : MDBFileInfo) → as_wanted true r ≡ r
+all_wanted : (r : MDBFileInfo) → with_verification_if true r ≡ r
 all_wanted r = ap (λ b. if b then without_verification r else r) (and_false (has_verification r.metadata.file_flags))
 
-none_left : (r : MDBFileInfo) → has_verification r.metadata.file_flags ≡ false → as_wanted false r ≡ r
+none_left : (r : MDBFileInfo) → has_verification r.metadata.file_flags ≡ false → with_verification_if false r ≡ r
 none_left r none = ap (λ b. if b && true then without_verification r else r) none
 
 -- so are auxiliary rows
@@ -88,26 +88,26 @@ without_aux-again : (r : MDBFileInfo) → without_aux (without_aux r) ≡ withou
 without_aux-again r =
     let flags = with_flag AuxExt false r.metadata.file_flags in
     let same : with_flag AuxExt false flags ≡ flags = ap (λ (b : Bool). flags - (if b then 536870912 else 0) + 0) (cleared r.metadata.file_flags AuxExt) ∙ omega arith in
-    keeping-again (all_but AuxExt) (without_aux r).metadata r (without_aux (without_aux r)).metadata (λ i. record r.metadata { file_flags = same i })
+    with_parts_if-again (all_but AuxExt) (without_aux r).metadata r (without_aux (without_aux r)).metadata (λ i. record r.metadata { file_flags = same i })
 
-none_verified : (r : MDBFileInfo) → has_verification (as_wanted false r).metadata.file_flags ≡ false
+none_verified : (r : MDBFileInfo) → has_verification (with_verification_if false r).metadata.file_flags ≡ false
 none_verified r = either (has_verification r.metadata.file_flags) refl
   where
     either : (b : Bool) → has_verification r.metadata.file_flags ≡ b → has_verification (if b && true then without_verification r else r).metadata.file_flags ≡ false
     either true is = announces-flags_of (λ part. all_but Verification part && announces r.metadata.file_flags part) Verification
     either false is = is
 
-wanted_again : (wanted aux : Bool) (r : MDBFileInfo) → as_wanted wanted (aux_as_wanted aux (as_wanted wanted r)) ≡ aux_as_wanted aux (as_wanted wanted r)
-wanted_again true aux r = all_wanted (aux_as_wanted aux (as_wanted true r))
-wanted_again false true r = none_left (as_wanted false r) (none_verified r)
-wanted_again false false r = none_left (without_aux (as_wanted false r)) (cleared (as_wanted false r).metadata.file_flags Verification ∙ none_verified r)
+wanted_again : (wanted aux : Bool) (r : MDBFileInfo) → with_verification_if wanted (with_aux_if aux (with_verification_if wanted r)) ≡ with_aux_if aux (with_verification_if wanted r)
+wanted_again true aux r = all_wanted (with_aux_if aux (with_verification_if true r))
+wanted_again false true r = none_left (with_verification_if false r) (none_verified r)
+wanted_again false false r = none_left (without_aux (with_verification_if false r)) (cleared (with_verification_if false r).metadata.file_flags Verification ∙ none_verified r)
 
 kept_again : (kept : KeptParts) (r : MDBFileInfo) → as_kept kept (as_kept kept r) ≡ as_kept kept r
-kept_again kept r = ap (aux_as_wanted kept.aux_ext) (wanted_again kept.verification kept.aux_ext r) ∙ either kept.aux_ext
+kept_again kept r = ap (with_aux_if kept.aux_ext) (wanted_again kept.verification kept.aux_ext r) ∙ either kept.aux_ext
   where
-    either : (b : Bool) → aux_as_wanted b (aux_as_wanted b (as_wanted kept.verification r)) ≡ aux_as_wanted b (as_wanted kept.verification r)
+    either : (b : Bool) → with_aux_if b (with_aux_if b (with_verification_if kept.verification r)) ≡ with_aux_if b (with_verification_if kept.verification r)
     either true = refl
-    either false = without_aux-again (as_wanted kept.verification r)
+    either false = without_aux-again (with_verification_if kept.verification r)
 
 all_kept_again : (kept : KeptParts) (files : List MDBFileInfo) → map (as_kept kept) (map (as_kept kept) files) ≡ map (as_kept kept) files
 all_kept_again kept [] = refl

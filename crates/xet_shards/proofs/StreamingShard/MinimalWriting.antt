@@ -16,11 +16,11 @@ use Rattle.xet_records.proofs.Merging.{flags_fit}
 use Rattle.xet_records.specs.FileRecord.{file_records, row_count, has_verification, FitsRecord, IsStored}
 use Rattle.xet_records.specs.XorbRecord.{xorb_records, xorb_row_count, HasItsChunks}
 use Rattle.xet_records.specs.declared.file_structs.view.KeptParts.{KeptParts}
-use Rattle.xet_records.specs.View.{as_wanted, without_verification, aux_as_wanted, as_kept}
+use Rattle.xet_records.specs.View.{with_verification_if, without_verification, with_aux_if, as_kept}
 use Rattle.xet_records.specs.FileRow.{FitsHashRow}
 use Rattle.xet_records.specs.Part.{announces, all_but}
 use Rattle.xet_records.specs.declared.file_structs.part.OptionalPart.TheVariants.{Verification}
-use Rattle.xet_records.proofs.KeptParts.{rows-kept, keeping-all, without_aux-fits}
+use Rattle.xet_records.proofs.KeptParts.{rows-kept, with_parts_if-all, without_aux-fits}
 use Rattle.xet_shards.specs.declared.streaming_shard.file_start.FileStart.{FileStart}
 use Rattle.std.specs.Io.KnownBytes.{Appends}
 use Rattle.xet_shards.specs.declared.shard_format.write.written.WrittenFiles.{WrittenFiles}
@@ -88,8 +88,8 @@ rows_kept answers starts (x ∷ xs) kept (false, answer, rest, before, is) =
     omega (arith, ap (λ ks. total_rows xorb_records (map (mark_starts starts) ks)) is, sum_by-cons xorb_row_count x xs, rows_kept answers starts xs rest before)
 
 -- without verification rows a record has no more rows, and its numbers fit
-pub as_wanted-fits : (wanted : Bool) (r : MDBFileInfo) → FitsRecord r → FitsRecord (as_wanted wanted r)
-as_wanted-fits wanted r fits = either (has_verification r.metadata.file_flags && not wanted)
+pub with_verification_if-fits : (wanted : Bool) (r : MDBFileInfo) → FitsRecord r → FitsRecord (with_verification_if wanted r)
+with_verification_if-fits wanted r fits = either (has_verification r.metadata.file_flags && not wanted)
   where
     either : (b : Bool) → FitsRecord (if b then without_verification r else r)
     either true = record {
@@ -100,7 +100,7 @@ as_wanted-fits wanted r fits = either (has_verification r.metadata.file_flags &&
         unused = omega arith;
       };
       segments = fits.segments;
-      parts = keeping-all (all_but Verification) (without_verification r).metadata r FitsHashRow fits.parts;
+      parts = with_parts_if-all (all_but Verification) (without_verification r).metadata r FitsHashRow fits.parts;
     }
     either false = fits
 
@@ -108,9 +108,9 @@ as_wanted-fits wanted r fits = either (has_verification r.metadata.file_flags &&
 as_kept-fits : (kept : KeptParts) (r : MDBFileInfo) → FitsRecord r → FitsRecord (as_kept kept r)
 as_kept-fits kept r fits = either kept.aux_ext
   where
-    either : (b : Bool) → FitsRecord (aux_as_wanted b (as_wanted kept.verification r))
-    either true = as_wanted-fits kept.verification r fits
-    either false = without_aux-fits (as_wanted kept.verification r) (as_wanted-fits kept.verification r fits)
+    either : (b : Bool) → FitsRecord (with_aux_if b (with_verification_if kept.verification r))
+    either true = with_verification_if-fits kept.verification r fits
+    either false = without_aux-fits (with_verification_if kept.verification r) (with_verification_if-fits kept.verification r fits)
 
 pub as_kept-rows : (kept : KeptParts) (r : MDBFileInfo) → row_count (as_kept kept r) ≤ row_count r
 as_kept-rows kept r = rows-kept kept r

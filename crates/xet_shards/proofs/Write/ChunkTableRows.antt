@@ -14,7 +14,7 @@ use Rattle.xet_records.specs.declared.xorb_structs.XorbChunkSequenceEntry.{XorbC
 use Rattle.xet_records.specs.declared.xorb_structs.MDBXorbInfo.{MDBXorbInfo}
 use Rattle.xet_records.specs.XorbRecord.{xorb_records}
 use Rattle.xet_shards.specs.Write.Section.{total_rows, with_fronts}
-use Rattle.xet_shards.specs.Write.Tables.{ChunkTableRow, chunk_table_row_cmp, ascending, chunk_table_rows_from, chunk_table_rows}
+use Rattle.xet_shards.specs.Write.Tables.{ChunkTableRow, chunk_table_row_cmp, ascending_rows, chunk_table_rows_from, chunk_table_rows}
 use Rattle.xet_shards.proofs.Content.Maps.{entries-inserted, entries-empty}
 use Rattle.xet_shards.proofs.Write.Tables.{with_fronts-push}
 use Rattle.xet_shards.proofs.ShardInMemory.Walks.{flat_map-push}
@@ -78,8 +78,8 @@ chunk_table_rows_from-more row i cs d below =
     ap (λ n. chunk_table_rows_from row (take n cs)) next ∙ ap (chunk_table_rows_from row) (take-suc cs i d below) ∙ chunk_table_rows_from-push row (take i cs) (get_or cs i d)
     ∙ ap (λ n. chunk_table_rows_from row (take i cs) ++ chunk_table_row row n (get_or cs i d) ∷ []) count
 
-pub ascending-nil : ascending [] ≡ []
-ascending-nil = ap (map (λ e. e.0)) (entries-empty (Unit {0}) chunk_table_row_cmp)
+pub ascending_rows-nil : ascending_rows [] ≡ []
+ascending_rows-nil = ap (map (λ e. e.0)) (entries-empty (Unit {0}) chunk_table_row_cmp)
 
 -- the rows for one more xorb
 pub chunk_table_rows-push : (xorbs : List MDBXorbInfo) (r : MDBXorbInfo) → chunk_table_rows (xorbs ++ r ∷ []) ≡ chunk_table_rows xorbs ++ chunk_table_rows_from (total_rows xorb_records xorbs) r.chunks

@@ -126,9 +126,9 @@ module _ (files : List MDBFileInfo) (xorbs : List MDBXorbInfo) (options : Layout
       })
 
 -- the bytes of a shard
-pub shard_in_form : {s : Shard} {bytes : List ℕ} {info : MDBShardInfo}
+pub shard_with_options : {s : Shard} {bytes : List ℕ} {info : MDBShardInfo}
     → (is : IsBytesWithInfo s bytes info) → IsBytesWithOptions (values s.files) (values s.xorbs) (plain_options_in is.is_bytes.version is.is_bytes.expiry) bytes info.metadata
-shard_in_form {s} is = record {
+shard_with_options {s} is = record {
   files_fit = files_fit_in is.is_bytes.version s is.is_bytes.shard is.is_bytes.files;
   xorbs_fit = xorbs_fit s is.is_bytes.shard;
   bytes_are = is.is_bytes.bytes_are;
@@ -145,7 +145,7 @@ module _ (s : Shard) (shard : IsShard s) where
 pub files_of_shard : {s : Shard} {bytes : List ℕ} {info : MDBShardInfo}
     → (is : IsBytesWithInfo s bytes info) → IsBytesWithFileTable (values s.files) (values s.xorbs) (plain_options_in is.is_bytes.version is.is_bytes.expiry) bytes info
 files_of_shard {s} is = record {
-  with_options = shard_in_form is;
+  with_options = shard_with_options is;
   version = ap (λ (i : MDBShardInfo). version_of i.header.version) (info_of_bytes is) ∙ version_known is.is_bytes.version;
   ascends = files_ascend s is.is_bytes.shard;
   table = refl;

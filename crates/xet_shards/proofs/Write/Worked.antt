@@ -17,9 +17,9 @@ use Rattle.xet_shards.specs.Write.Section.{section_bytes}
 use Rattle.xet_base.specs.KeyedHash.{no_key}
 use Rattle.xet_shards.specs.ShardInMemory.ChunkQuery.{run_at}
 use Rattle.xet_shards.proofs.Write.Tables.{chunk_table_row_total}
-use Rattle.xet_shards.specs.Write.Tables.{ChunkTableRow, chunk_table_row_cmp, chunk_table_rows, ascending, chunk_table, chunk_table_row_bytes, table_bytes, chunk_table_bytes}
+use Rattle.xet_shards.specs.Write.Tables.{ChunkTableRow, chunk_table_row_cmp, chunk_table_rows, ascending_rows, chunk_table, chunk_table_row_bytes, table_bytes, chunk_table_bytes}
 use Rattle.xet_shards.specs.Write.Layout.{footer_value, layout_of, plain_options}
-use Rattle.xet_shards.proofs.Write.ChunkTableRows.{ascending-nil}
+use Rattle.xet_shards.proofs.Write.ChunkTableRows.{ascending_rows-nil}
 use Rattle.xet_shards.proofs.Content.Maps.{puts, entries-from_entries}
 use Rattle.xet_shards.proofs.Write.XorbLayouts.{length-layout_of}
 
@@ -52,7 +52,7 @@ offsets f = f.file_info_offset ∷ f.xorb_info_offset ∷ f.file_lookup_offset �
 abbrev sums : MDBShardFileFooter → List ℕ
 sums f = f.stored_bytes ∷ f.materialized_bytes ∷ f.stored_bytes_on_disk ∷ []
 
-ascending_is : (ps : List ChunkTableRow) → ascending ps ≡ map (λ e. e.0) (puts chunk_table_row_cmp (map (λ p. (p, tt {0})) ps))
+ascending_is : (ps : List ChunkTableRow) → ascending_rows ps ≡ map (λ e. e.0) (puts chunk_table_row_cmp (map (λ p. (p, tt {0})) ps))
 ascending_is ps = ap (map (λ e. e.0)) (entries-from_entries chunk_table_row_total (map (λ p. (p, tt {0})) ps))
 
 -- a chunk that is in two xorbs
@@ -68,7 +68,7 @@ chunks_of_q = ascending_is (chunk_table_rows (xorb 10 21 ∷ xorb 11 22 ∷ []))
 -- the empty shard
 pub offsets_of_empty : offsets (footer_value [] [] (plain_options None)) ≡ 48 ∷ 96 ∷ 144 ∷ 144 ∷ 144 ∷ 144 ∷ []
 unfolding section_bytes table_bytes chunk_table_bytes file_record_bytes file_rows_bytes header_row segment_row hash_bytes u64_bytes u32_bytes xorb_record_bytes xorb_header_row chunk_row
-offsets_of_empty = λ i. 48 ∷ 96 ∷ 144 ∷ 144 ∷ 144 ∷ (144 + length (flat_map chunk_table_row_bytes (ascending-nil i))) ∷ []
+offsets_of_empty = λ i. 48 ∷ 96 ∷ 144 ∷ 144 ∷ 144 ∷ (144 + length (flat_map chunk_table_row_bytes (ascending_rows-nil i))) ∷ []
 
 -- a xorb with one chunk, and a file
 pub offsets_of_p : offsets (footer_value (file 100 200 ∷ []) (xorb 10 21 ∷ []) (plain_options None)) ≡ 48 ∷ 192 ∷ 336 ∷ 348 ∷ 360 ∷ 376 ∷ []

@@ -4,7 +4,7 @@ use Rattle.std.specs.FinMap.{FinMap, get, find}
 use Rattle.xet_base.specs.declared.merklehash.DataHash.{DataHash}
 use Rattle.xet_base.specs.Hash.{hash_cmp}
 use Rattle.xet_records.specs.declared.file_structs.MDBFileInfo.{MDBFileInfo}
-use Rattle.xet_records.specs.Merging.{merged}
+use Rattle.xet_records.specs.Merging.{merged_file}
 
 -- the value of a hash, unless a map has the hash
 abbrev pub unless_in : {X : Type 0} → FinMap hash_cmp X → (DataHash → Option X) → DataHash → Option X
@@ -18,4 +18,4 @@ entry es q = find hash_cmp q es
 abbrev pub either_file : Option MDBFileInfo → Option MDBFileInfo → Option MDBFileInfo
 either_file None b = b
 either_file (Some a) None = Some a
-either_file (Some a) (Some b) = Some (merged a b)
+either_file (Some a) (Some b) = Some (merged_file a b)

@@ -4,7 +4,7 @@ use Rattle.std.proofs.lemmas.List.{length-map}
 use Rattle.xet_records.specs.declared.file_structs.MDBFileInfo.{MDBFileInfo}
 use Rattle.xet_records.specs.declared.xorb_structs.MDBXorbInfo.{MDBXorbInfo}
 use Rattle.xet_records.specs.FileRecord.{file_records, row_count}
-use Rattle.xet_records.specs.View.{aux_as_wanted}
+use Rattle.xet_records.specs.View.{with_aux_if}
 use Rattle.xet_records.proofs.KeptParts.{without_aux-rows}
 use Rattle.xet_records.specs.XorbRecord.{xorb_records, xorb_row_count}
 use Rattle.xet_shards.specs.Write.Section.{total_rows}
@@ -17,7 +17,7 @@ pub file_rows : (aux : Bool) (options : LayoutOptions) (r : MDBFileInfo)
 file_rows aux options r = by_table options.file_table aux
   where
     by_table : (b aux : Bool)
-        → total_rows file_records (if_included b (aux_as_wanted aux r ∷ [])) ≤ row_count r
+        → total_rows file_records (if_included b (with_aux_if aux r ∷ [])) ≤ row_count r
     by_table true true = omega arith
     by_table true false = omega (arith, without_aux-rows r)
     by_table false aux = omega arith

@@ -7,13 +7,13 @@ use Rattle.xet_base.specs.declared.error.CoreError.TheVariants.{InvalidArguments
 use Rattle.xet_base.specs.declared.merklehash.DataHash.{DataHash}
 use Rattle.xet_base.specs.Errors.{CoreResult, IsWriteError}
 use Rattle.xet_base.specs.KeyedHash.{no_key, under_key}
-use Rattle.xet_base.specs.Source.{Source, FailedBy, advanced, bytes_left}
+use Rattle.xet_base.specs.Source.{Source, FailedBy, after_read, bytes_left}
 use Rattle.xet_records.specs.declared.file_structs.MDBFileInfo.{MDBFileInfo}
 use Rattle.xet_records.specs.declared.xorb_structs.MDBXorbInfo.{MDBXorbInfo}
 use Rattle.xet_records.specs.declared.xorb_structs.XorbChunkSequenceEntry.{XorbChunkSequenceEntry}
 use Rattle.xet_records.specs.RecordKind.{RecordKind}
 use Rattle.xet_records.specs.FileRecord.{file_records, file_records_in}
-use Rattle.xet_records.specs.View.{auxes_as_wanted}
+use Rattle.xet_records.specs.View.{all_with_aux_if}
 use Rattle.xet_records.specs.declared.record_reader.FormatVersion.TheVariants.{V3}
 use Rattle.xet_records.specs.XorbRecord.{xorb_records}
 use Rattle.xet_shards.specs.declared.shard_format.ends.info.MDBShardInfo.{MDBShardInfo}
@@ -50,8 +50,8 @@ export_options key now valid files xorb_table chunk_table = record {
 }
 
 -- what an export with layout options writes of files and xorbs
-abbrev pub exported : List MDBFileInfo → List MDBXorbInfo → LayoutOptions → List ℕ
-exported files xorbs options =
+abbrev pub exported_bytes : List MDBFileInfo → List MDBXorbInfo → LayoutOptions → List ℕ
+exported_bytes files xorbs options =
     layout_of (if_included options.file_table files) (keyed_xorbs options.key xorbs) options
 
 -- the offset of the xorb section after a header and a section of files
@@ -73,18 +73,18 @@ pub record ExportsWith (aux : Bool) (options : LayoutOptions) (old new : Source)
   -- the xorb section is after the file section
   pub xorb_section : IsSection xorb_records (drop (xorbs_after files) (bytes_left old)) xorbs
   -- the source is after the xorb section
-  pub read : new ≡ advanced old (xorbs_after files + 48 * (total_rows xorb_records xorbs + 1))
-  pub written : Appends before after (exported (auxes_as_wanted aux files) xorbs options)
+  pub read : new ≡ after_read old (xorbs_after files + 48 * (total_rows xorb_records xorbs + 1))
+  pub written : Appends before after (exported_bytes (all_with_aux_if aux files) xorbs options)
   -- the number of bytes written is returned
-  pub count : n ≡ length (exported (auxes_as_wanted aux files) xorbs options)
+  pub count : n ≡ length (exported_bytes (all_with_aux_if aux files) xorbs options)
   -- the bytes written begin with a header and end in a footer
-  pub ends : HasHeaderAndFooter (exported (auxes_as_wanted aux files) xorbs options)
-      (info_of (if_included options.file_table (auxes_as_wanted aux files)) (keyed_xorbs options.key xorbs)
+  pub ends : HasHeaderAndFooter (exported_bytes (all_with_aux_if aux files) xorbs options)
+      (info_of (if_included options.file_table (all_with_aux_if aux files)) (keyed_xorbs options.key xorbs)
       options)
   -- the bytes written are with the options, as reading and lookups require
-  pub with_options : IsBytesWithOptions (if_included options.file_table (auxes_as_wanted aux files))
-      (keyed_xorbs options.key xorbs) options (exported (auxes_as_wanted aux files) xorbs options)
-      (footer_value (if_included options.file_table (auxes_as_wanted aux files))
+  pub with_options : IsBytesWithOptions (if_included options.file_table (all_with_aux_if aux files))
+      (keyed_xorbs options.key xorbs) options (exported_bytes (all_with_aux_if aux files) xorbs options)
+      (footer_value (if_included options.file_table (all_with_aux_if aux files))
       (keyed_xorbs options.key xorbs) options)
 
 -- a shard was exported with all rows

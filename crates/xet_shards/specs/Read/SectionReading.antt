@@ -4,7 +4,7 @@ use Rattle.std.specs.Prelude.{◌≡◌, ◌⊎◌, ℕ, ◌+◌, ◌-◌, ◌*�
 use Rattle.std.specs.declared.vec.Vec.{Vec}
 use Rattle.xet_base.specs.declared.error.CoreError.{CoreError}
 use Rattle.xet_base.specs.Errors.{CoreResult}
-use Rattle.xet_base.specs.Source.{Source, FailedBy, ReadCase, advanced, moved, bytes_left}
+use Rattle.xet_base.specs.Source.{Source, FailedBy, ReadCase, after_read, after_seek, bytes_left}
 use Rattle.xet_base.specs.Table.{IsBareInvalidShard}
 use Rattle.xet_records.specs.declared.file_structs.MDBFileInfo.{MDBFileInfo}
 use Rattle.xet_records.specs.declared.xorb_structs.MDBXorbInfo.{MDBXorbInfo}
@@ -65,12 +65,12 @@ pub record StreamsSection {H R : Type 0} (K : RecordKind H R) (old new : Source)
   pub stored : List R
   pub section : IsSection K (bytes_left old) stored
   pub returned : map K.as_read stored ≡ found
-  pub after : new ≡ advanced old (48 * (sum_by K.row_count stored + 1))
+  pub after : new ≡ after_read old (48 * (sum_by K.row_count stored + 1))
 
 -- the records of the section at an offset were read, by one seek and without a byte past the
 -- bookend
 abbrev pub ReadsSection : {H R : Type 0} → RecordKind H R → Source → Source → ℕ → List R → Type 0
-ReadsSection K old new at found = StreamsSection K (moved old at) new found
+ReadsSection K old new at found = StreamsSection K (after_seek old at) new found
 
 -- why records were not read, if the device did not fail: an allocation failed or the bytes are too
 -- few, or a header was refused
@@ -94,7 +94,7 @@ pub record SectionNotStreamed {H R : Type 0} (K : RecordKind H R) (old new : Sou
 -- the records of the section at an offset were not read, with one seek; the source may be at any
 -- offset
 abbrev pub SectionFails : {H R : Type 0} → RecordKind H R → Source → Source → ℕ → CoreError → Type 0
-SectionFails K old new at e = SectionNotStreamed K (moved old at) new e
+SectionFails K old new at e = SectionNotStreamed K (after_seek old at) new e
 
 -- all records of the section at an offset were read, or it failed
 abbrev pub ReadsAll : {H R Z : Type 0} → RecordKind H R → Source → Source → ℕ → CoreResult (Vec R Z)

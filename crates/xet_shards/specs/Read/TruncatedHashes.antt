@@ -3,7 +3,7 @@
 -- stop.
 use Rattle.std.specs.Prelude.{◌≡◌, ◌⊎◌, ℕ, ◌+◌, ◌*◌, ◌<◌, ◌≤◌, List, [], map, drop, All}
 use Rattle.xet_base.specs.declared.error.CoreError.{CoreError}
-use Rattle.xet_base.specs.Source.{Source, advanced, moved}
+use Rattle.xet_base.specs.Source.{Source, after_read, after_seek}
 use Rattle.xet_records.specs.declared.xorb_structs.MDBXorbInfo.{MDBXorbInfo}
 use Rattle.xet_records.specs.XorbRecord.{xorb_records}
 use Rattle.xet_shards.specs.Write.Section.{total_rows, with_fronts}
@@ -25,9 +25,9 @@ StartBefore at stop xorbs =
 abbrev pub WalkEnds : Source → Source → ℕ → ℕ → List MDBXorbInfo → List ℕ → Type 0
 WalkEnds old new at stop xorbs rest =
     ((at + 48 * total_rows xorb_records xorbs < stop) × BeginsWithBookend xorb_records rest
-    × (new ≡ advanced (moved old at) (48 * (total_rows xorb_records xorbs + 1))))
+    × (new ≡ after_read (after_seek old at) (48 * (total_rows xorb_records xorbs + 1))))
     ⊎ ((stop ≤ at + 48 * total_rows xorb_records xorbs)
-    × (new ≡ advanced (moved old at) (48 * total_rows xorb_records xorbs)))
+    × (new ≡ after_read (after_seek old at) (48 * total_rows xorb_records xorbs)))
 
 -- the hashes were read by one seek, and no byte past the end of the walk
 pub record ReadsHashes (old new : Source) (at stop : ℕ) (found : List (ℕ × (ℕ × ℕ))) : Type 0 where

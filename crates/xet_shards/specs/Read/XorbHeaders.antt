@@ -1,6 +1,6 @@
 -- The headers of the xorb section, each with its offset in the source.
 use Rattle.std.specs.Prelude.{ℕ, List}
-use Rattle.xet_base.specs.Source.{Source, moved}
+use Rattle.xet_base.specs.Source.{Source, after_seek}
 use Rattle.xet_records.specs.declared.xorb_structs.XorbChunkSequenceHeader.{XorbChunkSequenceHeader}
 use Rattle.xet_records.specs.declared.xorb_structs.MDBXorbInfo.{MDBXorbInfo}
 use Rattle.xet_records.specs.XorbRecord.{xorb_records}
@@ -16,4 +16,4 @@ xorb_headers at xorbs = kept_of xorb_records header_at at xorbs
 
 -- the section at an offset was read through, and these are its headers
 abbrev pub ReadsXorbHeaders : Source → Source → ℕ → List (XorbChunkSequenceHeader × ℕ) → Type 0
-ReadsXorbHeaders old new at found = KeepsSection xorb_records header_at (moved old at) new found
+ReadsXorbHeaders old new at found = KeepsSection xorb_records header_at (after_seek old at) new found

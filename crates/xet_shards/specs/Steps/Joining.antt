@@ -4,7 +4,7 @@ use Rattle.std.specs.FinMap.{get}
 use Rattle.xet_base.specs.declared.merklehash.DataHash.{DataHash}
 use Rattle.xet_records.specs.declared.file_structs.MDBFileInfo.{MDBFileInfo}
 use Rattle.xet_records.specs.FileRecord.{row_count, IsWellFormed}
-use Rattle.xet_records.specs.Merging.{IsSameFile, merged}
+use Rattle.xet_records.specs.Merging.{IsSameFile, merged_file}
 use Rattle.xet_shards.specs.Content.Shard.{FileMap, file_hash_of}
 use Rattle.xet_records.specs.Limits.{MAX_ROWS}
 use Rattle.xet_shards.specs.Content.Joining.{either_file}
@@ -12,7 +12,7 @@ use Rattle.xet_shards.specs.Content.Joining.{either_file}
 -- two records of one file; the rows of the first with the parts that only the second has fit `u32`
 pub record CanJoinFile (a b : MDBFileInfo) : Type 0 where
   pub same : IsSameFile a.metadata b.metadata
-  pub rows : row_count (merged a b) ≤ MAX_ROWS
+  pub rows : row_count (merged_file a b) ≤ MAX_ROWS
 
 -- the files that both maps have can be joined
 abbrev pub CanJoinFiles : FileMap → FileMap → Type 0

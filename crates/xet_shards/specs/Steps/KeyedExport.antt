@@ -3,11 +3,11 @@ use Rattle.std.specs.Prelude.{◌≡◌, ◌⊎◌, ℕ, ◌+◌, ◌*◌, Bool,
 use Rattle.std.specs.Io.KnownBytes.{Appends}
 use Rattle.xet_base.specs.declared.error.CoreError.{CoreError}
 use Rattle.xet_base.specs.Errors.{IsWriteError}
-use Rattle.xet_base.specs.Source.{Source, advanced, bytes_left}
+use Rattle.xet_base.specs.Source.{Source, after_read, bytes_left}
 use Rattle.xet_records.specs.declared.file_structs.MDBFileInfo.{MDBFileInfo}
 use Rattle.xet_records.specs.declared.xorb_structs.MDBXorbInfo.{MDBXorbInfo}
 use Rattle.xet_records.specs.RecordKind.{RecordKind, in_version}
-use Rattle.xet_records.specs.View.{aux_as_wanted}
+use Rattle.xet_records.specs.View.{with_aux_if}
 use Rattle.xet_records.specs.declared.record_reader.FormatVersion.{FormatVersion}
 use Rattle.xet_shards.specs.Write.Section.{section_bytes}
 use Rattle.xet_shards.specs.Read.SectionReading.{IsSection, SectionNotStreamed}
@@ -18,7 +18,7 @@ use Rattle.xet_shards.specs.Export.KeyedExport.{keyed_xorb}
 -- what an export with layout options writes for a file: the file, with or without its auxiliary
 -- row, or nothing if the options have no file table
 abbrev pub exported_file : Bool → LayoutOptions → MDBFileInfo → List MDBFileInfo
-exported_file aux options r = if_included options.file_table (aux_as_wanted aux r ∷ [])
+exported_file aux options r = if_included options.file_table (with_aux_if aux r ∷ [])
 
 -- what an export with layout options writes for a xorb: the xorb with its chunk hashes under the
 -- options' key
@@ -29,7 +29,7 @@ exported_xorb aux options r = keyed_xorb options.key r ∷ []
 pub record ReadsThroughSection {H R : Type 0} (K : RecordKind H R) (old new : Source) (stored : List R)
     : Type 0 where
   pub section : IsSection K (bytes_left old) stored
-  pub after : new ≡ advanced old (48 * (sum_by K.row_count stored + 1))
+  pub after : new ≡ after_read old (48 * (sum_by K.row_count stored + 1))
 
 -- such a section, of a version, was read, and a section was written of what each record becomes,
 -- and collected

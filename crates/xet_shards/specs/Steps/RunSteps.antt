@@ -3,7 +3,7 @@ use Rattle.std.specs.Prelude.{◌≡◌, ◌⊎◌, ℕ, ◌+◌, ◌*◌, ◌^�
 use Rattle.xet_base.specs.declared.error.CoreError.{CoreError}
 use Rattle.xet_base.specs.declared.merklehash.DataHash.{DataHash}
 use Rattle.xet_base.specs.Errors.{IsEndOfInput}
-use Rattle.xet_base.specs.Source.{Source, DeviceFailure, ReadsBytes, bytes_left, moved}
+use Rattle.xet_base.specs.Source.{Source, DeviceFailure, ReadsBytes, bytes_left, after_seek}
 use Rattle.xet_base.specs.Table.{NoFailure, IsBareInvalidShard}
 use Rattle.xet_records.specs.declared.xorb_structs.XorbChunkSequenceEntry.{XorbChunkSequenceEntry}
 use Rattle.xet_records.specs.declared.xorb_structs.XorbChunkSequenceHeader.{XorbChunkSequenceHeader}
@@ -16,7 +16,7 @@ use Rattle.xet_shards.specs.Lookup.RunReading.{DetermineRun, RunExceeds, RunIsTr
 -- the source went to a row of a section
 pub record SeeksToRow (offset row : ℕ) (old new : Source) : Type 0 where
   pub within : row_at offset row < 2 ^ 64
-  pub after : new ≡ moved old (row_at offset row)
+  pub after : new ≡ after_seek old (row_at offset row)
 
 -- the source did not go to a row of a section: the row's offset passes 64 bits, or the device
 -- failed
@@ -45,7 +45,7 @@ pub record RowNotRead (old new : Source) (e : CoreError) : Type 0 where
 pub record ReadsHeaderAt (offset row : ℕ) (old new : Source) (header : XorbChunkSequenceHeader)
     : Type 0 where
   pub fits : FitsXorbHeader header
-  pub taken : ReadsBytes (moved old (row_at offset row)) new (xorb_header_row header)
+  pub taken : ReadsBytes (after_seek old (row_at offset row)) new (xorb_header_row header)
 
 -- a row of a section was not read
 pub record RowFails (offset row : ℕ) (old new : Source) (e : CoreError) : Type 0 where

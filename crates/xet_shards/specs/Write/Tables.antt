@@ -52,13 +52,13 @@ chunk_table_rows xorbs =
     (with_fronts [] xorbs)
 
 -- rows in ascending order: the keys of the finite map that has each of them
-abbrev pub ascending : List ChunkTableRow → List ChunkTableRow
-ascending rows =
+abbrev pub ascending_rows : List ChunkTableRow → List ChunkTableRow
+ascending_rows rows =
     finite.keys (finite.from_entries {R = chunk_table_row_cmp} (map (λ row. (row, tt {0})) rows))
 
 -- the rows of the chunk table for all chunks of a list of xorbs, in ascending order
 abbrev pub chunk_table : List MDBXorbInfo → List ChunkTableRow
-chunk_table xorbs = ascending (chunk_table_rows xorbs)
+chunk_table xorbs = ascending_rows (chunk_table_rows xorbs)
 
 -- the bytes of a row of the file table or the xorb table
 abbrev pub start_row : ℕ × ℕ → List ℕ

@@ -7,7 +7,7 @@ ghost use Rattle.std.specs.FinMap.{is_sorted, from_sorted};
 ghost use Rattle.xet_base.specs.declared.merklehash.DataHash.{DataHash};
 ghost use Rattle.xet_base.specs.Hash.{hash_cmp};
 ghost use Rattle.xet_records.specs.FileRecord.{row_count, FitsItsHeader, FitsRecord, IsWellFormed};
-ghost use Rattle.xet_records.specs.Merging.{IsSameFile, merged};
+ghost use Rattle.xet_records.specs.Merging.{IsSameFile, merged_file};
 ghost use Rattle.xet_records.specs.Part.{rows_of, optional_rows};
 ghost use Rattle.xet_shards.specs.Steps.FileStore.{AreClear};
 ghost use Rattle.xet_shards.specs.Content.Shard.{AreFiles, file_hash_of};
@@ -234,14 +234,14 @@ pub fn joined_rows(file_info: &MDBFileInfo, twin: &MDBFileInfo) -> u64
     requires own { FitsItsHeader file_info.now }
     requires others { FitsItsHeader twin.now }
     requires same { IsSameFile file_info.now.metadata twin.now.metadata }
-    ensures { result ≡ row_count (merged file_info.now twin.now) }
+    ensures { result ≡ row_count (merged_file file_info.now twin.now) }
 {
     1 + file_info.metadata.mixed(&twin.metadata).rows_after()
 }
 
 // Whether the first of two records of a file has each optional part that the second has.
 fn has_its_parts(file_info: &MDBFileInfo, twin: &MDBFileInfo) -> bool
-    ensures { IsTrue result → merged file_info.now twin.now ≡ file_info.now }
+    ensures { IsTrue result → merged_file file_info.now twin.now ≡ file_info.now }
 {
     let own = file_info.metadata.parts();
     let other = twin.metadata.parts();

@@ -2,7 +2,7 @@ use Rattle.std.proofs.Common.{inl, inr, ◌+◌, ◌-◌, ◌<◌, List, length,
 use Rattle.std.specs.Prelude.{IfOk}
 use Rattle.std.proofs.lemmas.Bool.{cases_lt}
 use Rattle.std.proofs.lemmas.Result.{IfOk-weaker}
-use Rattle.xet_base.specs.Source.{moved}
+use Rattle.xet_base.specs.Source.{after_seek}
 use Rattle.xet_base.specs.Table.{IsSorted, Answers}
 use Rattle.xet_base.specs.Steps.Search.{table_in, ReadsKey, StopsWithin, FindsFrom, Counts, ReadsThrough, Runs}
 use Rattle.xet_base.proofs.Searching.{mid_serves, searches_start, searches_below, searches_above, searches_equal}
@@ -109,5 +109,5 @@ returns-clause-bounds g c sorted =
     let new = g.S.ShardSource.meaning c.collect.new.source in
     let same = ap (λ s. s.bytes) c.in_ok-seek_to.ensures ∙ c.loop-window.invariant.no_failure.bytes in
     bounded_passes t c.args.key _ w _ now c.args.results.now c.loop-window.results c.loop-window.count c.loop-window.invariant sorted mid new
-    (omega (arith, c.loop-window-test.false)) (c.in_ok-seek_to.ensures ∙ ap (moved now) c.row_offset.ensures)
+    (omega (arith, c.loop-window-test.false)) (c.in_ok-seek_to.ensures ∙ ap (after_seek now) c.row_offset.ensures)
     (subst (λ bytes. ReadsThrough (table_in c.args.range bytes) w.low (w.high - 1) mid new) same c.collect.ensures.passes)

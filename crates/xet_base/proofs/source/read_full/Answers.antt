@@ -1,8 +1,8 @@
 use Rattle.std.proofs.Common.{◌++◌, take, arith, sym, ap, ◌∙◌}
 use Rattle.std.proofs.lemmas.Grind.{common_steps}
-use Rattle.xet_base.specs.Source.{advanced, next_bytes}
+use Rattle.xet_base.specs.Source.{after_read, next_bytes}
 use Rattle.xet_base.proofs.Lists.{take-put_mid_part}
-use Rattle.xet_base.specs.InputLaws.{advanced-advanced, next_bytes-add}
+use Rattle.xet_base.specs.InputLaws.{after_read-after_read, next_bytes-add}
 use Rattle.xet_base.proofs.source.read_full.Goals as goal
 
 pub loop-filled-preserved : goal.loop-filled-preserved
@@ -16,7 +16,7 @@ loop-filled-preserved g c =
     record {
       within = grind (arith, common_steps);
       there = λ _. grind (arith, common_steps);
-      source = got.after ∙ ap (λ s. advanced s n) turn.source ∙ advanced-advanced start filled n;
+      source = got.after ∙ ap (λ s. after_read s n) turn.source ∙ after_read-after_read start filled n;
       front = take-put_mid_part filled _ n c.loop-filled.slice c.read_some-in-loop-filled.new.slice turn.within (grind (arith, common_steps))
           ∙ ap (λ xs. xs ++ take n c.read_some-in-loop-filled.new.slice) turn.front
           ∙ ap (λ xs. next_bytes start filled ++ xs) (got.filled ∙ ap (λ s. next_bytes s n) turn.source)

@@ -10,7 +10,7 @@ ghost use Rattle.xet_records.specs.Merging.{mixed_header};
 ghost use Rattle.xet_shards.specs.Write.Section.{total_rows, section_bytes};
 ghost use Rattle.xet_core_structures.specs.Steps.MergeJoin.{AscendingNotStreamed};
 ghost use Rattle.xet_core_structures.specs.Records.RecordPairs.{Combines};
-ghost use Rattle.xet_core_structures.specs.Records.ByteUnion.{mixed, IsEitherFile, IsEitherXorb};
+ghost use Rattle.xet_core_structures.specs.Records.ByteUnion.{mixed_file, IsEitherFile, IsEitherXorb};
 ghost use Rattle.xet_core_structures.specs.Steps.Placed.{MakesPlaced, MakesNothing, IsMergeStep, HaveNoListUnion};
 ghost use Rattle.xet_core_structures.specs.Steps.Placed.{Places, PlacesAll, ReadsPlaced, MayUnite, CountsRows};
 ghost use Rattle.xet_records.specs.Limits.{MAX_ROWS};
@@ -146,7 +146,7 @@ fn place_mix<'a>(
     ensures { MatchResult result
         (λ placed. (placed.header ≡ mixed_header first.now.header second.now.header)
         × ((r s : MDBFileInfo) → Places file_records first.now r
-        → Places file_records second.now s → Places file_records placed (mixed r s)))
+        → Places file_records second.now s → Places file_records placed (mixed_file r s)))
         (λ e. e ≡ OutOfMemory) }
 {
     let header = first.header.mixed(&second.header);
@@ -165,7 +165,7 @@ fn mixed_rows(
     requires { first.now.header.num_entries ≡ second.now.header.num_entries }
     ensures { MatchResult result
         (λ bytes. (r s : MDBFileInfo) → Places file_records first.now r
-        → Places file_records second.now s → bytes.items ≡ file_rows_bytes (mixed r s))
+        → Places file_records second.now s → bytes.items ≡ file_rows_bytes (mixed_file r s))
         (λ e. e ≡ OutOfMemory) }
 {
     let mut r1 = MemorySource::new(first.rows);

@@ -3,7 +3,7 @@
 ghost use Rattle.std.specs.Prelude.{◌≡◌, ◌≢◌, ℕ, List, IfOk, OnOk, IfErr, IsErrAnd};
 ghost use Rattle.std.specs.Io.KnownBytes.{Appends};
 ghost use Rattle.xet_base.specs.declared.error.CoreError.{CoreError};
-ghost use Rattle.xet_base.specs.Source.{moved, DeviceFailure};
+ghost use Rattle.xet_base.specs.Source.{after_seek, DeviceFailure};
 ghost use Rattle.xet_records.specs.declared.record_reader.FormatVersion.TheVariants.{V3};
 ghost use Rattle.xet_records.specs.Version.{version_of};
 ghost use Rattle.xet_records.specs.declared.row_copier.CopyFailure.TheVariants.{Input};
@@ -168,7 +168,7 @@ fn combine_at<
     out: &mut W,
 ) -> CopyResult<Sec>
     ensures { CombinesSections Sec.Record.kind at_1.version at_2.version Op.makes
-        (streams (moved (S.meaning r1.old) at_1.offset) (moved (T.meaning r2.old) at_2.offset)
+        (streams (after_seek (S.meaning r1.old) at_1.offset) (after_seek (T.meaning r2.old) at_2.offset)
         (W.contents out.old))
         (streams (S.meaning r1.new) (T.meaning r2.new) (W.contents out.new)) Sec.has_written
         result }
@@ -180,7 +180,7 @@ fn combine_at<
 
 // Moves a source to an offset.
 pub fn seek<S: ShardSource>(source: &mut S, offset: u64) -> Result<()>
-    ensures moved { OnOk result (S.meaning source.new ≡ moved (S.meaning source.old) offset) }
+    ensures moved { OnOk result (S.meaning source.new ≡ after_seek (S.meaning source.old) offset) }
     ensures bytes { (S.meaning source.new).bytes ≡ (S.meaning source.old).bytes }
     ensures causes { IfErr result (DeviceFailure (S.meaning source.old) (S.meaning source.new)) }
 {

@@ -128,7 +128,7 @@ impl MDBShardInfo {
             → IsBytesWithInfo s (S.meaning source.old).bytes self.now
             → MatchResult result (RunAmong no_key unkeyed_query_hashes.now (finite.values s.xorbs))
             (DeviceFailure (S.meaning source.old) (S.meaning source.new)) }
-        ensures in_form_costs { (files : List File) → (xorbs : List Xorb) → (options : LayoutOptions)
+        ensures costs_with_options { (files : List File) → (xorbs : List Xorb) → (options : LayoutOptions)
             → IsBytesWithOptions files xorbs options (S.meaning source.old).bytes self.now.metadata
             → options.chunk_table ≡ true
             → QueryCosts options.key unkeyed_query_hashes.now xorbs (S.meaning source.old)

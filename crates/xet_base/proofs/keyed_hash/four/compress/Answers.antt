@@ -1,5 +1,5 @@
 use Rattle.std.proofs.Common.{◌≡◌, ℕ, List, ap, ◌∙◌}
-use Rattle.xet_base.specs.KeyedHash.{mix_columns, mix_diagonals, permuted, state_after, message_after}
+use Rattle.xet_base.specs.KeyedHash.{mix_columns, mix_diagonals, next_message, state_after, message_after}
 use Rattle.xet_base.proofs.keyed_hash.four.compress.Goals as goal
 
 -- a round of equal states and messages
@@ -10,11 +10,11 @@ pub returns : goal.returns
 unfolding state_after message_after
 returns c j h =
     let second = c.permuted-second.ensures j h in
-    let third = c.permuted-third.ensures j h ∙ ap permuted second in
-    let fourth = c.permuted-fourth.ensures j h ∙ ap permuted third in
-    let fifth = c.permuted-fifth.ensures j h ∙ ap permuted fourth in
-    let sixth = c.permuted-sixth.ensures j h ∙ ap permuted fifth in
-    let seventh = c.permuted-seventh.ensures j h ∙ ap permuted sixth in
+    let third = c.permuted-third.ensures j h ∙ ap next_message second in
+    let fourth = c.permuted-fourth.ensures j h ∙ ap next_message third in
+    let fifth = c.permuted-fifth.ensures j h ∙ ap next_message fourth in
+    let sixth = c.permuted-sixth.ensures j h ∙ ap next_message fifth in
+    let seventh = c.permuted-seventh.ensures j h ∙ ap next_message sixth in
     let one = c.round-states.ensures j h in
     let two = c.round-states-2.ensures j h ∙ rounds _ _ _ _ one second in
     let three = c.round-states-3.ensures j h ∙ rounds _ _ _ _ two third in

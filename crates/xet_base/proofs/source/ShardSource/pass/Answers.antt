@@ -1,8 +1,8 @@
 use Rattle.std.proofs.Common.{◌++◌, take, arith, sym, ap, ◌∙◌, subst}
 use Rattle.std.proofs.lemmas.Grind.{common_steps}
 use Rattle.xet_base.specs.Bytes.{AreBytes}
-use Rattle.xet_base.specs.InputLaws.{advanced-advanced, next_bytes-add}
-use Rattle.xet_base.specs.Source.{advanced, next_bytes}
+use Rattle.xet_base.specs.InputLaws.{after_read-after_read, next_bytes-add}
+use Rattle.xet_base.specs.Source.{after_read, next_bytes}
 use Rattle.xet_base.proofs.Bytes.{append-bytes}
 use Rattle.xet_base.proofs.Reading.{passed_next}
 use Rattle.xet_base.proofs.source.ShardSource.pass.Goals as goal
@@ -18,7 +18,7 @@ loop-passed-preserved g c =
     record {
       within = grind (arith, common_steps);
       there = λ _. grind (arith, common_steps);
-      source = got.after ∙ ap (λ s. advanced s n) turn.source ∙ advanced-advanced start passed n;
+      source = got.after ∙ ap (λ s. after_read s n) turn.source ∙ after_read-after_read start passed n;
       bytes = subst AreBytes front (append-bytes (next_bytes start passed) (take n c.read_some.new.slice) turn.bytes c.all_bytes.ensures);
     }
 

@@ -7,7 +7,7 @@ use Rattle.std.proofs.lemmas.Option.{none-some, same_Some}
 use Rattle.xet_base.specs.declared.merklehash.DataHash.{DataHash}
 use Rattle.xet_records.specs.declared.file_structs.MDBFileInfo.{MDBFileInfo}
 use Rattle.xet_records.specs.FileRecord.{file_records, row_count, IsWellFormed}
-use Rattle.xet_records.specs.Merging.{IsSameFile, merged}
+use Rattle.xet_records.specs.Merging.{IsSameFile, merged_file}
 use Rattle.xet_shards.specs.Write.Section.{total_rows}
 use Rattle.xet_shards.proofs.ShardInMemory.Walks.{entry_turn, entry_turned, entry_end, entry_holds}
 use Rattle.xet_shards.specs.Steps.Joining.{CanJoinFile}
@@ -52,14 +52,14 @@ loop-file_hash-preserved c =
     let twin = get c.args.other.now c.in-Some.file_hash.now in
     let whole = entry_turn deref_pair _ c.loop-file_hash.yielded _ _ _ entry c.loop-file_hash.invariant.all c.in-Some.is c.next.ensures.steps in
     let push = map-append deref_pair c.loop-file_hash.yielded (entry ∷ []) in
-    let added : unwrap_or (option_map row_count twin) 0 + c.rows_added-rows.result ≡ row_count (with_twin merged file twin) = grind (arith, c.get-twin.ensures.value, c.rows_added-rows.ensures.rows) in
+    let added : unwrap_or (option_map row_count twin) 0 + c.rows_added-rows.result ≡ row_count (with_twin merged_file file twin) = grind (arith, c.get-twin.ensures.value, c.rows_added-rows.ensures.rows) in
     record {
       can = tt;
       finite = tt;
       all = entry_turned deref_pair _ c.loop-file_hash.yielded _ entry whole;
       joins = can_join_more _ _ _ c.args.other.now push c.loop-file_hash.invariant.joins
           (of_there (CanJoinFile file) c.get-twin.result _ c.get-twin.ensures.value (c.can_join_twin.ensures.0 c.if-not-can_join_twin.false));
-      rows = omega (arith, sum-overlay merged front _ c.in-Some.file_hash.now file push c.args.other.now (new_key _ _ _ _ whole c.requires.sorted) row_count, added);
+      rows = omega (arith, sum-overlay merged_file front _ c.in-Some.file_hash.now file push c.args.other.now (new_key _ _ _ _ whole c.requires.sorted) row_count, added);
       bound = omega (arith, sum-entries row_count front _ (c.in-Some.file_hash.now, file) push);
     }
 
@@ -68,6 +68,6 @@ returns c =
     let all = entry_end deref_pair _ c.loop-file_hash.yielded _ _ _ c.loop-file_hash.invariant.all c.in-None.is c.next.ensures.steps in (
       can_join_entries c.args.files.now.entries c.args.other.now c.requires.sorted (subst (λ es. CanJoinEntries es c.args.other.now) all c.loop-file_hash.invariant.joins),
       λ m is.
-          c.loop-file_hash.invariant.rows ∙ ap (λ es. total_rows file_records (values (overlay merged es c.args.other.now))) all
+          c.loop-file_hash.invariant.rows ∙ ap (λ es. total_rows file_records (values (overlay merged_file es c.args.other.now))) all
           ∙ ap (λ n. total_rows file_records (values n)) (sym (are_united_files c.args.files.now.entries c.args.other.now m is)),
     )

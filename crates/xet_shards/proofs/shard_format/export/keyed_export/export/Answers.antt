@@ -1,7 +1,7 @@
 use Rattle.std.proofs.Common.{refl, subst, arith}
 use Rattle.std.proofs.lemmas.Result.{err_from_is_err_and}
 use Rattle.std.specs.Io.KnownBytes.{Appends}
-use Rattle.xet_records.specs.View.{auxes_as_wanted}
+use Rattle.xet_records.specs.View.{all_with_aux_if}
 use Rattle.xet_shards.specs.Write.Layout.{if_included, shard_header_bytes}
 use Rattle.xet_shards.specs.Export.KeyedExport.{keyed_xorbs}
 use Rattle.xet_shards.proofs.Export.KeyedExport.{files_exported, xorbs_exported, section_exported, files_not_exported, xorbs_not_exported, header_not_written, end_not_written, widths_out, export_small, all_exported}
@@ -43,7 +43,7 @@ overflow_add-size g c =
     let files = section_exported _ (files_exported aux options) (rw c.format_version-version.ensures at c.in_ok-files.ensures) in
     let xorbs = section_exported _ (xorbs_exported aux options) c.in_ok-xorbs.ensures in
     let fit = widths_out h read.read read.known.1 files.passed xorbs.passed aux options in
-    let footer = c.in_ok-footer.ensures.footer (if_included options.file_table (auxes_as_wanted aux files.stored)) (keyed_xorbs options.key xorbs.stored) fit files.collected xorbs.collected in
+    let footer = c.in_ok-footer.ensures.footer (if_included options.file_table (all_with_aux_if aux files.stored)) (keyed_xorbs options.key xorbs.stored) fit files.collected xorbs.collected in
     omega (arith, export_small h read.read read.known.1 files.passed xorbs.passed aux options c.in_ok-footer.footer footer)
 
 pub returns : goal.returns
@@ -56,7 +56,7 @@ returns g c =
     let files = section_exported _ (files_exported aux options) (rw c.format_version-version.ensures at c.in_ok-files.ensures) in
     let xorbs = section_exported _ (xorbs_exported aux options) c.in_ok-xorbs.ensures in
     let fit = widths_out h read.read read.known.1 files.passed xorbs.passed aux options in
-    let files_out = if_included options.file_table (auxes_as_wanted aux files.stored) in
+    let files_out = if_included options.file_table (all_with_aux_if aux files.stored) in
     let xorbs_out = keyed_xorbs options.key xorbs.stored in
     let footer = c.in_ok-footer.ensures.footer files_out xorbs_out fit files.collected xorbs.collected in
     let header = subst (λ h. Appends (contents c.args.writer.now) (contents c.serialize.new.writer) (shard_header_bytes h)) c.of_version.ensures c.in_ok-serialize.ensures.bytes in

@@ -1,6 +1,6 @@
 use Rattle.std.proofs.Common.{ap, ◌∙◌}
 use Rattle.std.specs.FinMap.{get}
-use Rattle.xet_records.specs.Merging.{merged}
+use Rattle.xet_records.specs.Merging.{merged_file}
 use Rattle.xet_shards.specs.Steps.Joining.{CanJoinFile}
 use Rattle.xet_shards.proofs.ShardInMemory.FileUnions.{joined_file, of_some}
 use Rattle.xet_shards.proofs.shard_in_memory.file_store.FileStore.joined_with.Goals as goal
@@ -11,5 +11,5 @@ returns-clause-made c =
     let file = c.args.file_info.now in
     let can = of_some (λ r. CanJoinFile r file) (get c.args.self.now c.args.file_hash.now) own c.in-Some.ensures.value c.requires.joins in
     joined_file _ own file _ c.in-Some.ensures.value
-    (c.in_ok-merge_from.ensures.ok ∙ ap (λ r. merged r file) c.in_ok-joined.ensures.ok)
+    (c.in_ok-merge_from.ensures.ok ∙ ap (λ r. merged_file r file) c.in_ok-joined.ensures.ok)
     c.in-Some.ensures.well_formed c.requires.formed can can.same.file_hash

@@ -12,7 +12,7 @@ use Rattle.xet_shards.proofs.Write.Sections.{files_laws}
 use Rattle.xet_shards.specs.Write.Layout.{LayoutOptions, plain_options_in}
 use Rattle.xet_shards.specs.Write.WithOptions.{IsBytesWithFileTable}
 use Rattle.xet_shards.proofs.Write.WithOptions.{no_file, files_in, files_of_shard}
-use Rattle.xet_shards.proofs.Lookup.ShardLookups.{lookup_in_form, lookup_written, lookup_fits, bounds_ever}
+use Rattle.xet_shards.proofs.Lookup.ShardLookups.{lookup_with_options, lookup_written, lookup_fits, bounds_ever}
 use Rattle.xet_shards.proofs.Lookup.TableLookups.{IsLookedUp, lookup_bounded, collision_bounded}
 use Rattle.xet_shards.proofs.shard_format.ends.info.MDBShardInfo.get_file_reconstruction_info.Goals as goal
 
@@ -35,25 +35,25 @@ returns-clause-fits g c =
     lookup_fits (version_of c.args.self.now.header.version) _ _ c.args.hash.now (g.S.ShardSource.meaning c.args.source.now) (g.S.ShardSource.meaning c.look_up.new.source) c.look_up.result (returns-clause-looks g c)
 
 -- what the lookup costs, and what it does where eight files share the first word
-costs_in_form : (g : _) (c : goal.After-look_up g) (files : List MDBFileInfo) (xorbs : List MDBXorbInfo) (options : LayoutOptions)
+costs_with_options : (g : _) (c : goal.After-look_up g) (files : List MDBFileInfo) (xorbs : List MDBXorbInfo) (options : LayoutOptions)
     → IsBytesWithFileTable files xorbs options (g.S.ShardSource.meaning c.args.source.now).bytes c.args.self.now
     → WithinBounds file_records files c.args.hash.now.word0 (g.S.ShardSource.meaning c.args.source.now) (g.S.ShardSource.meaning c.look_up.new.source)
-costs_in_form g c files xorbs options is =
+costs_with_options g c files xorbs options is =
     bounds_ever file_records (version_of c.args.self.now.header.version) files _ _ _
     (lookup_bounded (files_of c.args.self.now) (files_laws (version_of c.args.self.now.header.version)) no_file files _ _ _ (g.S.ShardSource.meaning c.args.source.now) (looked g c files xorbs options is) (g.S.ShardSource.meaning c.look_up.new.source) c.args.hash.now c.look_up.result (returns-clause-looks g c))
 
-collision_in_form : (g : _) (c : goal.After-look_up g) (files : List MDBFileInfo) (xorbs : List MDBXorbInfo) (options : LayoutOptions)
+collision_with_options : (g : _) (c : goal.After-look_up g) (files : List MDBFileInfo) (xorbs : List MDBXorbInfo) (options : LayoutOptions)
     → IsBytesWithFileTable files xorbs options (g.S.ShardSource.meaning c.args.source.now).bytes c.args.self.now
     → IfErr c.look_up.result (λ e. e ≡ TruncatedHashCollision c.args.hash.now.word0
     → SearchWithinBounds file_records files c.args.hash.now.word0 (g.S.ShardSource.meaning c.args.source.now) (g.S.ShardSource.meaning c.look_up.new.source))
-collision_in_form g c files xorbs options is =
+collision_with_options g c files xorbs options is =
     collision_bounded (files_of c.args.self.now) (files_laws (version_of c.args.self.now.header.version)) no_file files _ _ _ (g.S.ShardSource.meaning c.args.source.now) (looked g c files xorbs options is) (g.S.ShardSource.meaning c.look_up.new.source) c.args.hash.now c.look_up.result (returns-clause-looks g c)
 
 pub returns-clause-with_options : goal.returns-clause-with_options
 returns-clause-with_options g c files xorbs options is = record {
-  answer = lookup_in_form (files_of c.args.self.now) (files_laws (version_of c.args.self.now.header.version)) no_file files _ _ _ (g.S.ShardSource.meaning c.args.source.now) (looked g c files xorbs options is) (g.S.ShardSource.meaning c.look_up.new.source) c.args.hash.now c.look_up.result (returns-clause-looks g c);
-  costs = costs_in_form g c files xorbs options is;
-  collision = collision_in_form g c files xorbs options is;
+  answer = lookup_with_options (files_of c.args.self.now) (files_laws (version_of c.args.self.now.header.version)) no_file files _ _ _ (g.S.ShardSource.meaning c.args.source.now) (looked g c files xorbs options is) (g.S.ShardSource.meaning c.look_up.new.source) c.args.hash.now c.look_up.result (returns-clause-looks g c);
+  costs = costs_with_options g c files xorbs options is;
+  collision = collision_with_options g c files xorbs options is;
 }
 
 pub returns-clause-written : goal.returns-clause-written
@@ -63,6 +63,6 @@ returns-clause-written g c s is =
     record {
       answer = lookup_written s is.is_bytes.shard (version_of c.args.self.now.header.version) _ _ _ (g.S.ShardSource.meaning c.args.source.now) (looked g c (values s.files) (values s.xorbs) options has_table)
           (g.S.ShardSource.meaning c.look_up.new.source) c.args.hash.now c.look_up.result (returns-clause-looks g c);
-      costs = costs_in_form g c (values s.files) (values s.xorbs) options has_table;
-      collision = collision_in_form g c (values s.files) (values s.xorbs) options has_table;
+      costs = costs_with_options g c (values s.files) (values s.xorbs) options has_table;
+      collision = collision_with_options g c (values s.files) (values s.xorbs) options has_table;
     }

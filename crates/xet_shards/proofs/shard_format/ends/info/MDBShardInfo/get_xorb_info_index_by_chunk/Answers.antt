@@ -7,7 +7,7 @@ use Rattle.xet_shards.specs.Write.Layout.{plain_options_in}
 use Rattle.xet_shards.specs.Lookup.Lookup.{chunk_lookup_table, IsRowAndIndex, Searches}
 use Rattle.xet_shards.specs.Lookup.WrittenChunks.{FindsRows}
 use Rattle.xet_shards.proofs.Lookup.ChunkTables.{chunk_index_written, chunk_search_costs}
-use Rattle.xet_shards.proofs.Write.WithOptions.{shard_in_form}
+use Rattle.xet_shards.proofs.Write.WithOptions.{shard_with_options}
 use Rattle.xet_shards.proofs.shard_format.ends.info.MDBShardInfo.get_xorb_info_index_by_chunk.Goals as goal
 
 -- the word that is looked up
@@ -38,4 +38,4 @@ returns-clause-with_options g c files xorbs options is with_table =
 
 pub returns-clause-written : goal.returns-clause-written
 returns-clause-written g c s is =
-    returns-clause-with_options g c (values s.files) (values s.xorbs) (plain_options_in is.is_bytes.version is.is_bytes.expiry) (shard_in_form is) refl
+    returns-clause-with_options g c (values s.files) (values s.xorbs) (plain_options_in is.is_bytes.version is.is_bytes.expiry) (shard_with_options is) refl

@@ -4,7 +4,7 @@ use Rattle.xet_records.specs.XorbRecord.{xorb_records}
 use Rattle.xet_records.proofs.RecordKinds.{xorb_laws}
 use Rattle.xet_shards.specs.Write.Layout.{plain_options_in}
 use Rattle.xet_shards.specs.Lookup.Lookup.{xorb_table, LooksUpIndex}
-use Rattle.xet_shards.proofs.Write.WithOptions.{no_xorb, xorbs_in, shard_in_form, xorbs_ascend}
+use Rattle.xet_shards.proofs.Write.WithOptions.{no_xorb, xorbs_in, shard_with_options, xorbs_ascend}
 use Rattle.xet_shards.proofs.Lookup.TableLookups.{index_written, index_bounded}
 use Rattle.xet_shards.proofs.shard_format.ends.info.MDBShardInfo.get_xorb_info_index_by_hash.Goals as goal
 
@@ -29,4 +29,4 @@ returns-clause-with_options g c files xorbs options is ascends with_table =
 pub returns-clause-written : goal.returns-clause-written
 returns-clause-written g c s is =
     returns-clause-with_options g c (values s.files) (values s.xorbs) (plain_options_in is.is_bytes.version is.is_bytes.expiry)
-    (shard_in_form is) (xorbs_ascend s is.is_bytes.shard) refl
+    (shard_with_options is) (xorbs_ascend s is.is_bytes.shard) refl
