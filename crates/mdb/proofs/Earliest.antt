@@ -17,11 +17,11 @@ not_before_less : (less expiry : ℕ) (x : Option ℕ) → less ≤ expiry → N
 not_before_less less expiry None le not_before = tt
 not_before_less less expiry (Some other) le not_before = omega (arith, le, not_before)
 
-one : (P : Option ℕ → Type 0) (x : Option ℕ) → P x → All P (x ∷ [])
-one P x holds = λ k d below. grind (arith, holds)
+All-one : (P : Option ℕ → Type 0) (x : Option ℕ) → P x → All P (x ∷ [])
+All-one P x holds = λ k d below. grind (arith, holds)
 
-only : (x : Option ℕ) → Contains (x ∷ []) x
-only x = (0, omega arith, refl)
+Contains-one : (x : Option ℕ) → Contains (x ∷ []) x
+Contains-one x = (0, omega arith, refl)
 
 min_is : (a b : ℕ) → (min a b ≡ a) ⊎ (min a b ≡ b)
 min_is a b = grind arith
@@ -32,26 +32,26 @@ has_min xs a b m (inl is) h =
     subst (λ n. Contains (xs ++ Some b ∷ []) (Some n)) (sym is) (Contains-append_left xs (Some b ∷ []) (Some a) h)
 has_min xs a b m (inr is) h =
     subst (λ n. Contains (xs ++ Some b ∷ []) (Some n)) (sym is)
-    (Contains-append_right xs (Some b ∷ []) (Some b) (only (Some b)))
+    (Contains-append_right xs (Some b ∷ []) (Some b) (Contains-one (Some b)))
 
 -- one more expiry
 pub earliest_more : (xs : List (Option ℕ)) (found x : Option ℕ) → IsEarliest xs found
     → IsEarliest (xs ++ x ∷ []) (earlier_of found x)
-earliest_more xs None None all = All-append (λ x. IsNone x) xs (None ∷ []) all (one (λ x. IsNone x) None refl)
+earliest_more xs None None all = All-append (λ x. IsNone x) xs (None ∷ []) all (All-one (λ x. IsNone x) None refl)
 earliest_more xs None (Some b) all = (
-  Contains-append_right xs (Some b ∷ []) (Some b) (only (Some b)),
+  Contains-append_right xs (Some b ∷ []) (Some b) (Contains-one (Some b)),
   All-append (NotBefore b) xs (Some b ∷ []) (λ k d below. none_not_before b _ (all k d below))
-      (one (NotBefore b) (Some b) (omega arith)),
+      (All-one (NotBefore b) (Some b) (omega arith)),
 )
 earliest_more xs (Some a) None h = (
   Contains-append_left xs (None ∷ []) (Some a) h.0,
-  All-append (NotBefore a) xs (None ∷ []) h.1 (one (NotBefore a) None tt),
+  All-append (NotBefore a) xs (None ∷ []) h.1 (All-one (NotBefore a) None tt),
 )
 earliest_more xs (Some a) (Some b) h = (
   has_min xs a b (min a b) (min_is a b) h.0,
   All-append (NotBefore (min a b)) xs (Some b ∷ [])
       (λ k d below. not_before_less (min a b) a _ (omega arith) (h.1 k d below))
-      (one (NotBefore (min a b)) (Some b) (omega arith)),
+      (All-one (NotBefore (min a b)) (Some b) (omega arith)),
 )
 
 -- one more value that has an expiry

@@ -12,8 +12,8 @@ use Rattle.xet_base.proofs.HashOrder.{same_hash}
 use Rattle.mdb.specs.Keys.{distinct}
 
 -- the values of the pairs with a key
-abbrev pub kept : {T : Type 0} → DataHash → List (T × DataHash) → List T
-kept key ps = map (λ p. p.0) (filter (λ p. hash_eq p.1 key) ps)
+abbrev pub values_of_key : {T : Type 0} → DataHash → List (T × DataHash) → List T
+values_of_key key ps = map (λ p. p.0) (filter (λ p. hash_eq p.1 key) ps)
 
 module _ {T : Type 0} (key : DataHash) (values : List T) (keys : List DataHash) (n : ℕ) (value : T) (its : DataHash)
     (in_values : n < length values) (in_keys : n < length keys)
@@ -32,7 +32,7 @@ module _ {T : Type 0} (key : DataHash) (values : List T) (keys : List DataHash) 
   first_of false = refl
 
   -- one more pair adds its value, if its key is this one
-  pub kept_more : kept key (take (n + 1) (zip values keys)) ≡ kept key so_far ++ cond (hash_eq its key) (value ∷ []) []
+  pub kept_more : values_of_key key (take (n + 1) (zip values keys)) ≡ values_of_key key so_far ++ cond (hash_eq its key) (value ∷ []) []
   kept_more =
       let within : n < length (zip values keys) = omega (arith, length-zip values keys, in_values, in_keys) in
       ap (map (λ (p : T × DataHash). p.0)) (
@@ -40,7 +40,7 @@ module _ {T : Type 0} (key : DataHash) (values : List T) (keys : List DataHash) 
       ∙ ap (λ (p : T × DataHash). filter under_key so_far ++ cond (under_key p) (p ∷ []) []) at_turn
       )
       ∙ map-append (λ (p : T × DataHash). p.0) (filter under_key so_far) (cond (hash_eq its key) ((value, its) ∷ []) [])
-      ∙ ap (λ l. kept key so_far ++ l) (first_of (hash_eq its key))
+      ∙ ap (λ l. values_of_key key so_far ++ l) (first_of (hash_eq its key))
 
 -- one more key is added exactly if it is not among those before
 pub distinct_more : (keys : List DataHash) (key : DataHash)

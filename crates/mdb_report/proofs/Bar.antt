@@ -4,8 +4,8 @@ use Rattle.std.proofs.Math.Nat.{mul-add, mul_assoc, mul_comm, mul-add-div_right}
 use Rattle.std.proofs.lemmas.Nat.{div-add-mod'}
 
 -- a factor's quotient and rest by a number, each multiplied
-apart : (column q r : ℕ) → column * (q * 60 + r) ≡ q * column * 60 + r * column
-apart column q r =
+product_splits : (column q r : ℕ) → column * (q * 60 + r) ≡ q * column * 60 + r * column
+product_splits column q r =
     mul-add column (q * 60) r
     ∙ ap (λ n. n + column * r) (sym (mul_assoc column q 60) ∙ ap (λ n. n * 60) (mul_comm column q))
     ∙ ap (λ n. q * column * 60 + n) (mul_comm column r)
@@ -16,5 +16,5 @@ product_over_60 column bytes =
     let q = bytes / 60 in
     let r = bytes % 60 in
     ap (λ n. column * n / 60) (sym (div-add-mod' bytes 60))
-    ∙ ap (λ n. n / 60) (apart column q r)
+    ∙ ap (λ n. n / 60) (product_splits column q r)
     ∙ mul-add-div_right (lit< tt) (q * column) (r * column)

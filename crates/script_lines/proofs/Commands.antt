@@ -35,17 +35,17 @@ front_4 (u ∷ v ∷ []) a b d e long p q = absurd (omega arith)
 front_4 (u ∷ v ∷ w ∷ []) a b d e long p q = absurd (omega arith)
 front_4 (u ∷ v ∷ w ∷ x ∷ words) a b d e long p q = rw (p, q) refl
 
-pub all_6 : (words : List (Bor (List ℕ))) (a b f : List ℕ) (d e g : Bor (List ℕ)) → 6 ≤ length words → length words < 7 → a ≡ (get_or words 0 d).now → b ≡ (get_or words 1 e).now
+pub six_texts : (words : List (Bor (List ℕ))) (a b f : List ℕ) (d e g : Bor (List ℕ)) → 6 ≤ length words → length words < 7 → a ≡ (get_or words 0 d).now → b ≡ (get_or words 1 e).now
     → (get_or words 5 g).now ≡ f
     → texts words ≡ a ∷ b ∷ get_or (texts words) 2 [] ∷ get_or (texts words) 3 [] ∷ get_or (texts words) 4 [] ∷ f ∷ []
-all_6 [] a b f d e g long short p q r = absurd (omega arith)
-all_6 (u ∷ []) a b f d e g long short p q r = absurd (omega arith)
-all_6 (u ∷ v ∷ []) a b f d e g long short p q r = absurd (omega arith)
-all_6 (u ∷ v ∷ w ∷ []) a b f d e g long short p q r = absurd (omega arith)
-all_6 (u ∷ v ∷ w ∷ x ∷ []) a b f d e g long short p q r = absurd (omega arith)
-all_6 (u ∷ v ∷ w ∷ x ∷ y ∷ []) a b f d e g long short p q r = absurd (omega arith)
-all_6 (u ∷ v ∷ w ∷ x ∷ y ∷ z ∷ []) a b f d e g long short p q r = rw (p, q, ← r) refl
-all_6 (u ∷ v ∷ w ∷ x ∷ y ∷ z ∷ o ∷ words) a b f d e g long short p q r = absurd (omega arith)
+six_texts [] a b f d e g long short p q r = absurd (omega arith)
+six_texts (u ∷ []) a b f d e g long short p q r = absurd (omega arith)
+six_texts (u ∷ v ∷ []) a b f d e g long short p q r = absurd (omega arith)
+six_texts (u ∷ v ∷ w ∷ []) a b f d e g long short p q r = absurd (omega arith)
+six_texts (u ∷ v ∷ w ∷ x ∷ []) a b f d e g long short p q r = absurd (omega arith)
+six_texts (u ∷ v ∷ w ∷ x ∷ y ∷ []) a b f d e g long short p q r = absurd (omega arith)
+six_texts (u ∷ v ∷ w ∷ x ∷ y ∷ z ∷ []) a b f d e g long short p q r = rw (p, q, ← r) refl
+six_texts (u ∷ v ∷ w ∷ x ∷ y ∷ z ∷ o ∷ words) a b f d e g long short p q r = absurd (omega arith)
 
 -- ---- the words of an export
 

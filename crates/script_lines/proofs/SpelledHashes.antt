@@ -36,8 +36,8 @@ row_added words rows word hash h spelled = (
   ap (λ rs. rs ++ verification_of hash ∷ []) h.2 ∙ sym (map-append verification_of h.0 (hash ∷ [])),
 )
 
-pub listed : (list : List ℕ) (words : List (List ℕ)) (rows : List HashRow) → parts_of list ≡ words → RowsOf words rows → ListsVerification list rows
-listed list words rows parts h = (h.0, subst (λ ws. AllZip SpellsHash ws h.0) (sym parts) h.1, h.2)
+pub lists_verification : (list : List ℕ) (words : List (List ℕ)) (rows : List HashRow) → parts_of list ≡ words → RowsOf words rows → ListsVerification list rows
+lists_verification list words rows parts h = (h.0, subst (λ ws. AllZip SpellsHash ws h.0) (sym parts) h.1, h.2)
 
 -- words that each spell a hash, as far as they were read
 pub spelled_more : (words : List (Bor (List ℕ))) (i : ℕ) (d : Bor (List ℕ)) (hashes : List DataHash) (hash : DataHash) → i < length words → AllZip SpellsHash (texts (take i words)) hashes
@@ -47,16 +47,16 @@ spelled_more words i d hashes hash in' h spelled =
     (all_zip_push SpellsHash (texts (take i words)) hashes (get_or words i d).now hash h spelled)
 
 -- and a word that spells none
-pub unspelled : (words : List (Bor (List ℕ))) (i : ℕ) (d : Bor (List ℕ)) → i < length words → ((hash : DataHash) → ¬ (SpellsHash (get_or words i d).now hash))
+pub not_all_spelled : (words : List (Bor (List ℕ))) (i : ℕ) (d : Bor (List ℕ)) → i < length words → ((hash : DataHash) → ¬ (SpellsHash (get_or words i d).now hash))
     → (hashes : List DataHash) → ¬ (AllZip SpellsHash (texts words) hashes)
-unspelled [] i d in' none hashes h = absurd (omega arith)
-unspelled (w ∷ words) i d in' none [] h = absurd h
-unspelled (w ∷ words) zero d in' none (hash ∷ hashes) h = none hash h.0
-unspelled (w ∷ words) (suc i) d in' none (hash ∷ hashes) h = unspelled words i d (omega arith) none hashes h.1
+not_all_spelled [] i d in' none hashes h = absurd (omega arith)
+not_all_spelled (w ∷ words) i d in' none [] h = absurd h
+not_all_spelled (w ∷ words) zero d in' none (hash ∷ hashes) h = none hash h.0
+not_all_spelled (w ∷ words) (suc i) d in' none (hash ∷ hashes) h = not_all_spelled words i d (omega arith) none hashes h.1
 
 -- a part that spells no hash
-pub unlisted : (list word : List ℕ) (words : List (List ℕ)) (i : ℕ) → parts_of list ≡ words → i < length words → word ≡ get_or words i word → ((hash : DataHash) → ¬ (SpellsHash word hash))
+pub lists_no_hashes : (list word : List ℕ) (words : List (List ℕ)) (i : ℕ) → parts_of list ≡ words → i < length words → word ≡ get_or words i word → ((hash : DataHash) → ¬ (SpellsHash word hash))
     → (hashes : List DataHash) → ¬ (ListsHashes list hashes)
-unlisted list word words i parts in' is none hashes all =
+lists_no_hashes list word words i parts in' is none hashes all =
     let found = all_zip_at SpellsHash words hashes i word (subst (λ ws. AllZip SpellsHash ws hashes) parts all) in' in
     none found.0 (subst (λ w. SpellsHash w found.0) (sym is) found.1)

@@ -111,9 +111,9 @@ word_of_parenthesis : (part rest word end : List ℕ) → IsPart part rest → I
 word_of_parenthesis part rest word end p (inl e) is = word_of_part part rest word 40 p (is ∙ ap (λ xs. word ++ xs) e)
 word_of_parenthesis part rest word end p (inr e) is = word_of_part part rest word 41 p (is ∙ ap (λ xs. word ++ xs) e)
 
-unended : (part rest : List ℕ) → IsPart part rest → ¬ (EndsInSeparator part) → All IsWordByte part × (rest ≡ [])
-unended part rest (inl p) none = absurd (none (p.0, p.1, p.4, no_word_byte p.1 p.3))
-unended part rest (inr p) none = p
+word_without_end : (part rest : List ℕ) → IsPart part rest → ¬ (EndsInSeparator part) → All IsWordByte part × (rest ≡ [])
+word_without_end part rest (inl p) none = absurd (none (p.0, p.1, p.4, no_word_byte p.1 p.3))
+word_without_end part rest (inr p) none = p
 
 part_without : (part rest word : List ℕ) (words : List (List ℕ)) → IsPart part rest
     → (part ≡ word ++ 32 ∷ []) ⊎ ((part ≡ word) × ¬ (EndsInSeparator part)) → AreWordsOf rest words
@@ -122,7 +122,7 @@ part_without part rest word words p (inl is) h =
     subst (λ line. AreWordsOf line (word_in word ++ words)) (sym (ap (λ xs. xs ++ rest) is ∙ append_assoc word (32 ∷ []) rest))
     (after_word word (32 ∷ rest) words (word_of_part part rest word 32 p is) (no_word_byte 32 (inl refl)) (after_space rest words h))
 part_without part rest word words p (inr is) h =
-    let all = unended part rest p is.1 in
+    let all = word_without_end part rest p is.1 in
     subst (λ xs. AreWordsOf (part ++ rest) (word_in xs ++ words)) is.0
     (after_word part rest words all.0 (subst EndsWord (sym all.1) tt) h)
 

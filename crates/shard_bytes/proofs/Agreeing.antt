@@ -28,7 +28,7 @@ use Rattle.xet_core_structures.specs.declared.set_operations.FormatVersion.{Form
 use Rattle.xet_core_structures.proofs.Agreement.AgreeingTrees.{of_hash, held_agree, agreeing_tree}
 use Rattle.xet_core_structures.proofs.Agreement.Malformed.{held_formed}
 use Rattle.xet_core_structures.proofs.Records.ShardContents.{only_shard}
-use Rattle.xet_core_structures.proofs.Records.Items.{has_at, at_of}
+use Rattle.xet_core_structures.proofs.Records.Items.{has_at, place_of_item}
 use Rattle.xet_core_structures.proofs.Records.Zipped.{zip_at, zip_back, zipped_member}
 use Rattle.xet_core_structures.proofs.Trees.InVersions.{made_as}
 use Rattle.xet_core_structures.proofs.Trees.SameTrees.{join_of_same}
@@ -50,7 +50,7 @@ module _ (shards : List Shard) (inputs : List (List ℕ)) (hold : AllZip HasShar
 
   in_held : (s : Shard) → Contains shards s → IsHeld inputs s
   in_held s has =
-      let place = at_of shards s has in
+      let place = place_of_item shards s has in
       let input = zip_at HasShard shards inputs place.0 s hold place.1 in
       (place.0, (input.0, input.1, input.2))
 
@@ -93,15 +93,15 @@ without_key key (s ∷ shards) [] hold = absurd hold
 without_key key (s ∷ shards) (x ∷ inputs) hold = (hold.0.has, without_key key shards inputs hold.1)
 
 module _ (inputs : List (List ℕ)) (out : List ℕ) (hold : HoldShards inputs) (agree : InputsAgree inputs) (merges : MergesBytes inputs out) where
-  formed : (s : Shard) → IsHeld inputs s → IsShard s
-  formed = held_formed inputs hold
+  held_is_shard : (s : Shard) → IsHeld inputs s → IsShard s
+  held_is_shard = held_formed inputs hold
 
   pub merge_of_agreeing : IsMergeOfAgreeing inputs out
   merge_of_agreeing =
       let plan : MergePlan = merges.0 in
       let covers = plan_covers (length inputs) plan merges.1 in
-      let at = agreeing_tree inputs agree formed plan out covers.union merges.2 in
-      let pairwise = held_agree inputs agree formed in
+      let at = agreeing_tree inputs agree held_is_shard plan out covers.union merges.2 in
+      let pairwise = held_agree inputs agree held_is_shard in
       let member = zipped_member (HoldsAt inputs) (leaves plan) at.0 at.1 in
       let join = joins_exist at.0 (record { shards = λ s has. pairwise.shards s (member s has); pairs = λ s t one other. pairwise.pairs s t (member s one) (member t other) }) in
       let written = at.2 join.0 join.1 in
@@ -111,7 +111,7 @@ module _ (inputs : List (List ℕ)) (out : List ℕ) (hold : HoldShards inputs) 
       let from_all : (s : Shard) → Contains all.0 s → Contains at.0 s =
       λ s has.
       let place = in_held all.0 inputs held s has in
-      let leaf = at_of (leaves plan) place.0 (covers.each place.0 (slice_get_within inputs place.0 place.1.0 place.1.1)) in
+      let leaf = place_of_item (leaves plan) place.0 (covers.each place.0 (slice_get_within inputs place.0 place.1.0 place.1.1)) in
       let found = zip_at (HoldsAt inputs) (leaves plan) at.0 leaf.0 place.0 at.1 leaf.1 in
       let here : HasShard found.0 place.1.0 = subst (HasShard found.0) (same_Some found.2.0 place.1.0 (sym found.2.1 ∙ place.1.1)) found.2.2 in
       subst (Contains at.0) (only_shard place.1.0 s found.0 place.1.2 here) (has_at at.0 leaf.0 found.0 found.1) in

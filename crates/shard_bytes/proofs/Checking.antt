@@ -45,13 +45,13 @@ use Rattle.shard_bytes.specs.Checking.{IsContent, IsWhole, IsIntact, IsReadAs, I
 use Rattle.shard_bytes.specs.Steps.Checking.{IsReport, Adds, AddsFaults, IsUnreadable, AddsDisorder, AddsMalformed, AddsPart, AddsTable, AddsSize, IsDifference, IsSame, IsAlike, Compares, AddsDifferences}
 
 -- what is known of a success, weakened
-pub if_ok : {T E : Type 0} (r : Result T E) (P Q : T → Type 0) → ((v : T) → P v → Q v) → IfOk r P → IfOk r Q
-if_ok (Ok v) P Q weaker is = weaker v is
-if_ok (Err e) P Q weaker is = is
+pub IfOk-weaker : {T E : Type 0} (r : Result T E) (P Q : T → Type 0) → ((v : T) → P v → Q v) → IfOk r P → IfOk r Q
+IfOk-weaker (Ok v) P Q weaker is = weaker v is
+IfOk-weaker (Err e) P Q weaker is = is
 
-pub on_ok : {T E : Type 0} (r : Result T E) (P Q : Type 0) → (P → Q) → OnOk r P → OnOk r Q
-on_ok (Ok v) P Q weaker is = weaker is
-on_ok (Err e) P Q weaker is = is
+pub OnOk-weaker : {T E : Type 0} (r : Result T E) (P Q : Type 0) → (P → Q) → OnOk r P → OnOk r Q
+OnOk-weaker (Ok v) P Q weaker is = weaker is
+OnOk-weaker (Err e) P Q weaker is = is
 
 -- one hash more in order
 at_map : {X Y : Type 0} (f : X → Y) (xs : List X) (i : ℕ) (x : X) (d : Y) → i < length xs → x ≡ slice_index_or xs i x → slice_index_or (map f xs) i d ≡ f x
@@ -127,8 +127,8 @@ pub adds_none : (Well Fair : Type 0) (IsSo : Finding → Type 0) (old new : List
 adds_none Well Fair IsSo old new well fair never is =
     record { more = []; added = is ∙ sym (append-nil old); each = All-nil IsSo; all = λ f so. absurd (never f so); none = λ empty. well; notes = λ all. fair }
 
-some : (f : Finding) → f ∷ [] ≢ []
-some f empty = cc
+one-not_nil : (f : Finding) → f ∷ [] ≢ []
+one-not_nil f empty = cc
 
 adds_one : (Well Fair : Type 0) (IsSo : Finding → Type 0) (f : Finding) (old new : List Finding) → IsSo f → ((g : Finding) → IsSo g → g ≡ f) → (IsNote f → Fair) → new ≡ old ++ f ∷ [] → Adds Well Fair IsSo old new
 adds_one Well Fair IsSo f old new so only note is = record {
@@ -136,7 +136,7 @@ adds_one Well Fair IsSo f old new so only note is = record {
   added = is;
   each = All-cons IsSo f [] so (All-nil IsSo);
   all = λ g is_so. subst (Contains (f ∷ [])) (sym (only g is_so)) (Contains-push [] f);
-  none = λ empty. absurd (some f empty);
+  none = λ empty. absurd (one-not_nil f empty);
   notes = λ all. note (All-head IsNote f [] all);
 }
 
@@ -258,10 +258,10 @@ module _ (bytes : List ℕ) (info : MDBShardInfo) (written : List ℕ) (footer :
   from_one f (inr (inl so)) = inl (inl (inr (inr so)))
   from_one f (inr (inr so)) = inr so
 
-  pub compared : (l0 l1 l2 l3 l4 l5 l6 l7 l8 : List Finding) → AddsPart Header bytes info written footer l0 l1 → AddsPart FileSection bytes info written footer l1 l2
+  pub adds_all_parts : (l0 l1 l2 l3 l4 l5 l6 l7 l8 : List Finding) → AddsPart Header bytes info written footer l0 l1 → AddsPart FileSection bytes info written footer l1 l2
       → AddsPart XorbSection bytes info written footer l2 l3 → AddsPart FileTable bytes info written footer l3 l4 → AddsPart XorbTable bytes info written footer l4 l5
       → AddsTable bytes info written footer l5 l6 → AddsPart Footer bytes info written footer l6 l7 → AddsSize bytes written l7 l8 → Compares bytes info written footer l0 l8
-  compared l0 l1 l2 l3 l4 l5 l6 l7 l8 h fs xs ft xt ct f size =
+  adds_all_parts l0 l1 l2 l3 l4 l5 l6 l7 l8 h fs xs ft xt ct f size =
       let s2 = adds_then (Same Header) (Same Header) (Same FileSection) (Same FileSection) (One Header) (One FileSection) l0 l1 l2 h fs in
       let s3 = adds_then _ _ (Same XorbSection) (Same XorbSection) _ (One XorbSection) l0 l2 l3 s2 xs in
       let s4 = adds_then _ _ (Same FileTable) (Same FileTable) _ (One FileTable) l0 l3 l4 s3 ft in
@@ -456,7 +456,7 @@ pub one_finding : (bytes : List ℕ) (f : Finding) (findings : List Finding) →
 one_finding bytes f findings fault so only is = record {
   each = subst (All (IsFinding bytes)) (sym is) (All-cons (IsFinding bytes) f [] so (All-nil (IsFinding bytes)));
   all = λ g is_so. subst (λ fs. Contains fs g) (sym is) (subst (Contains (f ∷ [])) (sym (only g is_so)) (Contains-push [] f));
-  none = λ empty. absurd (some f (sym is ∙ empty));
+  none = λ empty. absurd (one-not_nil f (sym is ∙ empty));
   notes = λ all. absurd (fault (All-head IsNote f [] (subst (All IsNote) is all)));
 }
 

@@ -31,9 +31,9 @@ use Rattle.shard_bytes.proofs.ExportedShards.{stored_files, stored_xorbs, sectio
 use Rattle.shard_bytes.proofs.MemoryErrors.{from_memory}
 
 -- sections were written again behind nothing
-pub completed : (key : DataHash) (bytes : List ℕ) (old : Source) → bytes_left old ≡ bytes → (empty out : List ℕ) (footer : MDBShardFileFooter) → empty ≡ []
+pub completes : (key : DataHash) (bytes : List ℕ) (old : Source) → bytes_left old ≡ bytes → (empty out : List ℕ) (footer : MDBShardFileFooter) → empty ≡ []
     → WritesAgain (options_under key) old (Some empty) (Some out) footer → Completes key bytes out
-completed key bytes old left empty out footer none again = subst (λ left. Completes key left out) left (record {
+completes key bytes old left empty out footer none again = subst (λ left. Completes key left out) left (record {
   files = again.files;
   xorbs = again.xorbs;
   sections = again.sections;

@@ -14,17 +14,17 @@ use Rattle.shard_bytes.specs.Parts.{table_of}
 use Rattle.shard_bytes.specs.RangeReads.{HasRowsWith, IsPart, rows_in}
 
 -- the same value, of a row that comes after so many others
-abbrev pub later : {V : Type 0} → ℕ → Hit V → Hit V
-later before hit = record { row = before + hit.row; value = hit.value }
+abbrev pub hit_after : {V : Type 0} → ℕ → Hit V → Hit V
+hit_after before hit = record { row = before + hit.row; value = hit.value }
 
-pub values_later : {V : Type 0} (before : ℕ) (found : List (Hit V)) → map (λ (h : Hit V). h.value) (map (later before) found) ≡ map (λ (h : Hit V). h.value) found
+pub values_later : {V : Type 0} (before : ℕ) (found : List (Hit V)) → map (λ (h : Hit V). h.value) (map (hit_after before) found) ≡ map (λ (h : Hit V). h.value) found
 values_later before [] = refl
 values_later before (h ∷ found) = ap (λ vs. h.value ∷ vs) (values_later before found)
 
-pub later_distinct : {V : Type 0} (before : ℕ) (found : List (Hit V)) → AllPairs OtherRow found → AllPairs OtherRow (map (later before) found)
+pub later_distinct : {V : Type 0} (before : ℕ) (found : List (Hit V)) → AllPairs OtherRow found → AllPairs OtherRow (map (hit_after before) found)
 later_distinct before found distinct i j d less below same =
-    let j_in : j < length found = omega (arith, below, length-map found (later before)) in
-    let here = λ (k : ℕ) (within : k < length found). ap (λ (h : Hit _). h.row) (get_or-map (later before) found k d d within) in
+    let j_in : j < length found = omega (arith, below, length-map found (hit_after before)) in
+    let here = λ (k : ℕ) (within : k < length found). ap (λ (h : Hit _). h.row) (get_or-map (hit_after before) found k d d within) in
     distinct i j d less j_in (omega (arith, same, here i (omega (arith, less, j_in)), here j j_in))
 
 -- no row from one on has the word, for so many rows
@@ -128,7 +128,7 @@ module _ (t : Table) (part : List ℕ) (before : ℕ) (cut : IsPart t part befor
         hits_below-zero t word,
       )
 
-  pub hit_of_part : {V : Type 0} (Gives : List ℕ → V → Type 0) (word : ℕ) (h : Hit V) → IsHit own word Gives h → IsHit t word Gives (later before h)
+  pub hit_of_part : {V : Type 0} (Gives : List ℕ → V → Type 0) (word : ℕ) (h : Hit V) → IsHit own word Gives h → IsHit t word Gives (hit_after before h)
   hit_of_part Gives word h hit =
       let next : before + h.row + 1 ≡ before + (h.row + 1) = omega arith in
       record {
@@ -138,9 +138,9 @@ module _ (t : Table) (part : List ℕ) (before : ℕ) (cut : IsPart t part befor
         gives = subst (λ bytes. Gives bytes h.value) (sym (value_same h.row hit.within)) hit.gives;
       }
 
-  pub hits_later : {V : Type 0} (Gives : List ℕ → V → Type 0) (word : ℕ) (found : List (Hit V)) → All (IsHit own word Gives) found → All (IsHit t word Gives) (map (later before) found)
+  pub hits_later : {V : Type 0} (Gives : List ℕ → V → Type 0) (word : ℕ) (found : List (Hit V)) → All (IsHit own word Gives) found → All (IsHit t word Gives) (map (hit_after before) found)
   hits_later Gives word found each =
-      All-map (IsHit t word Gives) (later before) found (All-weaker (IsHit own word Gives) (λ h. IsHit t word Gives (later before h)) (hit_of_part Gives word) found each)
+      All-map (IsHit t word Gives) (hit_after before) found (All-weaker (IsHit own word Gives) (λ h. IsHit t word Gives (hit_after before h)) (hit_of_part Gives word) found each)
 
 -- the table has what is found in a part that has all rows with the word
 module _ (t : Table) (part : List ℕ) (word : ℕ) (cut : HasRowsWith t part word) where
@@ -150,19 +150,19 @@ module _ (t : Table) (part : List ℕ) (word : ℕ) (cut : HasRowsWith t part wo
   pub same_hits : hits t word ≡ hits found_own word
   same_hits = hits_of_part t part cut.before cut.is_part word cut.others
 
-  pub are_hits_of : (found : List (Hit ℕ)) → AreHits found_own word found → AreHits t word (map (later cut.before) found)
+  pub are_hits_of : (found : List (Hit ℕ)) → AreHits found_own word found → AreHits t word (map (hit_after cut.before) found)
   are_hits_of found are = record {
     each = hits_later t part cut.before cut.is_part IsRowNumber word found are.each;
     distinct = later_distinct cut.before found are.distinct;
-    all = λ sorted. length-map found (later cut.before) ∙ are.all (sorted_part t part cut.before cut.is_part sorted) ∙ sym same_hits;
+    all = λ sorted. length-map found (hit_after cut.before) ∙ are.all (sorted_part t part cut.before cut.is_part sorted) ∙ sym same_hits;
   }
 
   pub rows_of : FitsTable t → (n : ℕ) (old new : List ℕ) → IndexFinds found_own word old new n → IndexFinds t word old new n
   rows_of fits n old new finds = record {
     fits = fits;
-    found = map (later cut.before) finds.found;
+    found = map (hit_after cut.before) finds.found;
     few = finds.few;
-    number = length-map finds.found (later cut.before) ∙ finds.number;
+    number = length-map finds.found (hit_after cut.before) ∙ finds.number;
     are_hits = are_hits_of finds.found finds.are_hits;
     written = finds.written ∙ ap (λ vs. vs ++ drop n old) (sym (values_later cut.before finds.found));
   }
@@ -170,16 +170,16 @@ module _ (t : Table) (part : List ℕ) (word : ℕ) (cut : HasRowsWith t part wo
   pub collides_of : FitsTable t → Collides found_own word → Collides t word
   collides_of fits collides = record {
     fits = fits;
-    found = map (later cut.before) collides.found;
-    eight = length-map collides.found (later cut.before) ∙ collides.eight;
+    found = map (hit_after cut.before) collides.found;
+    eight = length-map collides.found (hit_after cut.before) ∙ collides.eight;
     each = hits_later t part cut.before cut.is_part IsRowNumber word collides.found collides.each;
     distinct = later_distinct cut.before collides.found collides.distinct;
   }
 
   pub places_of : {V : Type 0} (Gives : List ℕ → V → Type 0) (n : ℕ) (old new : List V) → Finds found_own word Gives old new n → Finds t word Gives old new n
   places_of Gives n old new finds = record {
-    found = map (later cut.before) finds.found;
-    number = length-map finds.found (later cut.before) ∙ finds.number;
+    found = map (hit_after cut.before) finds.found;
+    number = length-map finds.found (hit_after cut.before) ∙ finds.number;
     each = hits_later t part cut.before cut.is_part Gives word finds.found finds.each;
     distinct = later_distinct cut.before finds.found finds.distinct;
     written = finds.written ∙ ap (λ vs. vs ++ drop n old) (sym (values_later cut.before finds.found));

@@ -38,8 +38,8 @@ one_reason bytes NoFooter (OtherVersion n) (header, more, footer) (has, unknown)
 one_reason bytes NoFooter NoFooter so also = refl
 
 -- the bytes from the 32nd on
-pub from_32 : (bytes : List ℕ) → take (length bytes - 32) (drop 32 bytes) ≡ drop 32 bytes
-from_32 bytes =
+pub take_rest_from_32 : (bytes : List ℕ) → take (length bytes - 32) (drop 32 bytes) ≡ drop 32 bytes
+take_rest_from_32 bytes =
     let long : length (drop 32 bytes) ≡ length bytes - 32 = length-drop 32 bytes in
     take_all (length bytes - 32) (drop 32 bytes) (omega (arith, long))
 

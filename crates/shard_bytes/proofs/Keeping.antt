@@ -4,9 +4,9 @@ use Rattle.std.proofs.lemmas.List.{take_more}
 use Rattle.xet_shards.proofs.StreamingShard.MinimalWriting.{one_kept, none_kept}
 use Rattle.xet_core_structures.specs.MinimalShard.{IsKept}
 
-pub kept_so : {X : Type 0} (Narrow Wide : X → Bool → Type 0) → ((x : X) (b : Bool) → Narrow x b → Wide x b) → (xs kept : List X) → IsKept Narrow xs kept → IsKept Wide xs kept
-kept_so Narrow Wide wider [] kept is = is
-kept_so Narrow Wide wider (x ∷ xs) kept (accepted, answers, rest, others, is) = (accepted, wider x accepted answers, rest, kept_so Narrow Wide wider xs rest others, is)
+pub IsKept-wider : {X : Type 0} (Narrow Wide : X → Bool → Type 0) → ((x : X) (b : Bool) → Narrow x b → Wide x b) → (xs kept : List X) → IsKept Narrow xs kept → IsKept Wide xs kept
+IsKept-wider Narrow Wide wider [] kept is = is
+IsKept-wider Narrow Wide wider (x ∷ xs) kept (accepted, answers, rest, others, is) = (accepted, wider x accepted answers, rest, IsKept-wider Narrow Wide wider xs rest others, is)
 
 -- one element more was looked at
 module _ {X : Type 0} (answers : X → Bool → Type 0) (xs kept more : List X) (i : ℕ) (d : X) (below : i < length xs) (before : IsKept answers (take i xs) kept) where

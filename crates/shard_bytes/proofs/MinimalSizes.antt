@@ -26,16 +26,16 @@ use Rattle.shard_bytes.specs.Minimal.{HoldsMinimal}
 use Rattle.shard_bytes.specs.Sizes.{IsMinimalSize}
 
 -- bytes that were read are as many fewer that are left
-consumed : (old : List ℕ) (new : Option (List ℕ)) (bytes : List ℕ) → Consumes (Some old) new bytes → (left : List ℕ) × (new ≡ Some left) × (length old ≡ length bytes + length left)
-consumed old (Some left) bytes is = (left, refl, ap length is ∙ length-append bytes left)
-consumed old None bytes is = absurd is
+length-consumed : (old : List ℕ) (new : Option (List ℕ)) (bytes : List ℕ) → Consumes (Some old) new bytes → (left : List ℕ) × (new ≡ Some left) × (length old ≡ length bytes + length left)
+length-consumed old (Some left) bytes is = (left, refl, ap length is ∙ length-append bytes left)
+length-consumed old None bytes is = absurd is
 
 -- reading the views of a section reads 48 bytes for each row, and for the bookend
 section_read : {H R : Type 0} (K : RecordKind H R) → KindLaws K → (old : List ℕ) (new : Option (List ℕ)) (records : List R) → ReadsViews K (λ r. r) Consumes (Some old) new records
     → (left : List ℕ) × (new ≡ Some left) × (length old ≡ 48 * (total_rows K records + 1) + length left)
 section_read K laws old new records read =
-    let rows = consumed old read.mid (flat_map K.record_bytes records) read.records.taken in
-    let bookend = consumed rows.0 new (K.header_bytes read.bookend.header) (subst (λ mid. Consumes mid new (K.header_bytes read.bookend.header)) rows.1 read.bookend.taken) in (
+    let rows = length-consumed old read.mid (flat_map K.record_bytes records) read.records.taken in
+    let bookend = length-consumed rows.0 new (K.header_bytes read.bookend.header) (subst (λ mid. Consumes mid new (K.header_bytes read.bookend.header)) rows.1 read.bookend.taken) in (
       bookend.0,
       bookend.1,
       omega (
@@ -53,7 +53,7 @@ module _ (bytes : List ℕ) (m : MinimalShard) (holds : HoldsMinimal bytes m) wh
   rows_there =
       let sections = holds.1.2 in
       let version = version_of holds.1.1.header.version in
-      let header = consumed bytes holds.1.0 _ holds.1.1.taken in
+      let header = length-consumed bytes holds.1.0 _ holds.1.1.taken in
       let files = section_read (file_records_in version) (files_laws version) header.0 sections.mid sections.files
       (subst (λ old. ReadsViews (file_records_in version) (λ r. r) Consumes old sections.mid sections.files) header.1 sections.file_section) in
       let xorbs = section_read xorb_records xorb_laws files.0 holds.0 m.xorbs (subst (λ old. ReadsViews xorb_records (λ x. x) Consumes old holds.0 m.xorbs) files.1 sections.xorb_section) in

@@ -43,8 +43,8 @@ no_visits K most offset rows s = record {
   read = omega arith;
 }
 
-still : (s : Source) → NoFailure s s
-still s = record { bytes = refl; failures = refl; last_failure = refl }
+NoFailure-refl : (s : Source) → NoFailure s s
+NoFailure-refl s = record { bytes = refl; failures = refl; last_failure = refl }
 
 -- a record is looked up by the rows that are found in a part of a table
 module _ {H R : Type 0} (K : RecordKind H R) (shard table : List ℕ) (offset start count : ℕ) (hash : DataHash)
@@ -65,19 +65,19 @@ module _ {H R : Type 0} (K : RecordKind H R) (shard table : List ℕ) (offset st
           few = omega (arith, f.few, f.number);
           are_hits = f.are_hits;
           searched = src;
-          no_failure = still src;
+          no_failure = NoFailure-refl src;
           bounded = λ sorted. record { made = 0; seeks = omega arith; few = omega arith; read = omega arith };
           visits = (0, no_visits K 1 offset (map (λ (h : Hit ℕ). h.value) f.found) src);
           answer = subst (LookupAnswer K shard offset hash answer) (rows_in_front t hash.word0 n old new f) is;
         };
-        no_failure = still src;
+        no_failure = NoFailure-refl src;
         kept = refl;
       }
 
   -- a collision among the rows is one in the table
-  pub collided : (e : CoreError) → RefusesRows table hash.word0 e → FindRecordFails K t offset hash src src e
-  collided e (inl (is, not_whole)) = absurd (not_whole cut.is_part.whole)
-  collided e (inr (is, collides)) =
+  pub collides_in_table : (e : CoreError) → RefusesRows table hash.word0 e → FindRecordFails K t offset hash src src e
+  collides_in_table e (inl (is, not_whole)) = absurd (not_whole cut.is_part.whole)
+  collides_in_table e (inr (is, collides)) =
       inl (inl (refl, is, collides_of t table hash.word0 cut fits collides), λ sorted. record { made = 0; seeks = omega arith; few = omega arith; read = omega arith })
 
 -- records at rows are those that the header and the footer lead to
@@ -129,9 +129,9 @@ module _ (shard : List ℕ) (info : MDBShardInfo) (ends : HasHeaderAndFooter sha
   run_here : (place : ℕ × ℕ) (run : Option Run) → RunAt place run → AnswerAt (query_at footer (q ∷ qs) place) shard run
   run_here place run at = said_of shard info ends (λ i. AnswerAt (query_at i.metadata (q ∷ qs) place) shard run) at
 
-  tried : (places : List (ℕ × ℕ)) (run : Option Run) → AnswersAtPlaces RunAt places run → TriedAnswer footer (q ∷ qs) shard run places
-  tried places (Some run) (place, among, at) = (place, among, run_here place (Some run) at)
-  tried places None others = All-weaker (λ place. RunAt place None) (λ place. AnswerAt (query_at footer (q ∷ qs) place) shard None) (λ place at. run_here place None at) places others
+  tries_places : (places : List (ℕ × ℕ)) (run : Option Run) → AnswersAtPlaces RunAt places run → TriedAnswer footer (q ∷ qs) shard run places
+  tries_places places (Some run) (place, among, at) = (place, among, run_here place (Some run) at)
+  tries_places places None others = All-weaker (λ place. RunAt place None) (λ place. AnswerAt (query_at footer (q ∷ qs) place) shard None) (λ place at. run_here place None at) places others
 
   -- a table without rows has none
   none_found : chunks.rows ≡ 0 → (n : ℕ) → parts.count ≡ n → n ≡ 0
@@ -144,8 +144,8 @@ module _ (shard : List ℕ) (info : MDBShardInfo) (ends : HasHeaderAndFooter sha
   nothing None empty others = refl
   nothing (Some run) empty (place, among, at) = absurd (omega (arith, empty, among.1))
 
-  pub queried : QueryAnswer footer (q ∷ qs) all all answer
-  queried = elim (eq-zero-or-pos chunks.rows) [
+  pub query_answers : QueryAnswer footer (q ∷ qs) all all answer
+  query_answers = elim (eq-zero-or-pos chunks.rows) [
     | inl none ↦ inl (none, nothing answer (omega (arith, length-take parts.count parts.places, none_found none parts.count refl)) parts.answers, refl)
     | inr some ↦ inr (
       λ none. absurd (omega (arith, none, some)),
@@ -158,10 +158,10 @@ module _ (shard : List ℕ) (info : MDBShardInfo) (ends : HasHeaderAndFooter sha
         all = λ sorted. finds.number ∙ parts.found.all (sorted_part chunks parts.table parts.has_rows.before parts.has_rows.is_part sorted)
             ∙ ap (λ k. min k 8) (sym (same_hits chunks parts.table word parts.has_rows));
         searched = all;
-        no_failure = still all;
+        no_failure = NoFailure-refl all;
         bounded = λ sorted. record { made = 0; seeks = omega arith; few = omega arith; read = omega arith };
         visits = (0, no_visits xorb_records 2 footer.xorb_info_offset (map (λ (h : Hit (ℕ × ℕ)). h.value.0) finds.found) all);
-        answer = subst (TriedAnswer footer (q ∷ qs) shard answer) in_front (tried (take parts.count parts.places) answer parts.answers);
+        answer = subst (TriedAnswer footer (q ∷ qs) shard answer) in_front (tries_places (take parts.count parts.places) answer parts.answers);
       },
     )
   ]

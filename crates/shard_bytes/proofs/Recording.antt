@@ -26,10 +26,10 @@ use Rattle.shard_bytes.proofs.Combining.{in_memory}
 use Rattle.shard_bytes.proofs.Inserting.{inserts, inserts-entries, all_new, StaysWithin, stays_within}
 
 -- records with their keys
-keyed : {R : Type 0} (hash_of : R → DataHash) (es : List (DataHash × R)) → All (λ e. e.0 ≡ hash_of e.1) es
+keys_are_hashes : {R : Type 0} (hash_of : R → DataHash) (es : List (DataHash × R)) → All (λ e. e.0 ≡ hash_of e.1) es
     → map (λ r. (hash_of r, r)) (map (λ e. e.1) es) ≡ es
-keyed hash_of [] all = refl
-keyed hash_of (e ∷ es) all = λ i. (sym (all 0 e (omega arith)) i, e.1) ∷ keyed hash_of es (All-drop (λ d. d.0 ≡ hash_of d.1) 1 (e ∷ es) all) i
+keys_are_hashes hash_of [] all = refl
+keys_are_hashes hash_of (e ∷ es) all = λ i. (sym (all 0 e (omega arith)) i, e.1) ∷ keys_are_hashes hash_of es (All-drop (λ d. d.0 ≡ hash_of d.1) 1 (e ∷ es) all) i
 
 files_inserted : (s : Shard) (rs : List MDBFileInfo) → with_files s rs ≡ record s { files = inserts s.files (map (λ r. (file_hash_of r, r)) rs) }
 files_inserted s [] = refl
@@ -41,10 +41,10 @@ xorbs_inserted s (r ∷ rs) = xorbs_inserted (add_xorb s r) rs
 
 module _ (s : Shard) (is : IsShard s) where
   files_again : inserts empty (map (λ r. (file_hash_of r, r)) (values s.files)) ≡ s.files
-  files_again = ap (inserts empty) (keyed file_hash_of (entries s.files) is.files.keyed) ∙ inserts-entries hash_cmp-IsTotalOrder hash_cmp-IsAntisymmetric s.files
+  files_again = ap (inserts empty) (keys_are_hashes file_hash_of (entries s.files) is.files.keyed) ∙ inserts-entries hash_cmp-IsTotalOrder hash_cmp-IsAntisymmetric s.files
 
   xorbs_again : inserts empty (map (λ r. (xorb_hash_of r, r)) (values s.xorbs)) ≡ s.xorbs
-  xorbs_again = ap (inserts empty) (keyed xorb_hash_of (entries s.xorbs) is.xorbs.keyed) ∙ inserts-entries hash_cmp-IsTotalOrder hash_cmp-IsAntisymmetric s.xorbs
+  xorbs_again = ap (inserts empty) (keys_are_hashes xorb_hash_of (entries s.xorbs) is.xorbs.keyed) ∙ inserts-entries hash_cmp-IsTotalOrder hash_cmp-IsAntisymmetric s.xorbs
 
   pub again : shard_of (values s.files) (values s.xorbs) ≡ s
   again =

@@ -30,10 +30,10 @@ module _ (hash : DataHash) where
   not_greater : (other : DataHash) → other ≡ hash → ¬ (hash_cmp other hash ≡ Greater)
   not_greater other same greater = true≢false (sym (ap is_gt (subst (λ h. hash_cmp h hash ≡ Greater) same greater)) ∙ ap is_gt itself)
 
-  pub searched : (hashes : List DataHash) (found : Result ℕ ℕ) → IsSorted hash_cmp hashes → IsSearchInRange found (length hashes)
+  pub search_is_in_range : (hashes : List DataHash) (found : Result ℕ ℕ) → IsSorted hash_cmp hashes → IsSearchInRange found (length hashes)
       → IsBinarySearchResult (λ h. hash_cmp h hash) hashes found → IsTrue (is_ok found) ↔ Contains hashes hash
-  searched hashes (Ok i) sorted within at = (λ _. (i, within, hash_cmp-IsAntisymmetric _ _ (at hash)), λ _. search rules)
-  searched hashes (Err i) sorted within at = (
+  search_is_in_range hashes (Ok i) sorted within at = (λ _. (i, within, hash_cmp-IsAntisymmetric _ _ (at hash)), λ _. search rules)
+  search_is_in_range hashes (Err i) sorted within at = (
     λ is. absurd (search rules),
     λ (k, below, same).
         let parts = at (searchable_from_sorted hash_cmp-IsTotalOrder (λ (h : DataHash). h) hashes hash sorted) in

@@ -80,8 +80,8 @@ module _ {H R : Type 0} (K : RecordKind H R) (laws : KindLaws K) (bytes : List �
   at_start = ap (λ n. drop n bytes) (omega arith)
 
   -- what is walked from row 0 is what the section has
-  pub walked : (found : List R) → Walks At K.row_count 0 found ↔ IsSectionReadAs K (drop offset bytes) found
-  walked found = (
+  pub walk_is_section : (found : List R) → Walks At K.row_count 0 found ↔ IsSectionReadAs K (drop offset bytes) found
+  walk_is_section found = (
     λ walks.
         let all = follow 0 found walks in (
           all.stored,
@@ -165,7 +165,7 @@ module _ (bytes : List ℕ) (info : MDBShardInfo) (ends : HasHeaderAndFooter byt
     pub walked_with_ends : (found : List R) → Walks HasAt (K info).row_count 0 found ↔ IsSectionReadAs (K info) (drop (offset info) bytes) found
     walked_with_ends found =
         let Here : ℕ → Option R → Type 0 = λ row o. IsAtRow (K info) bytes (offset info) row o in
-        let both = walked (K info) laws bytes (offset info) found in (
+        let both = walk_is_section (K info) laws bytes (offset info) found in (
           λ walks. both.0 (same_walks HasAt Here (K info).row_count here 0 found walks),
           λ has. same_walks Here HasAt (K info).row_count (λ row o at. (info, ends, at)) 0 found (both.1 has),
         )

@@ -37,7 +37,7 @@ use Rattle.xet_shards.proofs.Lookup.KnownRows.{rows_fit}
 use Rattle.xet_shards.proofs.Lookup.MapAnswers.{map_answers}
 use Rattle.xet_shards.proofs.Lookup.ShardLookups.{lookup_written}
 use Rattle.xet_shards.proofs.Lookup.StoredRecords.{AreStoredAt, end_bound, in_records, is_stored, record_there}
-use Rattle.xet_shards.proofs.Lookup.TableLookups.{IsLookedUp, answered, table_sorted}
+use Rattle.xet_shards.proofs.Lookup.TableLookups.{IsLookedUp, lookup_answers, table_sorted}
 use Rattle.xet_shards.proofs.Lookup.WrittenQueries.{query_with_options}
 use Rattle.xet_shards.proofs.Read.Readback.{one_as_read}
 use Rattle.xet_shards.proofs.ShardInMemory.Files.{well_formed_values}
@@ -48,7 +48,7 @@ use Rattle.shard_bytes.specs.Parts.{HasFileIn, HasXorbIn, RefusesFileIn, Refuses
 use Rattle.shard_bytes.specs.RangeReads.{FindsFileInParts, FindsXorbInParts, QueriesInParts, chunk_table_in, file_table_in, xorb_table_in}
 use Rattle.shard_bytes.specs.Walking.{IsAtRow, NotAtRow}
 use Rattle.shard_bytes.proofs.CutTables.{starts_fit}
-use Rattle.shard_bytes.proofs.RangeReads.{answer_of, looked_up, queried}
+use Rattle.shard_bytes.proofs.RangeReads.{answer_of, looked_up, query_answers}
 use Rattle.shard_bytes.proofs.Reading.{source_of}
 use Rattle.shard_bytes.proofs.Walks.{memory_alone, one_at}
 
@@ -133,7 +133,7 @@ module _ {s : Shard} {shard : List ℕ} {info : MDBShardInfo} (is : IsBytesWithI
       (starts_fit xorb_records xorb_laws no_xorb (values s.xorbs) f.xorb_info_offset f.xorb_lookup_offset f.xorb_lookup_num_entry shard looked_xorbs)
       parts.count parts.old parts.rows answer parts.found
       (answer_of shard info is.ends (λ i. xorb_records) (λ i. i.metadata.xorb_info_offset) hash (take parts.count parts.rows) answer parts.answers) in
-      let among = answered xorb_records xorb_laws no_xorb (values s.xorbs) f.xorb_info_offset f.xorb_lookup_offset f.xorb_lookup_num_entry src looked_xorbs hash src answer lookup.read in
+      let among = lookup_answers xorb_records xorb_laws no_xorb (values s.xorbs) f.xorb_info_offset f.xorb_lookup_offset f.xorb_lookup_num_entry src looked_xorbs hash src answer lookup.read in
       (among.0, map_answers xorb_records no_xorb s.xorbs is.is_bytes.shard.xorbs.keyed (λ i d within. refl) hash answer among.1)
 
   chunks_fit : FitsTable (chunk_table_in f shard)
@@ -142,7 +142,7 @@ module _ {s : Shard} {shard : List ℕ} {info : MDBShardInfo} (is : IsBytesWithI
 
   pub run_found : (q : DataHash) (qs : List DataHash) (answer : Option Run) → QueriesInParts f shard q qs answer → RunAmong no_key (q ∷ qs) (values s.xorbs) answer
   run_found q qs answer parts =
-      query_with_options src (shard_with_options is) refl (xorb_values (entries s.xorbs) is.is_bytes.shard.xorbs) (q ∷ qs) src (Ok answer) (queried shard info is.ends q qs answer parts chunks_fit)
+      query_with_options src (shard_with_options is) refl (xorb_values (entries s.xorbs) is.is_bytes.shard.xorbs) (q ∷ qs) src (Ok answer) (query_answers shard info is.ends q qs answer parts chunks_fit)
 
   pub tables_sorted : IsSorted (file_table_in f shard) × IsSorted (xorb_table_in f shard) × IsSorted (chunk_table_in f shard)
   tables_sorted = (

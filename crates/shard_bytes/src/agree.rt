@@ -24,7 +24,7 @@ use xet_core_structures::set_operations::{
 /// `InvalidArguments` if the list is empty, or the keys of shards that agree differ. Else the errors
 /// are those of [`find_disagreements`](xet_core_structures::set_operations::find_disagreements) and
 /// [`merge_bytes`](crate::merge::merge_bytes).
-#[tactic(auto, using(xet_core_structures::proofs::Trees::InVersions::early))]
+#[tactic(auto, using(xet_core_structures::proofs::Trees::InVersions::refused_in_version))]
 pub fn merge_agreeing_bytes(
     alloc: Global,
     shards: &[&[u8]],
@@ -46,7 +46,7 @@ pub fn merge_agreeing_bytes(
 /// Writes the bytes that [`merge_agreeing_bytes`] makes to the front of a slice, if they fit, and
 /// returns their number. If they don't, if it makes none, or if the call fails, the slice stays as
 /// it is. The errors are the same.
-#[tactic(auto, using(xet_core_structures::proofs::Trees::InVersions::early))]
+#[tactic(auto, using(xet_core_structures::proofs::Trees::InVersions::refused_in_version))]
 pub fn merge_agreeing_bytes_into(
     alloc: Global,
     shards: &[&[u8]],

@@ -41,9 +41,9 @@ module _ {X : Type 0} where
     filtered_from xs x has = All-contains (Contains xs) (filter p xs) x (All-filter p (Contains xs) xs (All-contains_itself xs)) has
 
   -- what a closure keeps that tests whether hashes are in a range
-  pub retained : {F : Type 0} (R : F → X → Bool → F → Type 0) (range : HashRange) (hash_of : X → DataHash) (f : F)
+  pub retains_range : {F : Type 0} (R : F → X → Bool → F → Type 0) (range : HashRange) (hash_of : X → DataHash) (f : F)
       → ((x : X) (b : Bool) (f' : F) → R f x b f' → (b ≡ in_range range (hash_of x)) × (f' ≡ f)) → (xs ys : List X) → IsFiltered R f xs ys → KeepsInRange range hash_of xs ys
-  retained R range hash_of f tests xs ys filtered =
+  retains_range R range hash_of f tests xs ys filtered =
       let test = λ (x : X). in_range range (hash_of x) in
       let is = filter_same R test f tests xs ys filtered in
       record {

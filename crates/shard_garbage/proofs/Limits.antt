@@ -17,9 +17,9 @@ and_more : (a b c : Bool) → (b ≡ true → c ≡ true) → (a && b) ≡ true 
 and_more true b c more both = more both
 and_more false b c more both = both
 
-pub lowered : (from old : Option DataHash) (to limit hash : DataHash) → old ≡ Some limit → is_lt (hash_cmp to limit) ≡ true → InRange (record { from = from; to = Some to }) hash
+pub in_wider_range : (from old : Option DataHash) (to limit hash : DataHash) → old ≡ Some limit → is_lt (hash_cmp to limit) ≡ true → InRange (record { from = from; to = Some to }) hash
     → InRange (record { from = from; to = old }) hash
-lowered from old to limit hash old_is less within =
+in_wider_range from old to limit hash old_is less within =
     subst (λ o. InRange (record { from = from; to = o }) hash) (sym old_is)
     (and_more (is_from from hash) (is_lt (hash_cmp hash to)) (is_lt (hash_cmp hash limit))
     (λ below. ap is_lt (hash_cmp-IsTotalOrder.trans hash to limit (is_less (hash_cmp hash to) below) (is_less (hash_cmp to limit) less))) within)

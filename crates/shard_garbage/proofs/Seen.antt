@@ -124,8 +124,8 @@ module _ (range : HashRange) (files : List MDBFileInfo) (xorbs : List MDBXorbInf
   of_hash f (Outside s chunks) is within none = absurd none
   of_hash f (Bytes s sum) is within none = absurd none
 
-  pub finished : Reports range files xorbs result
-  finished = record {
+  pub reports_range : Reports range files xorbs result
+  reports_range = record {
     each = λ f has. (from f ((order.each f has).1) (lacking.each f ((order.each f has).0)), (order.each f has).1);
     all = λ f is within. order.kept f (⊎_elim (λ of_xorb. lacking.kept f (unnamed.kept f (found_are.all f of_xorb within))) (λ of_it. of_hash f f.fault refl within of_it) is) within;
     ascend = order.ascend;

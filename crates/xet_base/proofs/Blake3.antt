@@ -14,24 +14,24 @@ use Rattle.xet_base.specs.Blake3.{chunk_end_flag, root_flag, xor_halves, chainin
 use Rattle.xet_base.proofs.Bytes.{length-hash_bytes}
 
 -- what holds of each list of eight elements
-eight : (P : List ℕ → Type 0) → ((a b c d e f g h : ℕ) → P (a ∷ b ∷ c ∷ d ∷ e ∷ f ∷ g ∷ h ∷ [])) → (xs : List ℕ) → length xs ≡ 8 → P xs
-eight P p (a ∷ b ∷ c ∷ d ∷ e ∷ f ∷ g ∷ h ∷ []) len = p a b c d e f g h
-eight P p [] len = absurd (omega (arith, len))
-eight P p (a ∷ []) len = absurd (omega (arith, len))
-eight P p (a ∷ b ∷ []) len = absurd (omega (arith, len))
-eight P p (a ∷ b ∷ c ∷ []) len = absurd (omega (arith, len))
-eight P p (a ∷ b ∷ c ∷ d ∷ []) len = absurd (omega (arith, len))
-eight P p (a ∷ b ∷ c ∷ d ∷ e ∷ []) len = absurd (omega (arith, len))
-eight P p (a ∷ b ∷ c ∷ d ∷ e ∷ f ∷ []) len = absurd (omega (arith, len))
-eight P p (a ∷ b ∷ c ∷ d ∷ e ∷ f ∷ g ∷ []) len = absurd (omega (arith, len))
-eight P p (a ∷ b ∷ c ∷ d ∷ e ∷ f ∷ g ∷ h ∷ i ∷ xs) len = absurd (omega (arith, len))
+for_eight : (P : List ℕ → Type 0) → ((a b c d e f g h : ℕ) → P (a ∷ b ∷ c ∷ d ∷ e ∷ f ∷ g ∷ h ∷ [])) → (xs : List ℕ) → length xs ≡ 8 → P xs
+for_eight P p (a ∷ b ∷ c ∷ d ∷ e ∷ f ∷ g ∷ h ∷ []) len = p a b c d e f g h
+for_eight P p [] len = absurd (omega (arith, len))
+for_eight P p (a ∷ []) len = absurd (omega (arith, len))
+for_eight P p (a ∷ b ∷ []) len = absurd (omega (arith, len))
+for_eight P p (a ∷ b ∷ c ∷ []) len = absurd (omega (arith, len))
+for_eight P p (a ∷ b ∷ c ∷ d ∷ []) len = absurd (omega (arith, len))
+for_eight P p (a ∷ b ∷ c ∷ d ∷ e ∷ []) len = absurd (omega (arith, len))
+for_eight P p (a ∷ b ∷ c ∷ d ∷ e ∷ f ∷ []) len = absurd (omega (arith, len))
+for_eight P p (a ∷ b ∷ c ∷ d ∷ e ∷ f ∷ g ∷ []) len = absurd (omega (arith, len))
+for_eight P p (a ∷ b ∷ c ∷ d ∷ e ∷ f ∷ g ∷ h ∷ i ∷ xs) len = absurd (omega (arith, len))
 
 abbrev first_eight : List ℕ → List ℕ
 first_eight v =
     slice_index v 0 ∷ slice_index v 1 ∷ slice_index v 2 ∷ slice_index v 3 ∷ slice_index v 4 ∷ slice_index v 5 ∷ slice_index v 6 ∷ slice_index v 7 ∷ []
 
 pub are_eight : (v : List ℕ) → length v ≡ 8 → first_eight v ≡ v
-are_eight = eight (λ v. first_eight v ≡ v) (λ a b c d e f g h. refl)
+are_eight = for_eight (λ v. first_eight v ≡ v) (λ a b c d e f g h. refl)
 
 -- eight words as bytes, one after another
 abbrev side_by_side : List ℕ → List ℕ
@@ -41,7 +41,7 @@ side_by_side v =
 
 pub bytes_of_eight : (v : List ℕ) → length v ≡ 8 → side_by_side v ≡ flat_map u32_bytes v
 unfolding u32_bytes
-bytes_of_eight = eight (λ v. side_by_side v ≡ flat_map u32_bytes v) (λ a b c d e f g h. refl)
+bytes_of_eight = for_eight (λ v. side_by_side v ≡ flat_map u32_bytes v) (λ a b c d e f g h. refl)
 
 -- the sixteen words of a block that was read
 pub block_is : (w bytes : List ℕ) (n : ℕ) → w ≡ block_at bytes n
@@ -82,22 +82,22 @@ whole_chunk key t u bytes words block n flags len n_is t_is words_are block_is f
     ∙ chunk_is key u 0 bytes words block n 15 64 flags (ap (λ l. (l - 1) / 64) (sym len)) n_is words_are block_is (omega (arith, len)) flags_are
     ∙ ap (λ v. chunk_words key v 0 bytes) t_is
 
-pub leaf : (key : List ℕ) (n t top : ℕ) (bytes : List ℕ) → n ≡ 0 → chunk_words key t top bytes ≡ tree_words key n t top bytes
+pub leaf_is_chunk : (key : List ℕ) (n t top : ℕ) (bytes : List ℕ) → n ≡ 0 → chunk_words key t top bytes ≡ tree_words key n t top bytes
 unfolding tree_words
-leaf key n t top bytes is = ap (λ m. tree_words key m t top bytes) (sym is)
+leaf_is_chunk key n t top bytes is = ap (λ m. tree_words key m t top bytes) (sym is)
 
-chosen : {A : Type 0} (b : Bool) (x y : A) → b ≡ true → x ≡ (if b then x else y)
-chosen b x y is = ap (λ c. if c then x else y) (sym is)
+cond_true : {A : Type 0} (b : Bool) (x y : A) → b ≡ true → x ≡ (if b then x else y)
+cond_true b x y is = ap (λ c. if c then x else y) (sym is)
 
-other : {A : Type 0} (b : Bool) (x y : A) → b ≡ false → y ≡ (if b then x else y)
-other b x y is = ap (λ c. if c then x else y) (sym is)
+cond_false : {A : Type 0} (b : Bool) (x y : A) → b ≡ false → y ≡ (if b then x else y)
+cond_false b x y is = ap (λ c. if c then x else y) (sym is)
 
 -- a tree of at most half as many chunks, and one of more
 pub smaller : (key : List ℕ) (n m t top : ℕ) (bytes : List ℕ) → n ≡ m + 1 → length bytes ≤ 1024 * 2 ^ m
     → tree_words key m t top bytes ≡ tree_words key n t top bytes
 unfolding tree_words
 smaller key n m t top bytes is fits =
-    chosen (nat_le (length bytes) (1024 * 2 ^ m)) (tree_words key m t top bytes)
+    cond_true (nat_le (length bytes) (1024 * 2 ^ m)) (tree_words key m t top bytes)
     (parent_words key top (tree_words key m t 0 (take (1024 * 2 ^ m) bytes)) (tree_words key m (t + 2 ^ m) 0 (drop (1024 * 2 ^ m) bytes)))
     (le-leb (length bytes) (1024 * 2 ^ m) fits)
     ∙ sym (ap (λ k. tree_words key k t top bytes) (is ∙ add-one m))
@@ -107,7 +107,7 @@ pub larger : (key : List ℕ) (n m t top : ℕ) (bytes : List ℕ) → n ≡ m +
     ≡ tree_words key n t top bytes
 unfolding tree_words
 larger key n m t top bytes is more =
-    other (nat_le (length bytes) (1024 * 2 ^ m)) (tree_words key m t top bytes)
+    cond_false (nat_le (length bytes) (1024 * 2 ^ m)) (tree_words key m t top bytes)
     (parent_words key top (tree_words key m t 0 (take (1024 * 2 ^ m) bytes)) (tree_words key m (t + 2 ^ m) 0 (drop (1024 * 2 ^ m) bytes)))
     (lt-leb (length bytes) (1024 * 2 ^ m) more)
     ∙ sym (ap (λ k. tree_words key k t top bytes) (is ∙ add-one m))
@@ -134,34 +134,34 @@ pub four_are : (key : List ℕ) (t top : ℕ) (bytes front back a b c d : List �
 four_are key t top bytes front back a b c d len front_is back_is front_len back_len a_is b_is c_is d_is =
     let later : t + 3 ≡ t + 2 + 1 = omega arith in
     parts_are key 2 1 t top 2 bytes front back _ _ refl refl (omega (arith, len)) front_is back_is
-    (parts_are key 1 0 t 0 1 front a b _ _ refl refl (omega (arith, front_len)) a_is b_is (leaf key 0 t 0 a refl) (leaf key 0 (t + 1) 0 b refl))
-    (parts_are key 1 0 (t + 2) 0 1 back c d _ _ refl refl (omega (arith, back_len)) c_is d_is (leaf key 0 (t + 2) 0 c refl)
-    (ap (λ n. chunk_words key n 0 d) later ∙ leaf key 0 (t + 2 + 1) 0 d refl))
+    (parts_are key 1 0 t 0 1 front a b _ _ refl refl (omega (arith, front_len)) a_is b_is (leaf_is_chunk key 0 t 0 a refl) (leaf_is_chunk key 0 (t + 1) 0 b refl))
+    (parts_are key 1 0 (t + 2) 0 1 back c d _ _ refl refl (omega (arith, back_len)) c_is d_is (leaf_is_chunk key 0 (t + 2) 0 c refl)
+    (ap (λ n. chunk_words key n 0 d) later ∙ leaf_is_chunk key 0 (t + 2 + 1) 0 d refl))
 
 -- the size of a tree
 pub fits_53 : (n : ℕ) → n < 54 → 2 ^ n ≤ 9007199254740992
 fits_53 n below = pow-le-pow_right {n = 2} (omega arith) {i = n} {j = 53} (omega (arith, below))
 
-pub doubled : (n m : ℕ) → n ≡ m + 1 → 2 ^ n ≡ 2 ^ m + 2 ^ m
-doubled n m is = ap (λ k. 2 ^ k) (is ∙ add-one m) ∙ omega (arith, pow-suc 2 m)
+pub pow-double : (n m : ℕ) → n ≡ m + 1 → 2 ^ n ≡ 2 ^ m + 2 ^ m
+pow-double n m is = ap (λ k. 2 ^ k) (is ∙ add-one m) ∙ omega (arith, pow-suc 2 m)
 
 -- one chunk is a tree of any level
 one_chunk : (key : List ℕ) (n t top : ℕ) (bytes : List ℕ) → length bytes ≤ 1024 → tree_words key n t top bytes ≡ chunk_words key t top bytes
-one_chunk key zero t top bytes fits = sym (leaf key 0 t top bytes refl)
+one_chunk key zero t top bytes fits = sym (leaf_is_chunk key 0 t top bytes refl)
 one_chunk key (suc n) t top bytes fits =
     sym (smaller key (suc n) n t top bytes (sym (add-one n)) (omega (arith, fits, pow_pos n))) ∙ one_chunk key n t top bytes fits
 
 -- a tree with room to spare
-spare : (key : List ℕ) (d n t top : ℕ) (bytes : List ℕ) → length bytes ≤ 1024 * 2 ^ n → tree_words key n t top bytes ≡ tree_words key (d + n) t top bytes
-spare key zero n t top bytes fits = let same : n ≡ 0 + n = omega arith in ap (λ m. tree_words key m t top bytes) same
-spare key (suc d) n t top bytes fits =
-    spare key d n t top bytes fits
+taller_tree_is_same : (key : List ℕ) (d n t top : ℕ) (bytes : List ℕ) → length bytes ≤ 1024 * 2 ^ n → tree_words key n t top bytes ≡ tree_words key (d + n) t top bytes
+taller_tree_is_same key zero n t top bytes fits = let same : n ≡ 0 + n = omega arith in ap (λ m. tree_words key m t top bytes) same
+taller_tree_is_same key (suc d) n t top bytes fits =
+    taller_tree_is_same key d n t top bytes fits
     ∙ smaller key (suc d + n) (d + n) t top bytes (omega arith) (le_trans fits (omega (arith, pow-le-pow_right {n = 2} (omega arith) {i = n} {j = d + n} (omega arith))))
 
 pub whole_tree : (key : List ℕ) (level : ℕ) (bytes : List ℕ) → level ≤ 54 → length bytes ≤ 1024 * 2 ^ level
     → tree_words key level 0 root_flag bytes ≡ tree_words key 54 0 root_flag bytes
 whole_tree key level bytes few fits =
-    spare key (54 - level) level 0 root_flag bytes fits ∙ ap (λ n. tree_words key n 0 root_flag bytes) (omega (arith, few))
+    taller_tree_is_same key (54 - level) level 0 root_flag bytes fits ∙ ap (λ n. tree_words key n 0 root_flag bytes) (omega (arith, few))
 
 digest_is : (v : List ℕ) → digest v ≡ flat_map u32_bytes (xor_halves v)
 unfolding digest xor_halves u32_bytes

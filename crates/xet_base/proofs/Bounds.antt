@@ -19,9 +19,9 @@ no_hits_before t key low smaller =
 module _ {V : Type 0} (t : Table) (key : ℕ) (Gives : List ℕ → V → Type 0) (w : Window) (old now : Source) (results_old results : List V) (count : ℕ)
     (so_far : Searches t key Gives w old now results_old results count) where
   -- one more seek, and the bytes of at most n more rows
-  bounded : (sorted : IsSorted t) (new : Source) (n : ℕ) → new.seeks ≡ now.seeks + 1 → new.read ≤ now.read + n * (8 + t.width)
+  stays_in_bounds : (sorted : IsSorted t) (new : Source) (n : ℕ) → new.seeks ≡ now.seeks + 1 → new.read ≤ now.read + n * (8 + t.width)
       → n + (so_far.sorted sorted).later ≤ 258 + hits t key → Bounded t key old new
-  bounded sorted new n seeks read few =
+  stays_in_bounds sorted new n seeks read few =
       let before = so_far.sorted sorted in
       let rows : so_far.made + before.later + n ≤ 257 + hits t key + (so_far.made + 1) = omega (arith, few) in
       record {
@@ -34,7 +34,7 @@ module _ {V : Type 0} (t : Table) (key : ℕ) (Gives : List ℕ → V → Type 0
 
   -- a probed row's key was not read
   pub bounded_key_not : (sorted : IsSorted t) (new : Source) (e : Error) → StopsWithin t 1 8 now new e → Bounded t key old new
-  bounded_key_not sorted new e stops = bounded sorted new 1 stops.seeks (omega (arith, stops.read)) (omega (arith, (so_far.sorted sorted).left))
+  bounded_key_not sorted new e stops = stays_in_bounds sorted new 1 stops.seeks (omega (arith, stops.read)) (omega (arith, (so_far.sorted sorted).left))
 
   -- the search ended in a run of rows with the key
   pub bounded_runs : (sorted : IsSorted t) (mid new : Source) (found : ℕ) → w.low + 256 < w.high → ReadsKey t (w.probe - 1) now mid found
@@ -43,7 +43,7 @@ module _ {V : Type 0} (t : Table) (key : ℕ) (Gives : List ℕ → V → Type 0
       let before = so_far.sorted sorted in
       let rows = runs.end - (w.probe - 1) in
       let end_is : w.probe - 1 + rows ≡ runs.end = omega (arith, runs.past) in
-      bounded sorted new (rows + 1) (omega (arith, runs.seeks, ap (λ s. s.seeks) reads.after))
+      stays_in_bounds sorted new (rows + 1) (omega (arith, runs.seeks, ap (λ s. s.seeks) reads.after))
       (omega (
         arith,
         runs.read,
@@ -56,7 +56,7 @@ module _ {V : Type 0} (t : Table) (key : ℕ) (Gives : List ℕ → V → Type 0
 
   -- the seek to the last rows failed
   pub bounded_seek_not : (sorted : IsSorted t) (new : Source) (e : Error) → Fails now new 1 e → Bounded t key old new
-  bounded_seek_not sorted new e fails = bounded sorted new 0 fails.seeks (omega (arith, fails.read)) (omega (arith, (so_far.sorted sorted).left))
+  bounded_seek_not sorted new e fails = stays_in_bounds sorted new 0 fails.seeks (omega (arith, fails.read)) (omega (arith, (so_far.sorted sorted).left))
 
   -- the last rows were read
   pub bounded_passes : (sorted : IsSorted t) (mid new : Source) → w.high ≤ w.low + 256 → mid ≡ after_seek now (row_offset t w.low)
@@ -64,7 +64,7 @@ module _ {V : Type 0} (t : Table) (key : ℕ) (Gives : List ℕ → V → Type 0
   bounded_passes sorted mid new small sought passes =
       let rows = w.high - 1 - w.low in
       let end_is : w.low + rows ≡ w.high - 1 = omega (arith, so_far.around.rows) in
-      bounded sorted new rows (omega (arith, passes.seeks, ap (λ s. s.seeks) sought))
+      stays_in_bounds sorted new rows (omega (arith, passes.seeks, ap (λ s. s.seeks) sought))
       (omega (arith, passes.read, ap (λ s. s.read) sought, offset_of_row-add t.start t.width w.low rows, ap (row_offset t) end_is))
       (omega (arith, small, (so_far.sorted sorted).left))
 

@@ -2,7 +2,7 @@
 use Rattle.std.proofs.Common.{◌≡◌, inl, inr, ℕ, ◌+◌, ◌-◌, ◌*◌, ◌/◌, ◌<◌, ◌≤◌, min, max, refl, arith, mul-le-mul_right}
 use Rattle.std.proofs.lemmas.Bool.{cases_lt}
 use Rattle.xet_base.specs.Steps.Probes.{guess_of, Around, AfterBelow, AfterAbove}
-use Rattle.xet_base.proofs.Progress.{Shrinks, Chosen, Matching, Course}
+use Rattle.xet_base.proofs.Progress.{Shrinks, IsProbe, Matching, Course}
 use Rattle.xet_base.proofs.Quarter.{left_below, left_above}
 use Rattle.xet_base.proofs.Probing.{guess_quotient, guess_most, below_within, above_within}
 
@@ -51,7 +51,7 @@ guessed_above low low_key high high_key probe found key around above wide guesse
     )
 
 turn_below : (low low_key high high_key probe found key next : ℕ) → Around low low_key high high_key key → low + 256 < probe → probe < high
-    → Chosen low low_key high high_key key probe → found ≤ high_key → key < found → AfterBelow low probe (guess_of low low_key probe found key) next
+    → IsProbe low low_key high high_key key probe → found ≤ high_key → key < found → AfterBelow low probe (guess_of low low_key probe found key) next
     → Shrinks low probe next (high - low)
 turn_below low low_key high high_key probe found key next around wide below chosen under past after =
     let within = below_within low low_key probe found key next after (omega (arith, wide)) in
@@ -72,7 +72,7 @@ turn_below low low_key high high_key probe found key next around wide below chos
     }
 
 turn_above : (low low_key high high_key probe found key next : ℕ) → Around low low_key high high_key key → low < probe → probe + 256 < high
-    → Chosen low low_key high high_key key probe → low_key ≤ found → found < key → AfterAbove high probe (guess_of probe found high high_key key) next
+    → IsProbe low low_key high high_key key probe → low_key ≤ found → found < key → AfterAbove high probe (guess_of probe found high high_key key) next
     → Shrinks probe high next (high - low)
 turn_above low low_key high high_key probe found key next around above wide chosen over past after =
     let within = above_within probe found high high_key key next after (omega (arith, wide)) in

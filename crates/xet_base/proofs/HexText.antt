@@ -7,36 +7,36 @@ use Rattle.std.proofs.Math.Nat.{pow-zero, pow-suc}
 use Rattle.xet_base.specs.declared.merklehash.DataHash.{DataHash}
 use Rattle.xet_base.specs.Hex.{hex_digit, hex_digits, hash_hex}
 
-zeros : (count : ℕ) → hex_digits count 0 ≡ replicate count 48
+hex_of_zero : (count : ℕ) → hex_digits count 0 ≡ replicate count 48
 unfolding hex_digits
-zeros zero = refl
-zeros (suc count) =
+hex_of_zero zero = refl
+hex_of_zero (suc count) =
     let next : count + 1 ≡ suc count = omega arith in
-    ap (λ ds. ds ++ 48 ∷ []) (zeros count) ∙ replicate_more count 48 ∙ ap (λ n. replicate n 48) next
+    ap (λ ds. ds ++ 48 ∷ []) (hex_of_zero count) ∙ replicate_more count 48 ∙ ap (λ n. replicate n 48) next
 
 -- zeros before digits, up to so many before `acc`
-abbrev filled : ℕ → List ℕ → List ℕ → List ℕ
-filled count acc ds = replicate (count + length acc - length ds) 48 ++ ds
+abbrev with_zeros : ℕ → List ℕ → List ℕ → List ℕ
+with_zeros count acc ds = replicate (count + length acc - length ds) 48 ++ ds
 
-spelled : (k n : ℕ) (acc : List ℕ) (t : Bool) → eqb (n / 16) 0 ≡ t
+digits_step : (k n : ℕ) (acc : List ℕ) (t : Bool) → eqb (n / 16) 0 ≡ t
     → digits_onto (suc k) 16 false n acc ≡ cond t (hex_digit (n % 16) ∷ acc) (digits_onto k 16 false (n / 16) (hex_digit (n % 16) ∷ acc))
-spelled k n acc t e = ap (λ (b : Bool). cond b (hex_digit (n % 16) ∷ acc) (digits_onto k 16 false (n / 16) (hex_digit (n % 16) ∷ acc))) e
+digits_step k n acc t e = ap (λ (b : Bool). cond b (hex_digit (n % 16) ∷ acc) (digits_onto k 16 false (n / 16) (hex_digit (n % 16) ∷ acc))) e
 
 last_digit : (count n : ℕ) (acc : List ℕ) → hex_digits count (n / 16) ++ hex_digit (n % 16) ∷ acc ≡ hex_digits (suc count) n ++ acc
 unfolding hex_digits
 last_digit count n acc = sym (append_assoc (hex_digits count (n / 16)) (hex_digit (n % 16) ∷ []) acc)
 
 one_digit : (count k n : ℕ) (acc : List ℕ) → eqb (n / 16) 0 ≡ true → n / 16 ≡ 0
-    → filled (suc count) acc (digits_onto (suc k) 16 false n acc) ≡ hex_digits (suc count) n ++ acc
+    → with_zeros (suc count) acc (digits_onto (suc k) 16 false n acc) ≡ hex_digits (suc count) n ++ acc
 one_digit count k n acc test none =
     let d = hex_digit (n % 16) in
     let room : suc count + length acc - suc (length acc) ≡ count = omega arith in
-    ap (filled (suc count) acc) (spelled k n acc true test) ∙ ap (λ m. replicate m 48 ++ d ∷ acc) room
-    ∙ ap (λ ds. ds ++ d ∷ acc) (sym (zeros count) ∙ ap (hex_digits count) (sym none)) ∙ last_digit count n acc
+    ap (with_zeros (suc count) acc) (digits_step k n acc true test) ∙ ap (λ m. replicate m 48 ++ d ∷ acc) room
+    ∙ ap (λ ds. ds ++ d ∷ acc) (sym (hex_of_zero count) ∙ ap (hex_digits count) (sym none)) ∙ last_digit count n acc
 
 padded_onto : (count k n : ℕ) (acc : List ℕ) → count ≤ k → n < 16 ^ suc count
     → ((eqb (n / 16) 0 ≡ true) × (n / 16 ≡ 0)) ⊎ ((eqb (n / 16) 0 ≡ false) × (n / 16 ≢ 0))
-    → filled (suc count) acc (digits_onto (suc k) 16 false n acc) ≡ hex_digits (suc count) n ++ acc
+    → with_zeros (suc count) acc (digits_onto (suc k) 16 false n acc) ≡ hex_digits (suc count) n ++ acc
 padded_onto zero k n acc fuel fits (inl none) = one_digit zero k n acc none.0 none.1
 padded_onto zero k n acc fuel fits (inr some) = absurd (some.1 (omega (arith, fits, pow-suc 16 0, pow-zero 16)))
 padded_onto (suc count) zero n acc fuel fits test = absurd (omega arith)
@@ -46,7 +46,7 @@ padded_onto (suc count) (suc k) n acc fuel fits (inr some) =
     let ds = digits_onto (suc k) 16 false (n / 16) (d ∷ acc) in
     let below : n / 16 < 16 ^ suc count = omega (arith, fits, pow-suc 16 (suc count)) in
     let long : suc (suc count) + length acc ≡ suc count + suc (length acc) = omega arith in
-    ap (filled (suc (suc count)) acc) (spelled (suc k) n acc false some.0)
+    ap (with_zeros (suc (suc count)) acc) (digits_step (suc k) n acc false some.0)
     ∙ ap (λ m. replicate (m - length ds) 48 ++ ds) long
     ∙ padded_onto count k (n / 16) (d ∷ acc) (omega arith) below (eqb_tells (n / 16 / 16) 0)
     ∙ last_digit (suc count) n acc

@@ -33,8 +33,8 @@ pub record Shrinks (low high probe before : ℕ) : Type 0 where
   pub up : probe + 256 < high → high + 256 ≤ probe + before
 
 -- the probe is a guess, or a step from one end of the window
-abbrev pub Chosen : ℕ → ℕ → ℕ → ℕ → ℕ → ℕ → Type 0
-Chosen low low_key high high_key key probe = (probe ≡ guess_of low low_key high high_key key) ⊎ ((probe + 256 ≡ high) ⊎ (probe ≡ low + 256))
+abbrev pub IsProbe : ℕ → ℕ → ℕ → ℕ → ℕ → ℕ → Type 0
+IsProbe low low_key high high_key key probe = (probe ≡ guess_of low low_key high high_key key) ⊎ ((probe + 256 ≡ high) ⊎ (probe ≡ low + 256))
 
 -- no probed row had the key; `before` rows were left one turn ago, and each turn takes 128 on average
 pub record Going (all low low_key high high_key key probe made : ℕ) : Type 0 where
@@ -42,7 +42,7 @@ pub record Going (all low low_key high high_key key probe made : ℕ) : Type 0 w
   pub spent : 128 * made + (high - low) ≤ all + 128
   pub spent_before : 128 * made + before ≤ all + 256
   pub shrinks : low + 256 < high → Shrinks low high probe before
-  pub chosen : low + 256 < high → Chosen low low_key high high_key key probe
+  pub chosen : low + 256 < high → IsProbe low low_key high high_key key probe
 
 -- the upper end has the key; `later` rows with the key were passed, four between one probe and the next
 pub record Matching (IsEqual : Type 0) (all later low high probe made : ℕ) : Type 0 where

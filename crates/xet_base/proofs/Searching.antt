@@ -48,9 +48,9 @@ four_more t key i j sorted first last step =
     )
 
 -- the bytes of one turn: a key, and n rows with the key
-costs : (made later later_new n now mid new width : ℕ) → mid ≡ now + 8 → new ≤ mid + n * (8 + width) → later + n ≤ later_new → (old : ℕ)
+cost_of_turn : (made later later_new n now mid new width : ℕ) → mid ≡ now + 8 → new ≤ mid + n * (8 + width) → later + n ≤ later_new → (old : ℕ)
     → now ≤ old + (made + later) * (8 + width) → new ≤ old + (made + 1 + later_new) * (8 + width)
-costs made later later_new n now mid new width mid_is new_most rows old now_most =
+cost_of_turn made later later_new n now mid new width mid_is new_most rows old now_most =
     let more : made + later + (n + 1) ≤ made + 1 + later_new = omega (arith, rows) in
     omega (
       arith,
@@ -161,7 +161,7 @@ module _ {V : Type 0} (t : Table) (key : ℕ) (Gives : List ℕ → V → Type 0
             left = omega (arith, before.left, none);
             course = course_below (IsRow t key (w.high - 1)) (IsRow t key (w.probe - 1)) (t.rows + 1) before.later w.low w.low_key w.high w.high_key key w.probe so_far.made
                 found new.probe so_far.around running above below before.course not_equal under past narrows.probe before.later;
-            read = costs so_far.made before.later before.later 0 now.read mid.read mid.read t.width mid_read (omega arith) (omega arith) old.read before.read;
+            read = cost_of_turn so_far.made before.later before.later 0 now.read mid.read mid.read t.width mid_read (omega arith) (omega arith) old.read before.read;
           }
 
   pub searches_above : (new : Window) → found < key → NarrowsAbove w key found new → KeepsEven w key found new → Searches t key Gives new old mid results_old results count
@@ -200,7 +200,7 @@ module _ {V : Type 0} (t : Table) (key : ℕ) (Gives : List ℕ → V → Type 0
             left = before.left;
             course = course_above (IsRow t key (w.high - 1)) (IsRow t key (w.high - 1)) (t.rows + 1) before.later w.low w.low_key w.high w.high_key key w.probe so_far.made
                 found new.probe so_far.around running above below before.course over past narrows.probe;
-            read = costs so_far.made before.later before.later 0 now.read mid.read mid.read t.width mid_read (omega arith) (omega arith) old.read before.read;
+            read = cost_of_turn so_far.made before.later before.later 0 now.read mid.read mid.read t.width mid_read (omega arith) (omega arith) old.read before.read;
           }
 
   pub searches_equal : (new : Window) (after : Source) (results_new : List V) (count_new : ℕ) → found ≡ key → NarrowsEqual w new → KeepsEven w key found new → NoFailure mid after
@@ -260,5 +260,5 @@ module _ {V : Type 0} (t : Table) (key : ℕ) (Gives : List ℕ → V → Type 0
             left = omega (arith, before.left, less);
             course = course_equal (IsRow t key (w.high - 1)) (IsRow t key (w.probe - 1)) (t.rows + 1) before.later w.low w.low_key w.high w.high_key key w.probe so_far.made
                 found new.probe so_far.around running above below before.course row narrows.probe later_new (omega (arith, one)) more;
-            read = costs so_far.made before.later later_new rows now.read mid.read after.read t.width mid_read read few old.read before.read;
+            read = cost_of_turn so_far.made before.later later_new rows now.read mid.read after.read t.width mid_read read few old.read before.read;
           }

@@ -11,7 +11,7 @@ use Rattle.shard_bytes.specs.Sizes.{IsResultSize, HasFillSize}
 use Rattle.shard_bytes.proofs.Agreeing.{join_made}
 use Rattle.xet_c.specs.declared.agree.XetDisagreement.{XetDisagreement}
 use Rattle.xet_c.specs.Agreeing.{ShowsFirst, ShowsFill, MergesIfAgreeing}
-use Rattle.xet_c.proofs.Outcomes.{delivered}
+use Rattle.xet_c.proofs.Outcomes.{delivers}
 
 some_shown : (all : List Disagreement) (old new : XetDisagreement) (count : ℕ) → 0 < length all → ShowsFirst all old new count → 0 < count
 some_shown [] old new count some shows = absurd (omega (arith, some))
@@ -21,7 +21,7 @@ module _ (version : FormatVersion) (inputs : List (List ℕ)) (before after : Li
   pub merge_shown : (r : CoreResult AgreeingFill) → room ≡ length before → MatchResult r (FillsAgreeing version inputs before after) (λ e. RefusesAgreeing version inputs e × (after ≡ before)) → IfOk r (FillsJoin version inputs before after)
       → ShowsFill r room written old new count result → MergesIfAgreeing version inputs before after written old new count result
   merge_shown (Ok (Bytes size)) room_is (hold, agree, (bytes, merges, fills)) join (answers, none, stays) =
-      inl (bytes, (hold, agree, merges, join_made version inputs bytes hold agree merges), delivered bytes before after room written result size room_is fills answers, none, stays)
+      inl (bytes, (hold, agree, merges, join_made version inputs bytes hold agree merges), delivers bytes before after room written result size room_is fills answers, none, stays)
   merge_shown (Ok (Disagreements found)) room_is (hold, some, all, same) join (none, shows, number) =
       inr (inl (found.items, hold, all, join, shows, some_shown found.items old new count some shows, number, none, same))
   merge_shown (Ok (Malformed m)) room_is (first, same) join (none, zero, shows, number) = inr (inr (inl (m, first, join, shows, zero, number, none, same)))

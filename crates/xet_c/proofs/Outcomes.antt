@@ -37,25 +37,25 @@ count_given Says old new written answer (Ok items) says none delivered = subst S
 count_given Says old new written answer (Err e) says none refused = subst Says (sym refused.1) none
 
 module _ (bytes old new : List ℕ) (room answer size : ℕ) (size_is : size ≡ length bytes) (room_is : room ≡ length old) where
-  fitted : ((size ≤ length old) × (new ≡ bytes ++ drop size old)) ⊎ ((length old < size) × (new ≡ old))
+  fits_or_stays : ((size ≤ length old) × (new ≡ bytes ++ drop size old)) ⊎ ((length old < size) × (new ≡ old))
       → ((answer ≡ 0) × (size ≤ room)) ⊎ ((answer ≡ 19) × (room < size))
       → ((answer ≡ 0) × (length bytes ≤ length old) × (new ≡ bytes ++ drop (length bytes) old)) ⊎ ((answer ≡ 19) × (length old < length bytes) × (new ≡ old))
-  fitted (inl (small, new_is)) (inl (zero, fits)) = inl (zero, omega (arith, small, size_is), subst (λ n. new ≡ bytes ++ drop n old) size_is new_is)
-  fitted (inl (small, new_is)) (inr (short, large)) = absurd (omega (arith, small, large, room_is))
-  fitted (inr (large, same)) (inl (zero, fits)) = absurd (omega (arith, large, fits, room_is))
-  fitted (inr (large, same)) (inr (short, also)) = inr (short, omega (arith, large, size_is), same)
+  fits_or_stays (inl (small, new_is)) (inl (zero, fits)) = inl (zero, omega (arith, small, size_is), subst (λ n. new ≡ bytes ++ drop n old) size_is new_is)
+  fits_or_stays (inl (small, new_is)) (inr (short, large)) = absurd (omega (arith, small, large, room_is))
+  fits_or_stays (inr (large, same)) (inl (zero, fits)) = absurd (omega (arith, large, fits, room_is))
+  fits_or_stays (inr (large, same)) (inr (short, also)) = inr (short, omega (arith, large, size_is), same)
 
 -- bytes that were put into the output itself are delivered
-pub delivered : (bytes old new : List ℕ) (room written answer size : ℕ) → room ≡ length old → Fills bytes old new size → Answers room written answer size → Delivers bytes old new written answer
-delivered bytes old new room written answer size room_is (is, fits) (count, answers) = (count ∙ is, fitted bytes old new room answer size is room_is fits answers)
+pub delivers : (bytes old new : List ℕ) (room written answer size : ℕ) → room ≡ length old → Fills bytes old new size → Answers room written answer size → Delivers bytes old new written answer
+delivers bytes old new room written answer size room_is (is, fits) (count, answers) = (count ∙ is, fits_or_stays bytes old new room answer size is room_is fits answers)
 
-pub filled : (IsMade : List ℕ → Type 0) (IsCause : CoreError → Type 0) (old new : List ℕ) (room written answer : ℕ) (r : Result ℕ CoreError) → room ≡ length old
+pub outcome_of_fill : (IsMade : List ℕ → Type 0) (IsCause : CoreError → Type 0) (old new : List ℕ) (room written answer : ℕ) (r : Result ℕ CoreError) → room ≡ length old
     → FillsWith IsMade IsCause old new r
     → MatchResult r (Answers room written answer) (λ e. (answer ≡ variant_number e) × (written ≡ 0))
     → Outcome IsMade IsCause old new written answer
-filled IsMade IsCause old new room written answer (Ok size) room_is (bytes, made, fills) answers =
-    inl (bytes, made, delivered bytes old new room written answer size room_is fills answers)
-filled IsMade IsCause old new room written answer (Err e) room_is (cause, stays) (answers, none) = inr (e, cause, (answers, none, stays))
+outcome_of_fill IsMade IsCause old new room written answer (Ok size) room_is (bytes, made, fills) answers =
+    inl (bytes, made, delivers bytes old new room written answer size room_is fills answers)
+outcome_of_fill IsMade IsCause old new room written answer (Err e) room_is (cause, stays) (answers, none) = inr (e, cause, (answers, none, stays))
 
 -- what holds if bytes were made is said of them
 pub filled_so : (Holds : Type 0) (IsMade : List ℕ → Type 0) (IsCause : CoreError → Type 0) (old new : List ℕ) (r : Result ℕ CoreError) → IfOk r (λ _. Holds) → FillsWith IsMade IsCause old new r → FillsWith (λ _. Holds) IsCause old new r

@@ -16,7 +16,7 @@ use Rattle.xet_records.specs.Part.{part_rows, optional_rows_after, optional_rows
 use Rattle.xet_records.specs.FileRecord.{file_rows_bytes}
 use Rattle.xet_records.specs.FileRow.{segment_row, hash_row, FitsSegment, FitsHashRow, clear}
 use Rattle.xet_records.specs.Rows.{ReadsRows}
-use Rattle.xet_records.proofs.Parts.{Holds, length-part_of, parts-of-rows, holds_announced, rows_of-with_parts, optional_rows-with_parts}
+use Rattle.xet_records.proofs.Parts.{PartHolds, length-part_of, parts-of-rows, holds_announced, rows_of-with_parts, optional_rows-with_parts}
 use Rattle.xet_records.proofs.Reading.{no_rows, more_rows, length-read}
 use Rattle.xet_records.proofs.RecordKinds.{parts_after}
 
@@ -55,7 +55,7 @@ module _ (First Next Whole : List ℕ → Type 0) (joins : (xs ys : List ℕ) �
       let of_part : OptionalPart → List HashRow = λ part. part_of part h rows in
       let total = length-read hash_row FitsHashRow clear Next (optional_rows_after h) rows e.read in
       let len : (part : OptionalPart) → length (of_part part) ≡ part_rows part h = λ part. length-part_of h rows total part in
-      let holds : (part : OptionalPart) → Holds part (of_part part) = λ part. holds_announced h part (of_part part) (len part) in
+      let holds : (part : OptionalPart) → PartHolds part (of_part part) = λ part. holds_announced h part (of_part part) (len part) in
       let found = with_parts h ss of_part in
       let all : optional_rows found ≡ rows = optional_rows-with_parts h ss of_part holds ∙ parts-of-rows h rows total in
       record {

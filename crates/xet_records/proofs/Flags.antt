@@ -13,8 +13,8 @@ use Rattle.xet_records.specs.Merging.{IncludesBits}
 masked_bit : (b k : ℕ) → b < 2 → 0 < k → not (nat_eq (b * k) 0) ≡ nat_eq b 1
 masked_bit b k small above = grind (arith, nat_tests)
 
-pub masked : (flags : ℕ) (part : OptionalPart) → not (nat_eq (bit_and flags (2 ^ bit_of part)) 0) ≡ announces flags part
-masked flags part =
+pub bit_and_announces : (flags : ℕ) (part : OptionalPart) → not (nat_eq (bit_and flags (2 ^ bit_of part)) 0) ≡ announces flags part
+bit_and_announces flags part =
     ap (λ m. not (nat_eq m 0)) (and_pow flags (bit_of part)) ∙ masked_bit (bit_at flags (bit_of part)) (2 ^ bit_of part) (bit_at-lt flags (bit_of part)) (pow_above part)
   where
     pow_above : (part : OptionalPart) → 0 < 2 ^ bit_of part
@@ -28,13 +28,13 @@ or_unset n k unset = or_disjoint n (2 ^ k) (and_pow n k ∙ ap (λ b. b * 2 ^ k)
 
 -- the mark of a chunk, tested, taken away and set
 pub mark_masked : (flags : ℕ) → not (nat_eq (bit_and flags 2147483648) 0) ≡ (bit_at flags 31 == 1)
-mark_masked flags = masked flags Verification
+mark_masked flags = bit_and_announces flags Verification
 
-pub unmarked : (flags : ℕ) → bit_and flags 2147483647 ≡ flags % 2147483648
-unmarked flags = and_mask flags 31
+pub bit_and_mod : (flags : ℕ) → bit_and flags 2147483647 ≡ flags % 2147483648
+bit_and_mod flags = and_mask flags 31
 
-pub marked : (flags : ℕ) → bit_or (flags % 2147483648) 2147483648 ≡ flags % 2147483648 + 2147483648
-marked flags = or_unset (flags % 2147483648) 31 (omega arith)
+pub bit_or_add : (flags : ℕ) → bit_or (flags % 2147483648) 2147483648 ≡ flags % 2147483648 + 2147483648
+bit_or_add flags = or_unset (flags % 2147483648) 31 (omega arith)
 
 -- inclusion of sets of bits, tested by the bits in common
 bits_in_common : (x y : ℕ) → y < 2 → (y ≡ 1 → x ≡ 1) → min x y ≡ y

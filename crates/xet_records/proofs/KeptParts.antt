@@ -14,8 +14,8 @@ use Rattle.xet_records.specs.Part.{parts, with_parts, announces, flags_of, size_
 use Rattle.xet_records.specs.FileRecord.{has_verification, has_aux_ext, file_record_bytes, file_rows_bytes, row_count, FitsItsHeader, FitsRecord, IsStored, IsWellFormed}
 use Rattle.xet_records.specs.View.{KeptParts, with_parts_if, without_verification, without_aux, with_verification_if, with_aux_if, as_kept}
 use Rattle.xet_records.specs.Steps.View.{keeps}
-use Rattle.xet_records.proofs.Merging.{one, one_announced, part_absent, announces-flags_of}
-use Rattle.xet_records.proofs.Parts.{for_parts, rows_bytes, fewer, fewer_rows, rows_of-with_parts_if, same_record, All-part, All-parts}
+use Rattle.xet_records.proofs.Merging.{bit_if, bit_if_announced, part_absent, announces-flags_of}
+use Rattle.xet_records.proofs.Parts.{for_parts, rows_bytes, length-cond-le, fewer_rows, rows_of-with_parts_if, same_record, All-part, All-parts}
 
 -- the segments and the rows of each part
 pub segments_kept : (kept : KeptParts) (r : MDBFileInfo) → (as_kept kept r).segments ≡ r.segments
@@ -67,7 +67,7 @@ pub fewer-kept : (kept : KeptParts) (r : MDBFileInfo) (part : OptionalPart) → 
 fewer-kept kept r part = either kept.aux_ext (has_verification r.metadata.file_flags && not kept.verification)
   where
     dropped : (stays : OptionalPart → Bool) (h : FileDataSequenceHeader) (s : MDBFileInfo) → length (rows_of part (with_parts_if stays h s)) ≤ length (rows_of part s)
-    dropped stays h s = omega (arith, ap length (rows_of-with_parts_if stays h s part), fewer (stays part) (rows_of part s))
+    dropped stays h s = omega (arith, ap length (rows_of-with_parts_if stays h s part), length-cond-le (stays part) (rows_of part s))
 
     first : (leaves_out : Bool) → length (rows_of part (if leaves_out then without_verification r else r)) ≤ length (rows_of part r)
     first true = dropped (all_but Verification) _ r
@@ -117,7 +117,7 @@ module _ (stays : OptionalPart → Bool) (h : FileDataSequenceHeader) (r : MDBFi
   with_parts_if-rows : length (optional_rows (with_parts_if stays h r)) ≤ length (optional_rows r)
   with_parts_if-rows =
       fewer_rows (λ p. rows_of p (with_parts_if stays h r)) (λ p. rows_of p r)
-      (λ p. omega (arith, ap length (rows_of-with_parts_if stays h r p), fewer (stays p) (rows_of p r))) parts
+      (λ p. omega (arith, ap length (rows_of-with_parts_if stays h r p), length-cond-le (stays p) (rows_of p r))) parts
 
   -- they are kept once
   pub with_parts_if-again : (k : FileDataSequenceHeader) → k ≡ h → with_parts_if stays k (with_parts_if stays h r) ≡ with_parts_if stays h r
@@ -155,13 +155,13 @@ rows-kept kept r = omega (
 )
 
 -- flags with the bit of an auxiliary row cleared
-pub cleared : (flags : ℕ) (part : OptionalPart) → announces (with_flag AuxExt false flags) part ≡ (all_but AuxExt part && announces flags part)
-cleared flags = either (announces flags AuxExt) refl
+pub announces-without_aux : (flags : ℕ) (part : OptionalPart) → announces (with_flag AuxExt false flags) part ≡ (all_but AuxExt part && announces flags part)
+announces-without_aux flags = either (announces flags AuxExt) refl
   where
     either : (b : Bool) → announces flags AuxExt ≡ b → (part : OptionalPart)
         → announces (flags - (if b then 536870912 else 0) + 0) part ≡ (all_but AuxExt part && announces flags part)
     either true set =
-        let bit : bit_at flags 29 ≡ 1 = one_announced flags AuxExt ∙ ap one set in
+        let bit : bit_at flags 29 ≡ 1 = bit_if_announced flags AuxExt ∙ ap bit_if set in
         let high : bit_at (flags - 536870912 + 0) 31 ≡ bit_at flags 31 = omega (arith, bit) in
         let middle : bit_at (flags - 536870912 + 0) 30 ≡ bit_at flags 30 = omega (arith, bit) in
         let low : bit_at (flags - 536870912 + 0) 29 ≡ 0 = omega (arith, bit) in
@@ -177,7 +177,7 @@ cleared-known flags known = omega (arith, known)
 -- a record without its auxiliary row is as good as the record
 module _ (r : MDBFileInfo) where
   without_aux-whole : FitsItsHeader r → FitsItsHeader (without_aux r)
-  without_aux-whole whole = with_parts_if-whole (all_but AuxExt) (without_aux r).metadata r whole refl (cleared r.metadata.file_flags)
+  without_aux-whole whole = with_parts_if-whole (all_but AuxExt) (without_aux r).metadata r whole refl (announces-without_aux r.metadata.file_flags)
 
   pub without_aux-fits : FitsRecord r → FitsRecord (without_aux r)
   without_aux-fits fits = record {
@@ -200,7 +200,7 @@ module _ (r : MDBFileInfo) where
   pub without_aux-formed : IsWellFormed r → IsWellFormed (without_aux r)
   without_aux-formed formed = record {
     is_file = formed.is_file;
-    known_flags = cleared-known r.metadata.file_flags formed.known_flags ∙ (λ i. flags_of (λ part. sym (cleared r.metadata.file_flags part) i));
+    known_flags = cleared-known r.metadata.file_flags formed.known_flags ∙ (λ i. flags_of (λ part. sym (announces-without_aux r.metadata.file_flags part) i));
     reserved = formed.reserved;
     whole = without_aux-whole formed.whole;
     clear = with_parts_if-all (all_but AuxExt) (without_aux r).metadata r (λ row. row._unused ≡ 0 ∷ 0 ∷ []) formed.clear;

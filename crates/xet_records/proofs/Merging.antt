@@ -14,29 +14,29 @@ use Rattle.xet_records.specs.FileRow.{FitsHashRow}
 use Rattle.xet_records.specs.Part.{parts, bit_of, announces, flags_of, size_of_part, part_rows, rows_of, optional_rows, with_parts}
 use Rattle.xet_records.specs.FileRecord.{rows_after, row_count, FitsItsHeader, IsWellFormed}
 use Rattle.xet_records.specs.Merging.{IsSameFile, mixed_header, has_part, merged_file, Agree, joined_file}
-use Rattle.xet_records.proofs.Parts.{for_parts, Holds, held, length-parts, fewer_rows, rows_of_both, rows_of-with_parts, with_parts-rows_of, All-part, All-parts}
+use Rattle.xet_records.proofs.Parts.{for_parts, PartHolds, holds_own_rows, length-parts, fewer_rows, rows_of_both, rows_of-with_parts, with_parts-rows_of, All-part, All-parts}
 
 -- a flag as a number
-abbrev pub one : Bool → ℕ
-one true = 1
-one false = 0
+abbrev pub bit_if : Bool → ℕ
+bit_if true = 1
+bit_if false = 0
 
-one_small : (b : Bool) → one b < 2
-one_small true = omega arith
-one_small false = omega arith
+bit_if_small : (b : Bool) → bit_if b < 2
+bit_if_small true = omega arith
+bit_if_small false = omega arith
 
-pub flag_is : (b : Bool) (n : ℕ) → (if b then n else 0) ≡ one b * n
-flag_is true n = omega arith
-flag_is false n = omega arith
+pub bit_if_times : (b : Bool) (n : ℕ) → (if b then n else 0) ≡ bit_if b * n
+bit_if_times true n = omega arith
+bit_if_times false n = omega arith
 
-one_shows : (n : ℕ) (b : Bool) → n ≡ one b → (n == 1) ≡ b
-one_shows n true is = ap (λ k. k == 1) is
-one_shows n false is = ap (λ k. k == 1) is
+bit_if_shows : (n : ℕ) (b : Bool) → n ≡ bit_if b → (n == 1) ≡ b
+bit_if_shows n true is = ap (λ k. k == 1) is
+bit_if_shows n false is = ap (λ k. k == 1) is
 
-pub one_announced : (flags : ℕ) (part : OptionalPart) → bit_at flags (bit_of part) ≡ one (announces flags part)
-one_announced flags part = by_cases (announces flags part) refl
+pub bit_if_announced : (flags : ℕ) (part : OptionalPart) → bit_at flags (bit_of part) ≡ bit_if (announces flags part)
+bit_if_announced flags part = by_cases (announces flags part) refl
   where
-    by_cases : (b : Bool) → announces flags part ≡ b → bit_at flags (bit_of part) ≡ one b
+    by_cases : (b : Bool) → announces flags part ≡ b → bit_at flags (bit_of part) ≡ bit_if b
     by_cases true is = grind (arith, nat_tests, is)
     by_cases false is = grind (arith, nat_tests, is, bit_at-lt flags (bit_of part))
 
@@ -45,27 +45,27 @@ pub bit_within : (part : OptionalPart) → bit_of part < 32
 bit_within part = for_parts (λ p. bit_of p < 32) (omega arith) (omega arith) (omega arith) part
 
 -- the bits of flags to which those of parts that they don't announce are added
-bits_added : (flags : ℕ) (wanted : OptionalPart → Bool) → ((part : OptionalPart) → bit_at flags (bit_of part) + one (wanted part) < 2)
-    → (part : OptionalPart) → bit_at (flags + flags_of wanted) (bit_of part) ≡ bit_at flags (bit_of part) + one (wanted part)
-bits_added flags wanted free Verification = omega (arith, free Verification, free MetadataExt, free AuxExt, flag_is (wanted Verification) 2147483648, flag_is (wanted MetadataExt) 1073741824, flag_is (wanted AuxExt) 536870912)
-bits_added flags wanted free MetadataExt = omega (arith, free Verification, free MetadataExt, free AuxExt, flag_is (wanted Verification) 2147483648, flag_is (wanted MetadataExt) 1073741824, flag_is (wanted AuxExt) 536870912)
-bits_added flags wanted free AuxExt = omega (arith, free Verification, free MetadataExt, free AuxExt, flag_is (wanted Verification) 2147483648, flag_is (wanted MetadataExt) 1073741824, flag_is (wanted AuxExt) 536870912)
+bits_added : (flags : ℕ) (wanted : OptionalPart → Bool) → ((part : OptionalPart) → bit_at flags (bit_of part) + bit_if (wanted part) < 2)
+    → (part : OptionalPart) → bit_at (flags + flags_of wanted) (bit_of part) ≡ bit_at flags (bit_of part) + bit_if (wanted part)
+bits_added flags wanted free Verification = omega (arith, free Verification, free MetadataExt, free AuxExt, bit_if_times (wanted Verification) 2147483648, bit_if_times (wanted MetadataExt) 1073741824, bit_if_times (wanted AuxExt) 536870912)
+bits_added flags wanted free MetadataExt = omega (arith, free Verification, free MetadataExt, free AuxExt, bit_if_times (wanted Verification) 2147483648, bit_if_times (wanted MetadataExt) 1073741824, bit_if_times (wanted AuxExt) 536870912)
+bits_added flags wanted free AuxExt = omega (arith, free Verification, free MetadataExt, free AuxExt, bit_if_times (wanted Verification) 2147483648, bit_if_times (wanted MetadataExt) 1073741824, bit_if_times (wanted AuxExt) 536870912)
 
 pub flags_fit : (wanted : OptionalPart → Bool) → flags_of wanted < 2 ^ 32
 flags_fit wanted = omega (
   arith,
-  flag_is (wanted Verification) 2147483648,
-  flag_is (wanted MetadataExt) 1073741824,
-  flag_is (wanted AuxExt) 536870912,
-  one_small (wanted Verification),
-  one_small (wanted MetadataExt),
-  one_small (wanted AuxExt),
+  bit_if_times (wanted Verification) 2147483648,
+  bit_if_times (wanted MetadataExt) 1073741824,
+  bit_if_times (wanted AuxExt) 536870912,
+  bit_if_small (wanted Verification),
+  bit_if_small (wanted MetadataExt),
+  bit_if_small (wanted AuxExt),
 )
 
 pub announces-flags_of : (wanted : OptionalPart → Bool) (part : OptionalPart) → announces (flags_of wanted) part ≡ wanted part
 announces-flags_of wanted part =
-    one_shows (bit_at (flags_of wanted) (bit_of part)) (wanted part)
-    (ap (λ n. bit_at n (bit_of part)) (omega arith) ∙ bits_added 0 wanted (λ p. omega (arith, one_small (wanted p), none p)) part ∙ omega (arith, none part))
+    bit_if_shows (bit_at (flags_of wanted) (bit_of part)) (wanted part)
+    (ap (λ n. bit_at n (bit_of part)) (omega arith) ∙ bits_added 0 wanted (λ p. omega (arith, bit_if_small (wanted p), none p)) part ∙ omega (arith, none part))
   where
     none : (part : OptionalPart) → bit_at 0 (bit_of part) ≡ 0
     none Verification = refl
@@ -115,17 +115,17 @@ nothing_taken a b has_all =
 
 -- one of two parts
 module _ {X : Type 0} where
-  taken : (v w : Bool) (x y : X) → (v ≡ false → w ≡ false → x ≡ y) → (if w && not v then y else x) ≡ (if v then x else y)
-  taken true true x y none = refl
-  taken true false x y none = refl
-  taken false true x y none = refl
-  taken false false x y none = none refl refl
+  cond-takes : (v w : Bool) (x y : X) → (v ≡ false → w ≡ false → x ≡ y) → (if w && not v then y else x) ≡ (if v then x else y)
+  cond-takes true true x y none = refl
+  cond-takes true false x y none = refl
+  cond-takes false true x y none = refl
+  cond-takes false false x y none = none refl refl
 
-  turned : (v w : Bool) (x y : X) → (IsTrue v → IsTrue w → x ≡ y) → (v ≡ false → w ≡ false → x ≡ y) → (if v then x else y) ≡ (if w then y else x)
-  turned true true x y both none = both refl refl
-  turned true false x y both none = refl
-  turned false true x y both none = refl
-  turned false false x y both none = sym (none refl refl)
+  cond-turns : (v w : Bool) (x y : X) → (IsTrue v → IsTrue w → x ≡ y) → (v ≡ false → w ≡ false → x ≡ y) → (if v then x else y) ≡ (if w then y else x)
+  cond-turns true true x y both none = both refl refl
+  cond-turns true false x y both none = refl
+  cond-turns false true x y both none = refl
+  cond-turns false false x y both none = sym (none refl refl)
 
   itself : (v : Bool) (x : X) → (if v then x else x) ≡ x
   itself true x = refl
@@ -142,33 +142,33 @@ or_itself true = refl
 or_itself false = refl
 
 -- the parts of a record that took over parts, whatever its flags were
-either_holds : (part : OptionalPart) (v : Bool) (xs ys : List HashRow) → Holds part xs → Holds part ys → Holds part (if v then xs else ys)
+either_holds : (part : OptionalPart) (v : Bool) (xs ys : List HashRow) → PartHolds part xs → PartHolds part ys → PartHolds part (if v then xs else ys)
 either_holds part true xs ys first second = first
 either_holds part false xs ys first second = second
 
-gained : (v w : Bool) → one v + one (w && not v) ≡ one (v || w)
-gained true true = refl
-gained true false = refl
-gained false true = refl
-gained false false = refl
+bit_if-or : (v w : Bool) → bit_if v + bit_if (w && not v) ≡ bit_if (v || w)
+bit_if-or true true = refl
+bit_if-or true false = refl
+bit_if-or false true = refl
+bit_if-or false false = refl
 
 module _ (a b : MDBFileInfo) where
   pub has_part-merged_file : (part : OptionalPart) → has_part (merged_file a b) part ≡ (has_part a part || has_part b part)
   has_part-merged_file part =
       let takes : OptionalPart → Bool = λ p. has_part b p && not (has_part a p) in
-      let sum : (p : OptionalPart) → bit_at a.metadata.file_flags (bit_of p) + one (takes p) ≡ one (has_part a p || has_part b p) =
-      λ p. ap (λ n. n + one (takes p)) (one_announced a.metadata.file_flags p) ∙ gained (has_part a p) (has_part b p) in
-      one_shows _ (has_part a part || has_part b part)
-      (bits_added a.metadata.file_flags takes (λ p. omega (arith, sum p, one_small (has_part a p || has_part b p))) part ∙ sum part)
+      let sum : (p : OptionalPart) → bit_at a.metadata.file_flags (bit_of p) + bit_if (takes p) ≡ bit_if (has_part a p || has_part b p) =
+      λ p. ap (λ n. n + bit_if (takes p)) (bit_if_announced a.metadata.file_flags p) ∙ bit_if-or (has_part a p) (has_part b p) in
+      bit_if_shows _ (has_part a part || has_part b part)
+      (bits_added a.metadata.file_flags takes (λ p. omega (arith, sum p, bit_if_small (has_part a p || has_part b p))) part ∙ sum part)
 
   pub rows_of-merged_file : (part : OptionalPart) → rows_of part (merged_file a b) ≡ (if has_part b part && not (has_part a part) then rows_of part b else rows_of part a)
-  rows_of-merged_file part = rows_of-with_parts _ _ _ (λ p. either_holds p (has_part b p && not (has_part a p)) (rows_of p b) (rows_of p a) (held b p) (held a p)) part
+  rows_of-merged_file part = rows_of-with_parts _ _ _ (λ p. either_holds p (has_part b p && not (has_part a p)) (rows_of p b) (rows_of p a) (holds_own_rows b p) (holds_own_rows a p)) part
 
   has_part-joined_file : (part : OptionalPart) → has_part (joined_file a b) part ≡ (has_part a part || has_part b part)
   has_part-joined_file part = announces-flags_of (λ p. has_part a p || has_part b p) part
 
   pub rows_of-joined_file : (part : OptionalPart) → rows_of part (joined_file a b) ≡ (if has_part a part then rows_of part a else rows_of part b)
-  rows_of-joined_file part = rows_of-with_parts _ _ _ (λ p. either_holds p (has_part a p) (rows_of p a) (rows_of p b) (held a p) (held b p)) part
+  rows_of-joined_file part = rows_of-with_parts _ _ _ (λ p. either_holds p (has_part a p) (rows_of p a) (rows_of p b) (holds_own_rows a p) (holds_own_rows b p)) part
 
 -- the rows of a merged record are those that the header of a mix announces
 taken_rows : {X : Type 0} (v w : Bool) (n : ℕ) (xs ys : List X) → length xs ≡ (if v then n else 0) → length ys ≡ (if w then n else 0)
@@ -278,7 +278,7 @@ pub merged_is_joined : (a b : MDBFileInfo) → IsWellFormed a → IsWellFormed b
 merged_is_joined a b a_formed b_formed =
     let flags = ap (λ n. n + flags_of (λ part. has_part b part && not (has_part a part))) a_formed.known_flags ∙ flags_added (has_part a) (has_part b) in
     λ i. with_parts (record a.metadata { file_flags = flags i }) a.segments
-    (λ part. taken (has_part a part) (has_part b part) (rows_of part a) (rows_of part b) (both_absent a b a_formed.whole b_formed.whole part) i)
+    (λ part. cond-takes (has_part a part) (has_part b part) (rows_of part a) (rows_of part b) (both_absent a b a_formed.whole b_formed.whole part) i)
 
 -- the order, the grouping and the repetition of well-formed records that agree don't matter
 same_header : (h k : FileDataSequenceHeader) (flags : ℕ) → IsSameFile h k → h._unused ≡ k._unused → record h { file_flags = flags } ≡ record k { file_flags = flags }
@@ -296,7 +296,7 @@ joined_file-comm a b a_formed b_formed same_hash agree =
     (same_file_if_agree a b a_formed.whole b_formed.whole same_hash agree) (a_formed.reserved ∙ sym b_formed.reserved)
     ∙ (λ i. record b.metadata { file_flags = flags_of (λ part. or_turned (has_part a part) (has_part b part) i) }) in
     λ i. with_parts (header i) (agree.segments i)
-    (λ part. turned (has_part a part) (has_part b part) (rows_of part a) (rows_of part b) (agree.parts part) (both_absent a b a_formed.whole b_formed.whole part) i)
+    (λ part. cond-turns (has_part a part) (has_part b part) (rows_of part a) (rows_of part b) (agree.parts part) (both_absent a b a_formed.whole b_formed.whole part) i)
 
 pub joined_file-idem : (a : MDBFileInfo) → IsWellFormed a → joined_file a a ≡ a
 joined_file-idem a formed =

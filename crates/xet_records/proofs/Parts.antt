@@ -63,16 +63,16 @@ module _ {X : Type 0} (rows : OptionalPart → List X) where
   unfolding before_part after_part
   rows_split part = ap (flat_map rows) (parts_are part) ∙ flat_map-append rows (parts_before part) (part ∷ parts_after part)
 
-  counted : (count : OptionalPart → ℕ) → ((part : OptionalPart) → length (rows part) ≡ count part) → (ps : List OptionalPart) → length (flat_map rows ps) ≡ sum_by count ps
-  counted count each ps = length-flat_map rows ps ∙ (λ i. sum_by (λ part. each part i) ps)
+  length-rows : (count : OptionalPart → ℕ) → ((part : OptionalPart) → length (rows part) ≡ count part) → (ps : List OptionalPart) → length (flat_map rows ps) ≡ sum_by count ps
+  length-rows count each ps = length-flat_map rows ps ∙ (λ i. sum_by (λ part. each part i) ps)
 
   pub length-before_part : (h : FileDataSequenceHeader) → ((part : OptionalPart) → length (rows part) ≡ part_rows part h) → (part : OptionalPart)
       → length (before_part part) ≡ rows_before part h
   unfolding before_part
-  length-before_part h each part = counted (λ p. part_rows p h) each (parts_before part)
+  length-before_part h each part = length-rows (λ p. part_rows p h) each (parts_before part)
 
   pub length-parts : (h : FileDataSequenceHeader) → ((part : OptionalPart) → length (rows part) ≡ part_rows part h) → length (flat_map rows parts) ≡ optional_rows_after h
-  length-parts h each = counted (λ p. part_rows p h) each parts
+  length-parts h each = length-rows (λ p. part_rows p h) each parts
 
 -- the rows before a part and those of the part are within those of all parts
 pub part_within : (h : FileDataSequenceHeader) (part : OptionalPart) → rows_before part h + part_rows part h ≤ optional_rows_after h
@@ -92,22 +92,22 @@ length-part_of h xs len part =
     length-take-le (part_rows part h) (drop (rows_before part h) xs) (omega (arith, part_within h part, len, length-drop (rows_before part h) xs))
 
 -- the parts of rows, one after another, are the rows
-piece : {X : Type 0} (start count end : ℕ) (xs rest : List X) → start + count ≡ end → rest ≡ drop end xs → take count (drop start xs) ++ rest ≡ drop start xs
-piece start count end xs rest ends is =
+piece_and_rest : {X : Type 0} (start count end : ℕ) (xs rest : List X) → start + count ≡ end → rest ≡ drop end xs → take count (drop start xs) ++ rest ≡ drop start xs
+piece_and_rest start count end xs rest ends is =
     ap (λ ys. take count (drop start xs) ++ ys) (is ∙ ap (λ n. drop n xs) (sym ends) ∙ sym (drop-drop count start xs)) ∙ take-append-drop count (drop start xs)
 
 pub parts-of-rows : (h : FileDataSequenceHeader) (xs : List HashRow) → length xs ≡ optional_rows_after h → flat_map (λ part. part_of part h xs) parts ≡ xs
 parts-of-rows h xs len =
     let count : OptionalPart → ℕ = λ part. part_rows part h in
     let start : OptionalPart → ℕ = λ part. rows_before part h in
-    piece (start Verification) (count Verification) (start MetadataExt) xs _ (omega arith)
-    (piece (start MetadataExt) (count MetadataExt) (start AuxExt) xs _ (omega arith)
-    (piece (start AuxExt) (count AuxExt) (optional_rows_after h) xs [] (omega arith) (sym (drop_all (optional_rows_after h) xs (omega (arith, len))))))
+    piece_and_rest (start Verification) (count Verification) (start MetadataExt) xs _ (omega arith)
+    (piece_and_rest (start MetadataExt) (count MetadataExt) (start AuxExt) xs _ (omega arith)
+    (piece_and_rest (start AuxExt) (count AuxExt) (optional_rows_after h) xs [] (omega arith) (sym (drop_all (optional_rows_after h) xs (omega (arith, len))))))
 
 -- what a part can hold: an optional row is one at most
-abbrev pub Holds : OptionalPart → List HashRow → Type 0
-Holds Verification rows = Unit {0}
-Holds _ rows = length rows ≤ 1
+abbrev pub PartHolds : OptionalPart → List HashRow → Type 0
+PartHolds Verification rows = Unit {0}
+PartHolds _ rows = length rows ≤ 1
 
 first-of : {X : Type 0} (o : Option X) → slice_get (option_to_list o) 0 ≡ o
 first-of None = refl
@@ -122,23 +122,23 @@ one_row : {X : Type 0} (o : Option X) → length (option_to_list o) ≤ 1
 one_row None = omega arith
 one_row (Some x) = omega arith
 
-pub held : (r : MDBFileInfo) (part : OptionalPart) → Holds part (rows_of part r)
-held r Verification = tt
-held r MetadataExt = one_row r.metadata_ext
-held r AuxExt = one_row r.aux_ext
+pub holds_own_rows : (r : MDBFileInfo) (part : OptionalPart) → PartHolds part (rows_of part r)
+holds_own_rows r Verification = tt
+holds_own_rows r MetadataExt = one_row r.metadata_ext
+holds_own_rows r AuxExt = one_row r.aux_ext
 
-holds_as_many : (part : OptionalPart) (xs ys : List HashRow) → length ys ≤ length xs → Holds part xs → Holds part ys
+holds_as_many : (part : OptionalPart) (xs ys : List HashRow) → length ys ≤ length xs → PartHolds part xs → PartHolds part ys
 holds_as_many Verification xs ys few holds = tt
 holds_as_many MetadataExt xs ys few holds = omega arith
 holds_as_many AuxExt xs ys few holds = omega arith
 
-pub holds_announced : (h : FileDataSequenceHeader) (part : OptionalPart) (xs : List HashRow) → length xs ≡ part_rows part h → Holds part xs
+pub holds_announced : (h : FileDataSequenceHeader) (part : OptionalPart) (xs : List HashRow) → length xs ≡ part_rows part h → PartHolds part xs
 holds_announced h Verification xs len = tt
 holds_announced h MetadataExt xs len = grind (arith, len)
 holds_announced h AuxExt xs len = grind (arith, len)
 
 -- a record has the parts that it was made of, and it is what it has
-pub rows_of-with_parts : (h : FileDataSequenceHeader) (ss : List FileDataSequenceEntry) (rows : OptionalPart → List HashRow) → ((part : OptionalPart) → Holds part (rows part))
+pub rows_of-with_parts : (h : FileDataSequenceHeader) (ss : List FileDataSequenceEntry) (rows : OptionalPart → List HashRow) → ((part : OptionalPart) → PartHolds part (rows part))
     → (part : OptionalPart) → rows_of part (with_parts h ss rows) ≡ rows part
 rows_of-with_parts h ss rows holds Verification = refl
 rows_of-with_parts h ss rows holds MetadataExt = at_most_one (rows MetadataExt) (holds MetadataExt)
@@ -157,7 +157,7 @@ pub same_record : (a b : MDBFileInfo) → a.metadata ≡ b.metadata → a.segmen
 same_record a b header segments rows =
     sym (with_parts-rows_of a) ∙ (λ i. with_parts (header i) (segments i) (λ part. rows part i)) ∙ with_parts-rows_of b
 
-pub optional_rows-with_parts : (h : FileDataSequenceHeader) (ss : List FileDataSequenceEntry) (rows : OptionalPart → List HashRow) → ((part : OptionalPart) → Holds part (rows part))
+pub optional_rows-with_parts : (h : FileDataSequenceHeader) (ss : List FileDataSequenceEntry) (rows : OptionalPart → List HashRow) → ((part : OptionalPart) → PartHolds part (rows part))
     → optional_rows (with_parts h ss rows) ≡ flat_map rows parts
 optional_rows-with_parts h ss rows holds = λ i. flat_map (λ part. rows_of-with_parts h ss rows holds part i) parts
 
@@ -181,7 +181,7 @@ All-parts P rows each = all parts
 pub rows_of-returned : (r : MDBFileInfo) (part : OptionalPart) → rows_of part (as_read r) ≡ map clear (rows_of part r)
 rows_of-returned r part =
     rows_of-with_parts r.metadata r.segments (λ p. map clear (rows_of p r))
-    (λ p. holds_as_many p (rows_of p r) (map clear (rows_of p r)) (omega (arith, length-map (rows_of p r) clear)) (held r p)) part
+    (λ p. holds_as_many p (rows_of p r) (map clear (rows_of p r)) (omega (arith, length-map (rows_of p r) clear)) (holds_own_rows r p)) part
 
 -- as many rows as the header announces
 pub length-optional_rows : (r : MDBFileInfo) → FitsItsHeader r → length (optional_rows r) ≡ optional_rows_after r.metadata
@@ -192,15 +192,15 @@ pub part_of-map : (part : OptionalPart) (h : FileDataSequenceHeader) (xs : List 
 part_of-map part h xs = ap (take (part_rows part h)) (drop-map clear (rows_before part h) xs) ∙ take-map clear (part_rows part h) (drop (rows_before part h) xs)
 
 -- the rows of a record that keeps some of its parts
-pub fewer : (b : Bool) (xs : List HashRow) → length (if b then xs else []) ≤ length xs
-fewer true xs = omega arith
-fewer false xs = omega arith
+pub length-cond-le : (b : Bool) (xs : List HashRow) → length (if b then xs else []) ≤ length xs
+length-cond-le true xs = omega arith
+length-cond-le false xs = omega arith
 
 pub rows_of-with_parts_if : (stays : OptionalPart → Bool) (h : FileDataSequenceHeader) (r : MDBFileInfo) (part : OptionalPart)
     → rows_of part (with_parts_if stays h r) ≡ (if stays part then rows_of part r else [])
 rows_of-with_parts_if stays h r part =
     rows_of-with_parts h r.segments (λ p. if stays p then rows_of p r else [])
-    (λ p. holds_as_many p (rows_of p r) (if stays p then rows_of p r else []) (fewer (stays p) (rows_of p r)) (held r p)) part
+    (λ p. holds_as_many p (rows_of p r) (if stays p then rows_of p r else []) (length-cond-le (stays p) (rows_of p r)) (holds_own_rows r p)) part
 
 -- an optional row as reading returns it
 pub row-returned : (row : Option HashRow) → slice_get (map clear (option_to_list row)) 0 ≡ option_map clear row

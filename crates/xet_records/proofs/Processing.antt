@@ -45,14 +45,14 @@ module _ {H R V F I J : Type 0} (K : RecordKind H R) (record_of : V → R) (view
   stops_seen left old new e (refused_header h read refused bare) = refused_header h read refused bare
   stops_seen left old new e (no_rows h mid after begun failed) = no_rows h (view mid) after begun failed
 
-  pub seen : (old new : I) (first last : F) (result : CoreResult (Unit {0}))
+  pub processes_all : (old new : I) (first last : F) (result : CoreResult (Unit {0}))
       → MatchResult result (λ _. ProcessesSection K record_of (λ a b xs. reads (view a) (view b) xs) (λ a b n f. fails (view a) (view b) n f) step old new first last)
       (λ e. RefusesRecord K record_of (λ a b xs. reads (view a) (view b) xs) (λ a b n f. fails (view a) (view b) n f) step old new first last e
       ⊎ StopsReading K record_of (λ a b xs. reads (view a) (view b) xs) (λ a b n f. fails (view a) (view b) n f) step old new first last e)
       → MatchResult result (λ _. ProcessesSection K record_of reads fails step (view old) (view new) first last)
       (λ e. RefusesRecord K record_of reads fails step (view old) (view new) first last e ⊎ StopsReading K record_of reads fails step (view old) (view new) first last e)
-  seen old new first last (Ok _) done = record { mid = view done.mid; left = done.left; records = done.records; bookend = done.bookend }
-  seen old new first last (Err e) (inl refuses) = inl (record {
+  processes_all old new first last (Ok _) done = record { mid = view done.mid; left = done.left; records = done.records; bookend = done.bookend }
+  processes_all old new first last (Err e) (inl refuses) = inl (record {
     mid = view refuses.mid;
     before = refuses.before;
     left = refuses.left;
@@ -62,7 +62,7 @@ module _ {H R V F I J : Type 0} (K : RecordKind H R) (record_of : V → R) (view
     next = refuses.next;
     refusal = refuses.refusal;
   })
-  seen old new first last (Err e) (inr stops) =
+  processes_all old new first last (Err e) (inr stops) =
       inr (record { mid = view stops.mid; left = stops.left; records = stops.records; stops = stops_seen stops.left stops.mid new e stops.stops })
 
 -- and of a reader's states, of the bytes that it has left
@@ -74,4 +74,4 @@ pub processes_reader : {H R F I : Type 0} (K : RecordKind H R) (remaining : I �
     ⊎ StopsReading K (λ r. r) (λ a b xs. Consumes (remaining a) (remaining b) xs) (λ a b n e. ReaderFails (remaining a) n e) step old new first last e)
     → Processes K step (remaining old) (remaining new) first last result
 processes_reader K remaining step old new first last result =
-    seen K (λ r. r) remaining Consumes (λ before after n e. ReaderFails before n e) step old new first last result
+    processes_all K (λ r. r) remaining Consumes (λ before after n e. ReaderFails before n e) step old new first last result

@@ -26,8 +26,8 @@ module _ {T : Type 0} (row_bytes : T → List ℕ) (Fits : T → Type 0) (return
     returned = map-append returned before.stored (last.stored ∷ []) ∙ (λ i. before.returned i ++ last.returned i ∷ []);
   }
 
-  pub a_row : (Took : List ℕ → Type 0) (row : T) → ReadsRow row_bytes Fits returned Took row → ReadsOptional row_bytes Fits returned Took true (Some row)
-  a_row Took row read = record {
+  pub reads_one_row : (Took : List ℕ → Type 0) (row : T) → ReadsRow row_bytes Fits returned Took row → ReadsOptional row_bytes Fits returned Took true (Some row)
+  reads_one_row Took row read = record {
     stored = Some read.stored;
     present = refl;
     widths = read.widths;

@@ -27,7 +27,7 @@ use Rattle.xet_records.specs.Reading.{ReadsRowsAfter, ReadsRecord, BeginsWithHea
 use Rattle.xet_records.specs.Reading.IsRefused.{not_allowed, too_many_rows}
 use Rattle.xet_records.proofs.RecordsAsRead.{row_count-returned, file_handed}
 use Rattle.xet_records.proofs.Lengths.{length-header_row, length-file_record_bytes, length-xorb_header_row, length-chunk_rows}
-use Rattle.xet_records.proofs.Parts.{Holds, these_rows, these_counted, rows_of-counted, with_parts-rows_of, part-of-parts, length-part_of, parts-of-rows, holds_announced, rows_of-with_parts, optional_rows-with_parts, same_record, rows_of-returned, part_of-map}
+use Rattle.xet_records.proofs.Parts.{PartHolds, these_rows, these_counted, rows_of-counted, with_parts-rows_of, part-of-parts, length-part_of, parts-of-rows, holds_announced, rows_of-with_parts, optional_rows-with_parts, same_record, rows_of-returned, part_of-map}
 use Rattle.xet_records.proofs.Reading.{no_rows, length-read, rows_after_rows, optional_read}
 use Rattle.xet_records.proofs.Record.{header_row-front, rows_whole}
 use Rattle.xet_records.proofs.Unique.{record_front}
@@ -207,7 +207,7 @@ module _ (First Next Whole : List ℕ → Type 0) (joins : (xs ys : List ℕ) �
       let rows : OptionalPart → List HashRow = λ part. part_of part h e.stored in
       let stored = with_parts h s.stored rows in
       let len : (part : OptionalPart) → length (rows part) ≡ part_rows part h = λ part. length-part_of h e.stored e.len part in
-      let holds : (part : OptionalPart) → Holds part (rows part) = λ part. holds_announced h part (rows part) (len part) in
+      let holds : (part : OptionalPart) → PartHolds part (rows part) = λ part. holds_announced h part (rows part) (len part) in
       let found : (part : OptionalPart) → rows_of part stored ≡ rows part = rows_of-with_parts h s.stored rows holds in
       let all : optional_rows stored ≡ e.stored = optional_rows-with_parts h s.stored rows holds ∙ parts-of-rows h e.stored e.len in
       record {

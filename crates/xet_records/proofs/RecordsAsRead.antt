@@ -17,12 +17,12 @@ clear_fits row fits = record {
   unused = record { first = 0; second = 0; words_are = refl; first_fits = omega arith; second_fits = omega arith };
 }
 
-cleared : (rows : OptionalPart → List HashRow) (ps : List OptionalPart) → flat_map (λ part. map clear (rows part)) ps ≡ map clear (flat_map rows ps)
-cleared rows [] = refl
-cleared rows (part ∷ ps) = ap (λ ys. map clear (rows part) ++ ys) (cleared rows ps) ∙ sym (map-append clear (rows part) (flat_map rows ps))
+flat_map-clear : (rows : OptionalPart → List HashRow) (ps : List OptionalPart) → flat_map (λ part. map clear (rows part)) ps ≡ map clear (flat_map rows ps)
+flat_map-clear rows [] = refl
+flat_map-clear rows (part ∷ ps) = ap (λ ys. map clear (rows part) ++ ys) (flat_map-clear rows ps) ∙ sym (map-append clear (rows part) (flat_map rows ps))
 
 optional_rows-returned : (r : MDBFileInfo) → optional_rows (as_read r) ≡ map clear (optional_rows r)
-optional_rows-returned r = (λ i. flat_map (λ part. rows_of-returned r part i) parts) ∙ cleared (λ part. rows_of part r) parts
+optional_rows-returned r = (λ i. flat_map (λ part. rows_of-returned r part i) parts) ∙ flat_map-clear (λ part. rows_of part r) parts
 
 pub row_count-returned : (r : MDBFileInfo) → row_count (as_read r) ≡ row_count r
 row_count-returned r = omega (arith, ap length (optional_rows-returned r), length-map (optional_rows r) clear)

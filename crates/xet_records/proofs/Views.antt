@@ -24,7 +24,7 @@ use Rattle.xet_records.specs.DecodingLaws.{segment_spelled, hash_row_spelled, ch
 use Rattle.xet_records.specs.RecordKind.{RecordKind}
 use Rattle.xet_records.specs.View.{IsWholeFile, IsWholeXorb, BeginsWithHeaderRow, BeginsWithRecord, Shows, ShowsRecord}
 use Rattle.xet_records.proofs.Lengths.{length-header_row, length-segment_rows, length-hash_rows, length-xorb_header_row}
-use Rattle.xet_records.proofs.Parts.{Holds, before_part, after_part, rows_split, length-before_part, part_within, length-part_of, parts-of-rows, holds_announced, rows_of-with_parts, optional_rows-with_parts}
+use Rattle.xet_records.proofs.Parts.{PartHolds, before_part, after_part, rows_split, length-before_part, part_within, length-part_of, parts-of-rows, holds_announced, rows_of-with_parts, optional_rows-with_parts}
 use Rattle.xet_records.proofs.Decoding.{rows_spelled}
 use Rattle.xet_records.proofs.RowsWithin.{HasRows}
 
@@ -46,7 +46,7 @@ file_shown header bytes fits are few size begins =
     let spelled = rows_at hash_row_at total second in
     let rows : OptionalPart → List HashRow = λ part. part_of part header spelled in
     let len : (part : OptionalPart) → length (rows part) ≡ part_rows part header = λ part. length-part_of header spelled e.len part in
-    let holds : (part : OptionalPart) → Holds part (rows part) = λ part. holds_announced header part (rows part) (len part) in
+    let holds : (part : OptionalPart) → PartHolds part (rows part) = λ part. holds_announced header part (rows part) (len part) in
     let found : (part : OptionalPart) → rows_of part (file_at header bytes) ≡ rows part = rows_of-with_parts header (rows_at segment_at segments first) rows holds in
     let all : optional_rows (file_at header bytes) ≡ spelled = optional_rows-with_parts header (rows_at segment_at segments first) rows holds ∙ parts-of-rows header spelled e.len in
     let rows_are : second ≡ flat_map hash_row (optional_rows (file_at header bytes)) =

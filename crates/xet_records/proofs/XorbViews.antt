@@ -38,12 +38,12 @@ module _ {X : Type 0} (answers : ℕ → X → X → Type 0) where
   pub none_rewritten : Rewrites answers [] []
   none_rewritten = record { len = refl; each = λ i x y there _. absurd (none-some x there) }
 
-  joined : (xs ys : List X) (x y : X) (i : ℕ) (s t : X) → Rewrites answers xs ys → answers (length xs) x y
+  rewrites_join : (xs ys : List X) (x y : X) (i : ℕ) (s t : X) → Rewrites answers xs ys → answers (length xs) x y
       → (slice_get xs i ≡ Some s) ⊎ ((i ≡ length xs) × (x ≡ s)) → (slice_get ys i ≡ Some t) ⊎ ((i ≡ length ys) × (y ≡ t)) → answers i s t
-  joined xs ys x y i s t before last (inl p) (inl q) = before.each i s t p q
-  joined xs ys x y i s t before last (inl p) (inr q) = absurd (omega (arith, slice_get_within xs i s p, q.0, before.len))
-  joined xs ys x y i s t before last (inr p) (inl q) = absurd (omega (arith, slice_get_within ys i t q, p.0, before.len))
-  joined xs ys x y i s t before last (inr p) (inr q) =
+  rewrites_join xs ys x y i s t before last (inl p) (inl q) = before.each i s t p q
+  rewrites_join xs ys x y i s t before last (inl p) (inr q) = absurd (omega (arith, slice_get_within xs i s p, q.0, before.len))
+  rewrites_join xs ys x y i s t before last (inr p) (inl q) = absurd (omega (arith, slice_get_within ys i t q, p.0, before.len))
+  rewrites_join xs ys x y i s t before last (inr p) (inr q) =
       subst (λ k. answers k s t) (sym p.0) (subst (λ a. answers (length xs) a t) p.1 (subst (λ b. answers (length xs) x b) q.1 last))
 
   -- one more element is rewritten
@@ -53,5 +53,5 @@ module _ {X : Type 0} (answers : ℕ → X → X → Type 0) where
       let size : length (take n xs) ≡ n = length-take-le n xs (omega (arith, slice_get_within xs n x there)) in
       subst (λ zs. Rewrites answers zs (ys ++ y ∷ [])) (sym (take_one_more xs n x there)) (record {
         len = length-append ys (y ∷ []) ∙ ap (λ k. k + 1) before.len ∙ sym (length-append (take n xs) (x ∷ []));
-        each = λ i s t p q. joined (take n xs) ys x y i s t before (subst (λ k. answers k x y) (sym size) answered) (at_end (take n xs) x s i p) (at_end ys y t i q);
+        each = λ i s t p q. rewrites_join (take n xs) ys x y i s t before (subst (λ k. answers k x y) (sym size) answered) (at_end (take n xs) x s i p) (at_end ys y t i q);
       })

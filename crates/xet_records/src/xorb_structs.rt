@@ -177,7 +177,7 @@ impl XorbChunkSequenceEntry {
     }
 
     /// The chunk, marked for the global index or not.
-    #[tactic(auto, using(crate::proofs::Flags::unmarked, crate::proofs::Flags::marked))]
+    #[tactic(auto, using(crate::proofs::Flags::bit_and_mod, crate::proofs::Flags::bit_or_add))]
     pub fn with_global_dedup_flag(self, is_global_dedup_chunk: bool) -> Self
         ensures { result ≡ record self { flags = with_mark is_global_dedup_chunk self.flags } }
     {

@@ -18,7 +18,7 @@ use Rattle.xet_core_structures.specs.Steps.Differing.{AgreeWithin, DifferWithin,
 use Rattle.xet_core_structures.specs.Steps.Differing.{IsRun, IsPlace, HasPlaces, IsRecordAt, HasRecord}
 use Rattle.xet_core_structures.specs.Steps.Placed.{Places, MayUnite, hash_at}
 use Rattle.xet_core_structures.proofs.Agreement.HashRuns.{less_apart, ascends_more}
-use Rattle.xet_core_structures.proofs.Records.Items.{has_at, at_of, mapped_back, below_or_from}
+use Rattle.xet_core_structures.proofs.Records.Items.{has_at, place_of_item, mapped_back, below_or_from}
 use Rattle.xet_core_structures.proofs.Trees.PlacedUnions.{key_placed}
 use Rattle.xet_core_structures.proofs.Records.Zipped.{zip_at, zip_back}
 
@@ -145,7 +145,7 @@ module _ {H R : Type 0} (K : RecordKind H R) (laws : KindLaws K) (agree : R → 
   found_at : (i : ℕ) (r : R) → HasRecord all i r → IsFoundAt i r
   found_at i r (rs, rs_at, has) =
       let list = zip_back (λ l rs. MayUnite K l rs) lists all i rs united rs_at in
-      let index = at_of rs r has in
+      let index = place_of_item rs r has in
       let here = zip_back (Places K) list.0 rs index.0 r list.2.places index.1 in
       let place : Place = record { hash = hash_at K here.0; input = i; index = index.0 } in
       record {
@@ -177,7 +177,7 @@ module _ {H R : Type 0} (K : RecordKind H R) (laws : KindLaws K) (agree : R → 
 
       agrees : (q : DataHash) → ¬ Contains (hashes found) q → {i j : ℕ} {r s : R} → IsFoundAt i r → IsFoundAt j s → key_of_record K r ≡ q → key_of_record K s ≡ q → agree r s
       agrees q none {i} {j} {r} {s} one other r_hash s_hash =
-          let p = at_of places one.place (has.all one.place one.at.place) in
-          let o = at_of places other.place (has.all other.place other.at.place) in
+          let p = place_of_item places one.place (has.all one.place one.at.place) in
+          let o = place_of_item places other.place (has.all other.place other.at.place) in
           compared.agrees p.0 o.0 one.place other.place r s (omega (arith, past, slice_get_within places p.0 one.place p.1)) (omega (arith, past, slice_get_within places o.0 other.place o.1)) p.1 o.1
           (one.hash ∙ r_hash ∙ sym s_hash ∙ sym other.hash) (λ h. none (subst (Contains (hashes found)) (one.hash ∙ r_hash) h)) one.at other.at

@@ -55,8 +55,8 @@ module _ {H R : Type 0} (K : RecordKind H R) (agree : R → R → Type 0) (makes
   made_if_agreed (Some p) agrees (hash, makes_it) = (hash, λ r s one other. let made = makes_it r s one other in (made.0, made.1, (agrees r s one other, made.2)))
 
 -- two files agree either way
-turned : (a b : MDBFileInfo) → Agree a b → Agree b a
-turned a b agree = record { segments = sym agree.segments; parts = λ part has also. sym (agree.parts part also has) }
+Agree-sym : (a b : MDBFileInfo) → Agree a b → Agree b a
+Agree-sym a b agree = record { segments = sym agree.segments; parts = λ part has also. sym (agree.parts part also has) }
 
 -- the union of two files that agree covers both
 module _ (a b c : MDBFileInfo) (agree : Agree a b) where
@@ -69,7 +69,7 @@ module _ (a b c : MDBFileInfo) (agree : Agree a b) where
   covers_first : IsUnitedFile a b c → Covers Agree c a
   covers_first (inl (more, is)) t agrees = subst (λ r. Agree r t) is agrees
   covers_first (inr (inl (lacks, more, is))) t agrees =
-      agrees_too b a t (λ part. announces_more b.metadata.file_flags a.metadata.file_flags part more) (turned a b agree) (subst (λ r. Agree r t) is agrees)
+      agrees_too b a t (λ part. announces_more b.metadata.file_flags a.metadata.file_flags part more) (Agree-sym a b agree) (subst (λ r. Agree r t) is agrees)
   covers_first (inr (inr (lacks, wants, count, is))) t agrees =
       let mix = subst (λ r. Agree r t) is agrees in
       record {
@@ -122,7 +122,7 @@ covered_agree s t u v one other agree = record {
   files = λ q a b a_at b_at.
       let first = one.files q a a_at in
       let second = other.files q b b_at in
-      turned b a (second.2 a (turned a second.0 (first.2 second.0 (agree.files q first.0 second.0 first.1 second.1))));
+      Agree-sym b a (second.2 a (Agree-sym a second.0 (first.2 second.0 (agree.files q first.0 second.0 first.1 second.1))));
   xorbs = λ q a b a_at b_at. agree.xorbs q a b (one.xorbs q a a_at) (other.xorbs q b b_at);
 }
 
@@ -173,8 +173,8 @@ module _ (inputs : List (List ℕ)) where
     has_union : HasShard union out
     is : IsByteUnion one other union
 
-  united : (x y out : List ℕ) → UnitesBytes x y out → HasUnited x y out
-  united x y out (i, j, c, x_ends, y_ends, have, is) =
+  has_united : (x y out : List ℕ) → UnitesBytes x y out → HasUnited x y out
+  has_united x y out (i, j, c, x_ends, y_ends, have, is) =
       let under = subst (λ bytes. IsBytesUnderKey (key_of i) c bytes (keyed_info c (key_of i))) (sym is) (union_under x i y j c x_ends have) in
       record {
         one = have.first;
@@ -195,7 +195,7 @@ module _ (inputs : List (List ℕ)) where
         let here : out ≡ x = same_Some out x (sym writes ∙ ap (slice_get inputs) is ∙ x_at) in
         subst (IsCovered s) (sym (only_shard x s u holds (subst (HasShard u) here has))) (itself s)
   leaf_covered (Both' p left q right) out u (x, y, x_written, y_written, unites, agree) has k s member held =
-      let parts = united x y out unites in
+      let parts = has_united x y out unites in
       let agreed = agree parts.one parts.other parts.has_one parts.has_other in
       let union_is : parts.union ≡ u = only_shard out u parts.union has parts.has_union in
       elim (Contains-append_cases (leaves left) (leaves right) k member) [
@@ -206,13 +206,13 @@ module _ (inputs : List (List ℕ)) where
   -- so the shards at two leaves agree
   agree_across : (left right : MergePlan) (x y out : List ℕ) → WritesAgreeing inputs left x → WritesAgreeing inputs right y → UnitesBytes x y out → BytesAgree x y → (i j : ℕ) → Contains (leaves left) i → Contains (leaves right) j → AgreeAt inputs i j
   agree_across left right x y out x_written y_written unites agree i j in_left in_right s t one other =
-      let parts = united x y out unites in
+      let parts = has_united x y out unites in
       covered_agree s t parts.one parts.other (leaf_covered left x parts.one x_written parts.has_one i s in_left one) (leaf_covered right y parts.other y_written parts.has_other j t in_right other)
       (agree parts.one parts.other parts.has_one parts.has_other)
 
   turned_shards : (s t : Shard) → ShardsAgree s t → ShardsAgree t s
   turned_shards s t agree = record {
-    files = λ q a b a_at b_at. turned b a (agree.files q b a b_at a_at);
+    files = λ q a b a_at b_at. Agree-sym b a (agree.files q b a b_at a_at);
     xorbs = λ q a b a_at b_at. sym (agree.xorbs q b a b_at a_at);
   }
 

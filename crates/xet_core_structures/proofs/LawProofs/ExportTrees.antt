@@ -225,8 +225,8 @@ module _ (files : List MDBFileInfo) (xorbs : List MDBXorbInfo) (key : DataHash) 
   abbrev rest_of : MDBShardFileFooter → List ℕ
   rest_of f = flat_map u64_bytes f._buffer ++ flat_map u64_bytes (sums_of f)
 
-  regrouped : (b o t u m n : List ℕ) → b ++ (((o ++ (t ++ (u ++ []))) ++ m) ++ n) ≡ (((b ++ o) ++ t) ++ u) ++ (m ++ n)
-  regrouped b o t u m n = simp (append_assoc, append-nil)
+  append_regroups : (b o t u m n : List ℕ) → b ++ (((o ++ (t ++ (u ++ []))) ++ m) ++ n) ≡ (((b ++ o) ++ t) ++ u) ++ (m ++ n)
+  append_regroups b o t u m n = simp (append_assoc, append-nil)
 
   abbrev export_footer : ℕ → ℕ → MDBShardFileFooter
   export_footer now valid = footer_value files (keyed_xorbs key xorbs) (full_form now valid)
@@ -249,7 +249,7 @@ module _ (files : List MDBFileInfo) (xorbs : List MDBXorbInfo) (key : DataHash) 
   unfolding layout_of shard_footer_bytes
   split_at_timestamps now valid =
       let f = export_footer now valid in
-      regrouped before_footer (front_of f) (u64_bytes now) (u64_bytes (now + valid)) (flat_map u64_bytes f._buffer) (flat_map u64_bytes (sums_of f))
+      append_regroups before_footer (front_of f) (u64_bytes now) (u64_bytes (now + valid)) (flat_map u64_bytes f._buffer) (flat_map u64_bytes (sums_of f))
 
   pub after_timestamps_size : length after_timestamps ≡ 80
   after_timestamps_size = simp (length-append, length-u64_bytes)

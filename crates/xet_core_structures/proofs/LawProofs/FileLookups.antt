@@ -25,7 +25,7 @@ use Rattle.xet_shards.proofs.Ends.EndsUnique.{only_info, ends_of_layout}
 use Rattle.xet_shards.proofs.Write.WithOptions.{no_file, files_in, files_of_shard}
 use Rattle.xet_shards.proofs.Lookup.MapAnswers.{map_answers}
 use Rattle.xet_shards.proofs.Lookup.ShardLookups.{lookup_written, bounds_ever}
-use Rattle.xet_shards.proofs.Lookup.TableLookups.{IsLookedUp, answered, not_answered, lookup_bounded, collision_bounded}
+use Rattle.xet_shards.proofs.Lookup.TableLookups.{IsLookedUp, lookup_answers, not_answered, lookup_bounded, collision_bounded}
 use Rattle.xet_shards.proofs.Write.TableOrder.{hashes_ascend}
 use Rattle.xet_shards.proofs.Ends.Widths.{fits_with_options}
 use Rattle.xet_core_structures.specs.declared.set_operations.MergePlan.{MergePlan}
@@ -38,8 +38,8 @@ use Rattle.xet_core_structures.proofs.TwoShards.Readable.{IsReadable, union_read
 
 -- lookups on the bytes of a shard under a key
 module _ (key : DataHash) (s : Shard) (info : MDBShardInfo) (old : Source) (is : IsBytesUnderKey key s old.bytes info) where
-  looked : let footer = info.metadata in IsLookedUp file_records no_file (values s.files) footer.file_info_offset footer.file_lookup_offset footer.file_lookup_num_entry old
-  looked = files_in (values s.files) (values s.xorbs) (keyed_options key) old info.metadata is.with_options is.files_ascend refl
+  is_looked_up : let footer = info.metadata in IsLookedUp file_records no_file (values s.files) footer.file_info_offset footer.file_lookup_offset footer.file_lookup_num_entry old
+  is_looked_up = files_in (values s.files) (values s.xorbs) (keyed_options key) old info.metadata is.with_options is.files_ascend refl
 
   -- the header is that of the bytes, so files are read in version 3
   info_is : info ≡ keyed_info s key
@@ -54,15 +54,15 @@ module _ (key : DataHash) (s : Shard) (info : MDBShardInfo) (old : Source) (is :
   found_answer : (hash : DataHash) (new : Source) (found : Result (Option MDBFileInfo) CoreError) → LooksUpRecord file_records (file_table info.metadata old) info.metadata.file_info_offset hash old new found
       → MatchResult found (FoundInShard s hash) (LookupFailsAmong file_records (values s.files) hash old new)
   found_answer hash new (Ok answer) looks =
-      let among = answered file_records file_laws no_file (values s.files) _ _ _ old looked hash new answer looks.read in
+      let among = lookup_answers file_records file_laws no_file (values s.files) _ _ _ old is_looked_up hash new answer looks.read in
       (among.0, map_answers file_records no_file s.files is.files.keyed is.files.unchanged hash answer among.1)
-  found_answer hash new (Err e) looks = not_answered file_records file_laws no_file (values s.files) _ _ _ old looked hash new e looks.read
+  found_answer hash new (Err e) looks = not_answered file_records file_laws no_file (values s.files) _ _ _ old is_looked_up hash new e looks.read
 
   pub found_under : (hash : DataHash) (new : Source) (found : Result (Option MDBFileInfo) CoreError) → LooksUpFile info hash old new found → FindsInShard s hash old new found
   found_under hash new found looks = record {
     answer = found_answer hash new found (looks_in_3 hash new found looks);
-    costs = lookup_bounded file_records file_laws no_file (values s.files) _ _ _ old looked new hash found (looks_in_3 hash new found looks);
-    collision = collision_bounded file_records file_laws no_file (values s.files) _ _ _ old looked new hash found (looks_in_3 hash new found looks);
+    costs = lookup_bounded file_records file_laws no_file (values s.files) _ _ _ old is_looked_up new hash found (looks_in_3 hash new found looks);
+    collision = collision_bounded file_records file_laws no_file (values s.files) _ _ _ old is_looked_up new hash found (looks_in_3 hash new found looks);
   }
 
   -- header and footer are read as they were returned

@@ -29,7 +29,7 @@ use Rattle.xet_shards.proofs.Write.Sections.{files_laws}
 use Rattle.xet_shards.specs.Ends.Ends.{HasHeaderAndFooter}
 use Rattle.xet_shards.specs.Content.SetOperations.{IsDifference}
 use Rattle.xet_shards.proofs.Content.Joining.{but_found}
-use Rattle.xet_shards.proofs.ShardInMemory.Sums.{counted, sum-of_both, sub-sum}
+use Rattle.xet_shards.proofs.ShardInMemory.Sums.{count_if_some, sum-of_both, sub-sum}
 use Rattle.xet_shards.proofs.Write.XorbLayouts.{length-with_options, length-chunk_table, xorb_rows-chunks}
 use Rattle.xet_core_structures.specs.declared.set_operations.MergePlan.{MergePlan}
 use Rattle.xet_core_structures.specs.declared.set_operations.MergePlan.TheVariants.{Leaf, Both'}
@@ -64,14 +64,14 @@ united_rows a b c (inr (inr (less, neither, counts, is))) =
     omega (arith, ap row_count is, rows_of_both (λ p. rows_of p (mixed_file a b)) (λ p. rows_of p a) (λ p. rows_of p b) (part_rows_of_mix a b) parts)
 
 -- so has the record of each hash
-either_rows : (o p r : Option MDBFileInfo) (v : MDBFileInfo) → IsEitherFile o p r → r ≡ Some v → row_count v ≤ counted row_count o + counted row_count p
-either_rows None p r v is here = omega (arith, ap (counted row_count) (sym is ∙ here))
-either_rows (Some a) None r v is here = omega (arith, ap (counted row_count) (sym is ∙ here))
-either_rows (Some a) (Some b) r v (c, is, united) here = omega (arith, ap (counted row_count) (sym is ∙ here), united_rows a b c united)
+either_rows : (o p r : Option MDBFileInfo) (v : MDBFileInfo) → IsEitherFile o p r → r ≡ Some v → row_count v ≤ count_if_some row_count o + count_if_some row_count p
+either_rows None p r v is here = omega (arith, ap (count_if_some row_count) (sym is ∙ here))
+either_rows (Some a) None r v is here = omega (arith, ap (count_if_some row_count) (sym is ∙ here))
+either_rows (Some a) (Some b) r v (c, is, united) here = omega (arith, ap (count_if_some row_count) (sym is ∙ here), united_rows a b c united)
 
-either_chunks : (o p r : Option MDBXorbInfo) (v : MDBXorbInfo) → IsEitherXorb o p r → r ≡ Some v → xorb_records.row_count v ≤ counted xorb_records.row_count o + counted xorb_records.row_count p
-either_chunks None p r v is here = omega (arith, ap (counted xorb_records.row_count) (sym is ∙ here))
-either_chunks (Some a) p r v is here = omega (arith, ap (counted xorb_records.row_count) (sym is ∙ here))
+either_chunks : (o p r : Option MDBXorbInfo) (v : MDBXorbInfo) → IsEitherXorb o p r → r ≡ Some v → xorb_records.row_count v ≤ count_if_some xorb_records.row_count o + count_if_some xorb_records.row_count p
+either_chunks None p r v is here = omega (arith, ap (count_if_some xorb_records.row_count) (sym is ∙ here))
+either_chunks (Some a) p r v is here = omega (arith, ap (count_if_some xorb_records.row_count) (sym is ∙ here))
 
 pub rows_of_union : (a b c : Shard) → IsByteUnion a b c → rows_of_shard c ≤ rows_of_shard a + rows_of_shard b
 rows_of_union a b c union =

@@ -29,7 +29,7 @@ use Rattle.xet_shards.proofs.Content.AgreeingJoins.{union_is_shard}
 use Rattle.xet_shards.proofs.Ends.EndsUnique.{only_info, ends_of_layout, not_unsupported, not_too_short}
 use Rattle.xet_shards.proofs.Content.Overlays.{union_unique}
 use Rattle.xet_shards.proofs.Write.Sections.{files_fit, files_fit_in, xorbs_fit}
-use Rattle.xet_shards.proofs.Content.Unions.{IsKnown, known, same_either}
+use Rattle.xet_shards.proofs.Content.Unions.{IsKnown, is_known, same_either}
 use Rattle.xet_shards.proofs.Ends.Widths.{fits_with_options}
 use Rattle.xet_core_structures.specs.Records.ByteUnion.{mixed_file, IsUnitedFile, IsEitherFile, IsByteUnion}
 use Rattle.xet_core_structures.specs.TwoShards.ByteResults.{keyed_options, keyed_layout, key_of, HaveNoUnion, UnionRefusal, UnitesBytes, LoadRefusal, BytesRefusal}
@@ -74,8 +74,8 @@ module _ (a b : ℕ) where
     ]
   ]
 
-  pub included : IncludesBits a b ⊎ (¬ IncludesBits a b)
-  included = included_below 32 (omega arith)
+  pub includes_or_not : IncludesBits a b ⊎ (¬ IncludesBits a b)
+  includes_or_not = included_below 32 (omega arith)
 
 -- a record whose flags include the other's is the join of both
 bit_kept : (a b : ℕ) (k : ℕ) → k < 32 → IncludesBits a b → ((bit_at b k == 1) ≡ true → (bit_at a k == 1) ≡ true)
@@ -117,9 +117,9 @@ module _ (q : DataHash) (a b : MDBFileInfo) (one : IsKnown q a) (other : IsKnown
   united_is_joined c (inr (inr (lacks, wants, counts, is))) = is ∙ mixed_is_joined q a b one other
 
   joined_is_united : IsUnitedFile a b (joined_file a b)
-  joined_is_united = elim (included a.metadata.file_flags b.metadata.file_flags) [
+  joined_is_united = elim (includes_or_not a.metadata.file_flags b.metadata.file_flags) [
     | inl all ↦ inl (all, joined_file-more q a b one other all)
-    | inr lacks ↦ elim (included b.metadata.file_flags a.metadata.file_flags) [
+    | inr lacks ↦ elim (includes_or_not b.metadata.file_flags a.metadata.file_flags) [
       | inl all ↦ inr (inl (lacks, all, joined_file-less all))
       | inr wants ↦ inr (inr (
         lacks,
@@ -153,14 +153,14 @@ module _ (q : DataHash) where
 module _ (a b c : Shard) (first : IsShard a) (second : IsShard b) (agree : ShardsAgree a b) where
   byte_union_is_union : IsByteUnion a b c → IsUnion a b c
   byte_union_is_union union = record {
-    files = λ q. either_is q (get a.files q) (get b.files q) (get c.files q) (λ r. known a q r first) (λ r. known b q r second) (agree.files q) (union.files q);
+    files = λ q. either_is q (get a.files q) (get b.files q) (get c.files q) (λ r. is_known a q r first) (λ r. is_known b q r second) (agree.files q) (union.files q);
     xorbs = λ q. union.xorbs q ∙ sym (same_either (get a.xorbs q) (get b.xorbs q) (agree.xorbs q));
   }
 
   union_is_byte_union : IsUnion a b c → IsByteUnion a b c
   union_is_byte_union union = record {
     files = λ q. subst (IsEitherFile (get a.files q) (get b.files q)) (sym (union.files q))
-        (is_either q (get a.files q) (get b.files q) (λ r. known a q r first) (λ r. known b q r second) (agree.files q));
+        (is_either q (get a.files q) (get b.files q) (λ r. is_known a q r first) (λ r. is_known b q r second) (agree.files q));
     xorbs = λ q. union.xorbs q ∙ same_either (get a.xorbs q) (get b.xorbs q) (agree.xorbs q);
   }
 
@@ -215,20 +215,20 @@ module _ (a b c : Shard) (key : DataHash) (x y : List ℕ) (one : HoldsShard key
   no_union few (inl files) = files.none a.files b.files c.files one.has.holds.files other.has.holds.files (union_is_byte_union a b c one.shard other.shard agree union).files few.files
   no_union few (inr xorbs) = xorbs.none a.xorbs b.xorbs c.xorbs one.has.holds.xorbs other.has.holds.xorbs (union_is_byte_union a b c one.shard other.shard agree union).xorbs few.xorbs
 
-  refused : (err : CoreError) → UnionRefusal x one.has.info y other.has.info err → MergeRefused c err
-  refused err (inl (is, differ)) = absurd (differ (one.under ∙ sym other.under))
-  refused err (inr (same, inl (inl no_memory))) = inl no_memory
-  refused err (inr (same, inl (inr (inl (is, inl cut))))) = absurd (held_whole x one.has.info a one.has.holds cut)
-  refused err (inr (same, inl (inr (inl (is, inr cut))))) = absurd (held_whole y other.has.info b other.has.holds cut)
-  refused err (inr (same, inl (inr (inr (is, inl bad))))) = absurd (held_well x one.has.info a one.has.holds bad)
-  refused err (inr (same, inl (inr (inr (is, inr bad))))) = absurd (held_well y other.has.info b other.has.holds bad)
-  refused err (inr (same, inr (is, none))) = inr (is, λ few. no_union few none)
+  union_refuses : (err : CoreError) → UnionRefusal x one.has.info y other.has.info err → MergeRefused c err
+  union_refuses err (inl (is, differ)) = absurd (differ (one.under ∙ sym other.under))
+  union_refuses err (inr (same, inl (inl no_memory))) = inl no_memory
+  union_refuses err (inr (same, inl (inr (inl (is, inl cut))))) = absurd (held_whole x one.has.info a one.has.holds cut)
+  union_refuses err (inr (same, inl (inr (inl (is, inr cut))))) = absurd (held_whole y other.has.info b other.has.holds cut)
+  union_refuses err (inr (same, inl (inr (inr (is, inl bad))))) = absurd (held_well x one.has.info a one.has.holds bad)
+  union_refuses err (inr (same, inl (inr (inr (is, inr bad))))) = absurd (held_well y other.has.info b other.has.holds bad)
+  union_refuses err (inr (same, inr (is, none))) = inr (is, λ few. no_union few none)
 
   pub refused_union : (err : CoreError) → BytesRefusal x y err → MergeRefused c err
   refused_union err (inl load) = absurd (loads_well key a x one err load)
   refused_union err (inr (inl (i, i_ends, load))) = absurd (loads_well key b y other err load)
   refused_union err (inr (inr (i, j, i_ends, j_ends, why))) =
-      refused err (subst (λ p. p) (λ k. UnionRefusal x (info_found key a x one i i_ends k) y (info_found key b y other j j_ends k) err) why)
+      union_refuses err (subst (λ p. p) (λ k. UnionRefusal x (info_found key a x one i i_ends k) y (info_found key b y other j j_ends k) err) why)
 
 -- the bytes of a shard hold it, with any layout options whose version has its files
 pub form_held : (s : Shard) (options : LayoutOptions) → IsShard s → HasFilesIn options.version s → FitsOptions options → HoldsShard options.key s (layout_in s options)

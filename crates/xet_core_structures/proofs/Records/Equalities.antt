@@ -7,7 +7,7 @@ use Rattle.xet_records.specs.declared.file_structs.part.OptionalPart.{OptionalPa
 use Rattle.xet_records.specs.declared.file_structs.MDBFileInfo.{MDBFileInfo}
 use Rattle.xet_records.specs.Merging.{IncludesBits, Agree, has_part}
 use Rattle.xet_records.specs.Part.{bit_of, announces}
-use Rattle.xet_records.proofs.Merging.{one, one_announced, bit_within}
+use Rattle.xet_records.proofs.Merging.{bit_if, bit_if_announced, bit_within}
 use Rattle.xet_records.specs.declared.file_structs.rows.FileDataSequenceEntry.{FileDataSequenceEntry}
 use Rattle.xet_records.specs.declared.file_structs.rows.HashRow.{HashRow}
 use Rattle.xet_records.specs.declared.xorb_structs.XorbChunkSequenceEntry.{XorbChunkSequenceEntry}
@@ -52,8 +52,8 @@ agrees_too a b r has_all both also = record {
 
 -- flags announce each part that flags within them announce
 pub announces_more : (f g : ℕ) (part : OptionalPart) → IncludesBits f g → IsTrue (announces g part) → IsTrue (announces f part)
-announces_more f g part includes = of (announces g part) (announces f part) (one_announced g part) (one_announced f part) where
-  of : (v w : Bool) → bit_at g (bit_of part) ≡ one v → bit_at f (bit_of part) ≡ one w → IsTrue v → IsTrue w
+announces_more f g part includes = of (announces g part) (announces f part) (bit_if_announced g part) (bit_if_announced f part) where
+  of : (v w : Bool) → bit_at g (bit_of part) ≡ bit_if v → bit_at f (bit_of part) ≡ bit_if w → IsTrue v → IsTrue w
   of v true g_bit f_bit has = refl
   of true false g_bit f_bit has = absurd (omega (arith, f_bit, includes (bit_of part) (bit_within part) g_bit))
   of false false g_bit f_bit has = absurd (true≢false (sym has))

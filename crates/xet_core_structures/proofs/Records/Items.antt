@@ -10,8 +10,8 @@ use Rattle.xet_shards.proofs.StreamingShard.MinimalShard.{one_more_item}
 pub has_at : {X : Type 0} (xs : List X) (i : ℕ) (x : X) → slice_get xs i ≡ Some x → Contains xs x
 has_at xs i x at = (i, slice_get_within xs i x at, get_or_from_slice_get xs i x x at)
 
-pub at_of : {X : Type 0} (xs : List X) (x : X) → Contains xs x → (i : ℕ) × (slice_get xs i ≡ Some x)
-at_of xs x (i, low, is) = (i, slice_get-get_or xs i x low ∙ ap Some is)
+pub place_of_item : {X : Type 0} (xs : List X) (x : X) → Contains xs x → (i : ℕ) × (slice_get xs i ≡ Some x)
+place_of_item xs x (i, low, is) = (i, slice_get-get_or xs i x low ∙ ap Some is)
 
 -- the items of a mapped list are those of the list, mapped
 pub has_mapped : {X Y : Type 0} (f : X → Y) (xs : List X) (x : X) → Contains xs x → Contains (map f xs) (f x)

@@ -22,11 +22,11 @@ use Rattle.xet_core_structures.specs.Steps.ByteResults.{Records}
 use Rattle.xet_core_structures.specs.Records.RecordPairs.{key_of_record, by_hash, with_hash, Combines}
 use Rattle.xet_core_structures.specs.Records.ShardContents.{IsSectionOf, files_at, xorbs_at, Holds}
 use Rattle.xet_core_structures.specs.Steps.ShardContents.{IsListOf, HoldsLists}
-use Rattle.xet_core_structures.proofs.Records.RecordPairs.{apart}
+use Rattle.xet_core_structures.proofs.Records.RecordPairs.{less-not_equal}
 
-both : (a b : Bool) → T a → T b → T (a && b)
-both true b first second = second
-both false b first second = absurd first
+both_true : (a b : Bool) → T a → T b → T (a && b)
+both_true true b first second = second
+both_true false b first second = absurd first
 
 module _ {H R : Type 0} (K : RecordKind H R) where
   -- the map of the records of a list, by their hashes
@@ -35,12 +35,12 @@ module _ {H R : Type 0} (K : RecordKind H R) where
 
   below_is : (k : DataHash) (rs : List R) → AllByRecursion (λ q. hash_cmp k q ≡ Less) (map (key_of_record K) rs) → T (below_all hash_cmp k (by_hash K rs))
   below_is k [] all = tt
-  below_is k (r ∷ rs) all = both _ _ (subst (λ o. T (is_lt o)) (sym all.0) tt) (below_is k rs all.1)
+  below_is k (r ∷ rs) all = both_true _ _ (subst (λ o. T (is_lt o)) (sym all.0) tt) (below_is k rs all.1)
 
   sorted_is : (rs : List R) → Ascends K rs → T (is_sorted hash_cmp (by_hash K rs))
   unfolding IsStrictlySortedBy
   sorted_is [] ascends = tt
-  sorted_is (r ∷ rs) ascends = both _ _ (below_is (key_of_record K r) rs ascends.0) (sorted_is rs ascends.1)
+  sorted_is (r ∷ rs) ascends = both_true _ _ (below_is (key_of_record K r) rs ascends.0) (sorted_is rs ascends.1)
 
   values_by_hash : (rs : List R) → map (λ e. e.1) (by_hash K rs) ≡ rs
   values_by_hash [] = refl
@@ -64,7 +64,7 @@ module _ {H R : Type 0} (K : RecordKind H R) where
       ap (λ b. cond b (Some x) (with_hash K rs (key_of_record K r))) ((same_key (key_of_record K r) (key_of_record K x)).1 (ap (key_of_record K) (sym at))) ∙ ap Some at
   with_hash_at (x ∷ rs) (suc i) r ascends low at =
       ap (λ b. cond b (Some x) (with_hash K rs (key_of_record K r)))
-      (apart K (key_of_record K r) (key_of_record K x) (comes_after (key_of_record K x) rs i r ascends.0 (omega (arith, low)) at) (eq_by_cmp hash_cmp (key_of_record K r) (key_of_record K x)) refl)
+      (less-not_equal K (key_of_record K r) (key_of_record K x) (comes_after (key_of_record K x) rs i r ascends.0 (omega (arith, low)) at) (eq_by_cmp hash_cmp (key_of_record K r) (key_of_record K x)) refl)
       ∙ with_hash_at rs i r ascends.1 (omega (arith, low)) at
 
   pub with_hash_of : (rs : List R) (r : R) → Ascends K rs → Contains rs r → with_hash K rs (key_of_record K r) ≡ Some r

@@ -29,12 +29,12 @@ zipped_back R (a ∷ ks) (c ∷ bs) (here, rest) b (suc k, low, at) =
     let found = zipped_back R ks bs rest b (k, omega (arith, low), at) in (found.0, Contains-append_right (a ∷ []) ks found.0 found.1, found.2)
 
 -- a value that is left by a test was there, and the test was passed
-pub kept : {X : Type 0} (b : Bool) (o : Option X) (x : X) → (if b then o else None) ≡ Some x → (b ≡ true) × (o ≡ Some x)
-kept true o x are = (refl, are)
-kept false o x are = absurd (none-some x are)
+pub cond-is_some : {X : Type 0} (b : Bool) (o : Option X) (x : X) → (if b then o else None) ≡ Some x → (b ≡ true) × (o ≡ Some x)
+cond-is_some true o x are = (refl, are)
+cond-is_some false o x are = absurd (none-some x are)
 
-keeps : {X : Type 0} (b : Bool) (o : Option X) (x : X) → b ≡ true → o ≡ Some x → (if b then o else None) ≡ Some x
-keeps b o x passes are = ap (λ c. if c then o else None) passes ∙ are
+cond-some : {X : Type 0} (b : Bool) (o : Option X) (x : X) → b ≡ true → o ≡ Some x → (if b then o else None) ≡ Some x
+cond-some b o x passes are = ap (λ c. if c then o else None) passes ∙ are
 
 -- what is read of nothing is nothing
 strict : {X Y : Type 0} (f : Option X → Option Y) → f None ≡ None → (b : Bool) (o : Option X) → f (if b then o else None) ≡ (if b then f o else None)
@@ -47,27 +47,27 @@ module _ (passes : DataHash → Bool) (shards parts : List Shard) (join part : S
   has_what q f same has x = (to, back) where
     to : f part ≡ Some x → (t : Shard) × Contains parts t × (f t ≡ Some x)
     to here =
-        let there = kept (passes q) (f join) x (sym (same join part is) ∙ here) in
+        let there = cond-is_some (passes q) (f join) x (sym (same join part is) ∙ here) in
         let found = (has x).0 there.1 in
         let other = zipped_there (IsPartOf passes) shards parts are found.0 found.1 in
-        (other.0, other.1, same found.0 other.0 other.2 ∙ keeps (passes q) (f found.0) x there.0 found.2)
+        (other.0, other.1, same found.0 other.0 other.2 ∙ cond-some (passes q) (f found.0) x there.0 found.2)
 
     back : (t : Shard) × Contains parts t × (f t ≡ Some x) → f part ≡ Some x
     back found =
         let other = zipped_back (IsPartOf passes) shards parts are found.0 found.1 in
-        let there = kept (passes q) (f other.0) x (sym (same other.0 found.0 other.2) ∙ found.2) in
-        same join part is ∙ keeps (passes q) (f join) x there.0 ((has x).1 (other.0, other.1, there.1))
+        let there = cond-is_some (passes q) (f other.0) x (sym (same other.0 found.0 other.2) ∙ found.2) in
+        same join part is ∙ cond-some (passes q) (f join) x there.0 ((has x).1 (other.0, other.1, there.1))
 
   pub join_of_parts : IsJoinOf (Contains shards) join → IsJoinOf (Contains parts) part
   join_of_parts whole = record {
     xorbs = λ q. has_what q (λ s. get s.xorbs q) (λ s t part. part.xorbs q) (whole.xorbs q);
     segments = λ q. has_what q (segments_under q) (λ s t part. ap (option_map (λ (r : MDBFileInfo). r.segments)) (part.files q) ∙ strict (option_map (λ (r : MDBFileInfo). r.segments)) refl (passes q) (get s.files q)) (whole.segments q);
     parts = λ p q. has_what q (part_under p q) (λ s t part. ap (option_and_then (part_in p)) (part.files q) ∙ strict (option_and_then (part_in p)) refl (passes q) (get s.files q)) (whole.parts p q);
-    follows = λ q r there. whole.follows q r (kept (passes q) (get join.files q) r (sym (is.files q) ∙ there)).1;
+    follows = λ q r there. whole.follows q r (cond-is_some (passes q) (get join.files q) r (sym (is.files q) ∙ there)).1;
   }
 
 pub parts_agree : (passes : DataHash → Bool) (a b c d : Shard) → IsPartOf passes a c → IsPartOf passes b d → ShardsAgree a b → ShardsAgree c d
 parts_agree passes a b c d one other agree = record {
-  files = λ q r s first second. agree.files q r s (kept (passes q) (get a.files q) r (sym (one.files q) ∙ first)).1 (kept (passes q) (get b.files q) s (sym (other.files q) ∙ second)).1;
-  xorbs = λ q r s first second. agree.xorbs q r s (kept (passes q) (get a.xorbs q) r (sym (one.xorbs q) ∙ first)).1 (kept (passes q) (get b.xorbs q) s (sym (other.xorbs q) ∙ second)).1;
+  files = λ q r s first second. agree.files q r s (cond-is_some (passes q) (get a.files q) r (sym (one.files q) ∙ first)).1 (cond-is_some (passes q) (get b.files q) s (sym (other.files q) ∙ second)).1;
+  xorbs = λ q r s first second. agree.xorbs q r s (cond-is_some (passes q) (get a.xorbs q) r (sym (one.xorbs q) ∙ first)).1 (cond-is_some (passes q) (get b.xorbs q) s (sym (other.xorbs q) ∙ second)).1;
 }

@@ -12,7 +12,7 @@ use Rattle.xet_base.proofs.HashOrder.{hash_cmp-IsTotalOrder, hash_cmp-IsAntisymm
 use Rattle.xet_records.specs.RecordKind.{RecordKind}
 use Rattle.xet_shards.specs.Write.WithOptions.{Ascends}
 use Rattle.xet_core_structures.specs.Records.RecordPairs.{key_of_record, with_hash, ComeBefore, ComeFrom, AreApart, Combines}
-use Rattle.xet_core_structures.proofs.Records.RecordPairs.{ComeAfter, same_before, apart}
+use Rattle.xet_core_structures.proofs.Records.RecordPairs.{ComeAfter, same_before, less-not_equal}
 
 module _ {H R : Type 0} (K : RecordKind H R) where
   after_from : (k q : DataHash) (rs : List R) → hash_cmp q k ≡ Less → ComeFrom K k rs → ComeAfter K q rs
@@ -34,7 +34,7 @@ module _ {H R : Type 0} (K : RecordKind H R) where
   same_after : (k q : DataHash) (xs us : List R) → IsFrom k q → ComeBefore K k xs → with_hash K (xs ++ us) q ≡ with_hash K us q
   same_after k q [] us from before = refl
   same_after k q (x ∷ xs) us from before =
-      ap (λ b. cond b (Some x) (with_hash K (xs ++ us) q)) (apart K q (key_of_record K x) (passes k q (key_of_record K x) from before.0) (eq_by_cmp hash_cmp q (key_of_record K x)) refl)
+      ap (λ b. cond b (Some x) (with_hash K (xs ++ us) q)) (less-not_equal K q (key_of_record K x) (passes k q (key_of_record K x) from before.0) (eq_by_cmp hash_cmp q (key_of_record K x)) refl)
       ∙ same_after k q xs us from before.1
 
   below_all : (k j : DataHash) (us : List R) → hash_cmp j k ≡ Less → ComeFrom K k us → AllByRecursion (λ i. hash_cmp j i ≡ Less) (map (key_of_record K) us)

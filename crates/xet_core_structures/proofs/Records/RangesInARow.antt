@@ -17,12 +17,12 @@ use Rattle.xet_shards.specs.Export.InARow.{AreInARow}
 use Rattle.xet_shards.proofs.Content.Maps.{both_left, both_right}
 use Rattle.xet_shards.proofs.ShardInMemory.Sums.{all_of_map}
 use Rattle.xet_core_structures.specs.Records.Ranges.{IsRestriction, IsPartOf, is_from, is_before, is_up_to, is_within, ranges_between, AreCuts}
-use Rattle.xet_core_structures.proofs.Records.Parts.{kept}
+use Rattle.xet_core_structures.proofs.Records.Parts.{cond-is_some}
 use Rattle.xet_core_structures.proofs.Records.Within.{one_part, part_of, part_of_is}
 
-both : (a b : Bool) → T a → T b → T (a && b)
-both true b first second = second
-both false b first second = absurd first
+both_true : (a b : Bool) → T a → T b → T (a && b)
+both_true true b first second = second
+both_true false b first second = absurd first
 
 -- orders as tests
 is_less : (o : Ordering) → is_lt o ≡ true → o ≡ Less
@@ -30,8 +30,8 @@ is_less Less is = refl
 is_less Equal is = absurd (true≢false (sym is))
 is_less Greater is = absurd (true≢false (sym is))
 
-turned : (a b : DataHash) (o : Ordering) → hash_cmp a b ≡ o → hash_cmp b a ≡ ordering_reverse o
-turned a b o is = hash_cmp-IsTotalOrder.antisymm b a ∙ ap ordering_reverse is
+hash_cmp-reverse : (a b : DataHash) (o : Ordering) → hash_cmp a b ≡ o → hash_cmp b a ≡ ordering_reverse o
+hash_cmp-reverse a b o is = hash_cmp-IsTotalOrder.antisymm b a ∙ ap ordering_reverse is
 
 -- what is below a hash is below one that is not below that
 below_through : (q k t : DataHash) → hash_cmp q k ≡ Less → is_lt (hash_cmp t k) ≡ false → hash_cmp q t ≡ Less
@@ -39,7 +39,7 @@ below_through q k t less not_below = by_order (hash_cmp t k) refl where
   by_order : (o : Ordering) → hash_cmp t k ≡ o → hash_cmp q t ≡ Less
   by_order Less is = absurd (true≢false (sym (ap is_lt is) ∙ not_below))
   by_order Equal is = subst (λ j. hash_cmp q j ≡ Less) (sym (hash_cmp-IsAntisymmetric t k is)) less
-  by_order Greater is = hash_cmp-IsTotalOrder.trans q k t less (turned t k Greater is)
+  by_order Greater is = hash_cmp-IsTotalOrder.trans q k t less (hash_cmp-reverse t k Greater is)
 
 -- what is below a hash that is not above another is below that
 not_below_through : (q k f : DataHash) → is_lt (hash_cmp q k) ≡ false → is_lt (hash_cmp k f) ≡ false → is_lt (hash_cmp q f) ≡ false
@@ -83,37 +83,37 @@ module _ {X : Type 0} where
   -- what is below a hash, and what is from it on
   below_both : (x : DataHash) (es fs : List (DataHash × X)) → T (below_all hash_cmp x es) → T (below_all hash_cmp x fs) → T (below_all hash_cmp x (es ++ fs))
   below_both x [] fs one other = other
-  below_both x (e ∷ es) fs one other = both _ _ (both_left _ _ one) (below_both x es fs (both_right _ _ one) other)
+  below_both x (e ∷ es) fs one other = both_true _ _ (both_left _ _ one) (below_both x es fs (both_right _ _ one) other)
 
   below_from : (x k : DataHash) (fs : List (DataHash × X)) → hash_cmp x k ≡ Less → AllByRecursion (λ f. is_lt (hash_cmp f.0 k) ≡ false) fs → T (below_all hash_cmp x fs)
   below_from x k [] less all = tt
-  below_from x k (f ∷ fs) less all = both _ _ (subst (λ o. T (is_lt o)) (sym (below_through x k f.0 less all.0)) tt) (below_from x k fs less all.1)
+  below_from x k (f ∷ fs) less all = both_true _ _ (subst (λ o. T (is_lt o)) (sym (below_through x k f.0 less all.0)) tt) (below_from x k fs less all.1)
 
   sorted_both : (k : DataHash) (es fs : List (DataHash × X)) → AllByRecursion (λ e. hash_cmp e.0 k ≡ Less) es → AllByRecursion (λ f. is_lt (hash_cmp f.0 k) ≡ false) fs
       → T (is_sorted hash_cmp es) → T (is_sorted hash_cmp fs) → T (is_sorted hash_cmp (es ++ fs))
   sorted_both k [] fs low high one other = other
   sorted_both k (e ∷ es) fs low high one other =
-      both _ _ (below_both e.0 es fs (both_left _ _ one) (below_from e.0 k fs low.0 high)) (sorted_both k es fs low.1 high (both_right _ _ one) other)
+      both_true _ _ (below_both e.0 es fs (both_left _ _ one) (below_from e.0 k fs low.0 high)) (sorted_both k es fs low.1 high (both_right _ _ one) other)
 
   -- what two parts have is what their whole has
-  pick : (a b l : Bool) (o : Option X) → (l ≡ true → b ≡ true) → (l ≡ false → a ≡ true)
+  choice_in_whole : (a b l : Bool) (o : Option X) → (l ≡ true → b ≡ true) → (l ≡ false → a ≡ true)
       → found_first (if a && l then o else None) (if not l && b then o else None) ≡ (if a && b then o else None)
-  pick true true true o before from = found_again o
-  pick true true false o before from = refl
-  pick true false true o before from = absurd (true≢false (sym (before refl)))
-  pick true false false o before from = refl
-  pick false true true o before from = refl
-  pick false false true o before from = refl
-  pick false b false o before from = absurd (true≢false (sym (from refl)))
+  choice_in_whole true true true o before from = found_again o
+  choice_in_whole true true false o before from = refl
+  choice_in_whole true false true o before from = absurd (true≢false (sym (before refl)))
+  choice_in_whole true false false o before from = refl
+  choice_in_whole false true true o before from = refl
+  choice_in_whole false false true o before from = refl
+  choice_in_whole false b false o before from = absurd (true≢false (sym (from refl)))
 
   low_part : (a l : Bool) (o : Option X) (x : X) → (if a && l then o else None) ≡ Some x → l ≡ true
   low_part a true o x is = refl
-  low_part true false o x is = absurd (true≢false (sym (kept false o x is).0))
-  low_part false false o x is = absurd (true≢false (sym (kept false o x is).0))
+  low_part true false o x is = absurd (true≢false (sym (cond-is_some false o x is).0))
+  low_part false false o x is = absurd (true≢false (sym (cond-is_some false o x is).0))
 
   high_part : (b l : Bool) (o : Option X) (x : X) → (if not l && b then o else None) ≡ Some x → l ≡ false
   high_part b false o x is = refl
-  high_part b true o x is = absurd (true≢false (sym (kept false o x is).0))
+  high_part b true o x is = absurd (true≢false (sym (cond-is_some false o x is).0))
 
   module _ (from : Option DataHash) (k : DataHash) (to : Option DataHash) (high : is_from from k ≡ true) (up : is_up_to to k ≡ true) (m n a b : FinMap hash_cmp X)
       (whole : IsRestriction (is_within (record { from = from; to = to })) m n) (first : IsRestriction (is_within (record { from = from; to = Some k })) m a)
@@ -129,7 +129,7 @@ module _ {X : Type 0} where
     found : (q : DataHash) → get n q ≡ get (from_sorted {R = hash_cmp} (entries a ++ entries b)) q
     found q =
         whole q
-        ∙ sym (pick (is_from from q) (is_before to q) (is_lt (hash_cmp q k)) (get m q) (up_to_before q k to up) (from_through q k from high))
+        ∙ sym (choice_in_whole (is_from from q) (is_before to q) (is_lt (hash_cmp q k)) (get m q) (up_to_before q k to up) (from_through q k from high))
         ∙ (λ i. found_first ((sym (first q) ∙ get-entries a q) i) ((sym (second q) ∙ get-entries b q) i))
         ∙ sym (find-both q (entries a) (entries b))
         ∙ sym (get-from_sorted hash_cmp (entries a ++ entries b) q sorted)

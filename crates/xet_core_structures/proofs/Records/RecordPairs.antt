@@ -59,9 +59,9 @@ module _ {H R : Type 0} (K : RecordKind H R) where
   is_equal Equal = true
   is_equal o = false
 
-  pub apart : (k q : DataHash) → hash_cmp q k ≡ Less → (b : Bool) → eq_by_cmp hash_cmp k q ≡ b → b ≡ false
-  apart k q less false is = refl
-  apart k q less true is = absurd (true≢false (sym ((same_key q k).1 (sym ((same_key k q).0 is))) ∙ ap is_equal less))
+  pub less-not_equal : (k q : DataHash) → hash_cmp q k ≡ Less → (b : Bool) → eq_by_cmp hash_cmp k q ≡ b → b ≡ false
+  less-not_equal k q less false is = refl
+  less-not_equal k q less true is = absurd (true≢false (sym ((same_key q k).1 (sym ((same_key k q).0 is))) ∙ ap is_equal less))
 
   apart_before : (k q : DataHash) → hash_cmp k q ≡ Less → (b : Bool) → eq_by_cmp hash_cmp k q ≡ b → b ≡ false
   apart_before k q less false is = refl
@@ -69,14 +69,14 @@ module _ {H R : Type 0} (K : RecordKind H R) where
 
   pub none_before : (k : DataHash) (rs : List R) → Before k rs → with_hash K rs k ≡ None
   none_before k [] before = refl
-  none_before k (r ∷ rs) before = ap (λ b. cond b (Some r) (with_hash K rs k)) (apart k (key_of_record K r) before.0 (eq_by_cmp hash_cmp k (key_of_record K r)) refl) ∙ none_before k rs before.1
+  none_before k (r ∷ rs) before = ap (λ b. cond b (Some r) (with_hash K rs k)) (less-not_equal k (key_of_record K r) before.0 (eq_by_cmp hash_cmp k (key_of_record K r)) refl) ∙ none_before k rs before.1
 
   -- a list with one more record, or none, under a hash that comes after all of it
-  pushed : (k q : DataHash) (rs : List R) (o : Option R) → HasHash k o → Before k rs → (t : Bool) → eq_by_cmp hash_cmp q k ≡ t
+  pushes_record : (k q : DataHash) (rs : List R) (o : Option R) → HasHash k o → Before k rs → (t : Bool) → eq_by_cmp hash_cmp q k ≡ t
       → with_hash K (rs ++ option_to_list o) q ≡ cond t o (with_hash K rs q)
-  pushed k q rs None under before true tied = ap (λ zs. with_hash K zs q) (append-nil rs) ∙ ap (with_hash K rs) ((same_key q k).0 tied) ∙ none_before k rs before
-  pushed k q rs None under before false tied = ap (λ zs. with_hash K zs q) (append-nil rs)
-  pushed k q rs (Some r) under before t tied =
+  pushes_record k q rs None under before true tied = ap (λ zs. with_hash K zs q) (append-nil rs) ∙ ap (with_hash K rs) ((same_key q k).0 tied) ∙ none_before k rs before
+  pushes_record k q rs None under before false tied = ap (λ zs. with_hash K zs q) (append-nil rs)
+  pushes_record k q rs (Some r) under before t tied =
       ap (λ es. entry es q) (map-append (λ s. (key_of_record K s, s)) rs (r ∷ [])) ∙ entry-append (by_hash K rs) (key_of_record K r) r q
       ∙ ap (λ j. option_or (with_hash K rs q) (cond (eq_by_cmp hash_cmp q j) (Some r) None)) under
       ∙ ap (λ b. option_or (with_hash K rs q) (cond b (Some r) None)) tied ∙ at t tied
@@ -119,8 +119,8 @@ module _ {H R : Type 0} (K : RecordKind H R) where
           → IsEither (with_hash K (fx ++ option_to_list ox) q) (with_hash K (fy ++ option_to_list oy) q) (with_hash K (out ++ option_to_list oz) q)
       each_more so_far q = at (eq_by_cmp hash_cmp q k) refl where
         at : (t : Bool) → eq_by_cmp hash_cmp q k ≡ t → IsEither (with_hash K (fx ++ option_to_list ox) q) (with_hash K (fy ++ option_to_list oy) q) (with_hash K (out ++ option_to_list oz) q)
-        at true tied = subst (λ p. p) (λ i. IsEither (sym (pushed k q fx ox x_under passed.first true tied) i) (sym (pushed k q fy oy y_under passed.second true tied) i) (sym (pushed k q out oz (hash_under k oz z_under) passed.combined true tied) i)) made
-        at false tied = subst (λ p. p) (λ i. IsEither (sym (pushed k q fx ox x_under passed.first false tied) i) (sym (pushed k q fy oy y_under passed.second false tied) i) (sym (pushed k q out oz (hash_under k oz z_under) passed.combined false tied) i)) (so_far.each q)
+        at true tied = subst (λ p. p) (λ i. IsEither (sym (pushes_record k q fx ox x_under passed.first true tied) i) (sym (pushes_record k q fy oy y_under passed.second true tied) i) (sym (pushes_record k q out oz (hash_under k oz z_under) passed.combined true tied) i)) made
+        at false tied = subst (λ p. p) (λ i. IsEither (sym (pushes_record k q fx ox x_under passed.first false tied) i) (sym (pushes_record k q fy oy y_under passed.second false tied) i) (sym (pushes_record k q out oz (hash_under k oz z_under) passed.combined false tied) i)) (so_far.each q)
 
       pub more_combined : Combines K IsEither fx fy out → Combines K IsEither (fx ++ option_to_list ox) (fy ++ option_to_list oy) (out ++ option_to_list oz)
       more_combined so_far = record {

@@ -21,7 +21,7 @@ use Rattle.xet_core_structures.specs.Records.RecordPairs.{key_of_record, with_ha
 use Rattle.xet_core_structures.specs.Records.Ranges.{IsRestriction, IsPartOf, records_passing}
 use Rattle.xet_core_structures.specs.Steps.ByteResults.{Records}
 use Rattle.xet_core_structures.proofs.Records.ListMaps.{list_map, get-list_map, shard_of}
-use Rattle.xet_core_structures.proofs.Records.Parts.{kept, join_of_parts, parts_agree}
+use Rattle.xet_core_structures.proofs.Records.Parts.{cond-is_some, join_of_parts, parts_agree}
 use Rattle.xet_core_structures.proofs.Trees.MappedJoins.{PreservesJoins}
 
 module _ {H R : Type 0} (K : RecordKind H R) (passes : DataHash → Bool) where
@@ -88,7 +88,7 @@ module _ {H R : Type 0} (K : RecordKind H R) (passes : DataHash → Bool) where
 module _ (passes : DataHash → Bool) where
   -- what a part has, its whole has
   pub in_whole : {X : Type 0} (m n : FinMap hash_cmp X) → IsRestriction passes m n → (q : DataHash) (x : X) → get n q ≡ Some x → get m q ≡ Some x
-  in_whole m n keeps q x at = (kept (passes q) (get m q) x (sym (keeps q) ∙ at)).1
+  in_whole m n keeps q x at = (cond-is_some (passes q) (get m q) x (sym (keeps q) ∙ at)).1
 
   all_of_part : {X : Type 0} (P : DataHash × X → Type 0) (m n : FinMap hash_cmp X) → IsRestriction passes m n → All P (entries m) → All P (entries n)
   all_of_part P m n keeps all = all_of_map hash_cmp-IsTotalOrder hash_cmp-IsAntisymmetric P n (λ q x at. holds_in_map P m q x all (in_whole m n keeps q x at))
@@ -118,11 +118,11 @@ module _ (passes : DataHash → Bool) where
   abbrev pub part_of : Shard → Shard
   part_of s = record { files = retain_keys s.files passes; xorbs = retain_keys s.xorbs passes }
 
-  retained : {X : Type 0} (m : FinMap hash_cmp X) → IsRestriction passes m (retain_keys m passes)
-  retained m q = get-retain_keys m passes q (λ x equal. ap passes (sym (hash_cmp-IsAntisymmetric q x equal)))
+  is_restriction : {X : Type 0} (m : FinMap hash_cmp X) → IsRestriction passes m (retain_keys m passes)
+  is_restriction m q = get-retain_keys m passes q (λ x equal. ap passes (sym (hash_cmp-IsAntisymmetric q x equal)))
 
   pub part_of_is : (s : Shard) → IsPartOf passes s (part_of s)
-  part_of_is s = record { files = retained s.files; xorbs = retained s.xorbs }
+  part_of_is s = record { files = is_restriction s.files; xorbs = is_restriction s.xorbs }
 
   -- the shard of those records of both lists is a part of that of all
   pub part_of_lists : (records : Records) → Ascends file_records records.files → Ascends xorb_records records.xorbs

@@ -94,13 +94,13 @@ next_cleared (row ∷ rows) rest bytes (suc i) fit within are =
       more = ap (λ l. hash_row (clear row) ++ l) next.more ∙ sym (append_assoc (hash_row (clear row)) (flat_map hash_row (map clear (take i rows))) (hash_row (clear next.row)));
     }
 
-cleared : (rows : OptionalPart → List HashRow) (ps : List OptionalPart) → flat_map (λ part. map clear (rows part)) ps ≡ map clear (flat_map rows ps)
-cleared rows [] = refl
-cleared rows (part ∷ ps) = ap (λ ys. map clear (rows part) ++ ys) (cleared rows ps) ∙ sym (map-append clear (rows part) (flat_map rows ps))
+flat_map-clear : (rows : OptionalPart → List HashRow) (ps : List OptionalPart) → flat_map (λ part. map clear (rows part)) ps ≡ map clear (flat_map rows ps)
+flat_map-clear rows [] = refl
+flat_map-clear rows (part ∷ ps) = ap (λ ys. map clear (rows part) ++ ys) (flat_map-clear rows ps) ∙ sym (map-append clear (rows part) (flat_map rows ps))
 
 -- the rows of optional parts, as reading returns them
 optional_rows-cleared : (r : MDBFileInfo) → optional_rows (as_read r) ≡ map clear (optional_rows r)
-optional_rows-cleared r = (λ i. flat_map (λ part. rows_of-returned r part i) parts) ∙ cleared (λ part. rows_of part r) parts
+optional_rows-cleared r = (λ i. flat_map (λ part. rows_of-returned r part i) parts) ∙ flat_map-clear (λ part. rows_of part r) parts
 
 -- the rows of a file that is placed, as they are stored
 pub record HasFileRows (p : PlacedRecord FileDataSequenceHeader) (r : MDBFileInfo) : Type 0 where

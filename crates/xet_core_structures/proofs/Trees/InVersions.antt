@@ -51,26 +51,26 @@ module _ (files : List MDBFileInfo) (xorbs : List MDBXorbInfo) (options : Layout
   abbrev after_number : List ℕ
   after_number = ((u64_bytes 200 ++ section_bytes file_records files) ++ section_bytes xorb_records xorbs) ++ end_of_layout files xorbs options
 
-  numbered : (version : FormatVersion) → layout_of files xorbs (record options { version = version }) ≡ header_tag ++ (u64_bytes (number_of version) ++ after_number)
+  layout_with_number : (version : FormatVersion) → layout_of files xorbs (record options { version = version }) ≡ header_tag ++ (u64_bytes (number_of version) ++ after_number)
   unfolding shard_header_bytes
-  numbered version =
+  layout_with_number version =
       sym (layout-parts files xorbs (record options { version = version }))
       ∙ regroup header_tag (u64_bytes (number_of version)) (u64_bytes 200) (section_bytes file_records files) (section_bytes xorb_records xorbs) (end_of_layout files xorbs options)
 
   pub in_version_2 : (bytes : List ℕ) → bytes ≡ layout_of files xorbs (record options { version = V3 }) → with_number_2 bytes ≡ layout_of files xorbs (record options { version = V2 })
   in_version_2 bytes are =
       let n = u64_bytes 3 in
-      let whole : bytes ≡ header_tag ++ (n ++ after_number) = are ∙ numbered V3 in
+      let whole : bytes ≡ header_tag ++ (n ++ after_number) = are ∙ layout_with_number V3 in
       let front : take 32 bytes ≡ header_tag = front_is 32 bytes header_tag (n ++ after_number) refl whole in
       let rest : drop 40 bytes ≡ after_number =
       rest_is 40 bytes (header_tag ++ n) after_number (length-append header_tag n ∙ ap (λ k. 32 + k) (length-u64_bytes 3)) (whole ∙ sym (append_assoc header_tag n after_number)) in
-      (λ i. front i ++ (u64_bytes 2 ++ rest i)) ∙ sym (numbered V2)
+      (λ i. front i ++ (u64_bytes 2 ++ rest i)) ∙ sym (layout_with_number V2)
 
   pub has_header : (bytes : List ℕ) → bytes ≡ layout_of files xorbs (record options { version = V3 }) → 40 ≤ length bytes
   has_header bytes are =
       let n = u64_bytes 3 in
       let whole : length bytes ≡ 32 + (8 + length after_number) =
-      ap length (are ∙ numbered V3) ∙ length-append header_tag (n ++ after_number) ∙ ap (λ k. 32 + k) (length-append n after_number ∙ ap (λ k. k + length after_number) (length-u64_bytes 3)) in
+      ap length (are ∙ layout_with_number V3) ∙ length-append header_tag (n ++ after_number) ∙ ap (λ k. 32 + k) (length-append n after_number ∙ ap (λ k. k + length after_number) (length-u64_bytes 3)) in
       omega (arith, whole)
 
 -- bytes in front of others get the number
@@ -228,9 +228,9 @@ module _ (Makes As : List ℕ → Type 0) (Refuses For : CoreError → Type 0) (
   refused_as V2 e (inl cause) = inl (refused e cause)
   refused_as V2 e (inr (invalid, (bytes, makes, new))) = inr (invalid, (bytes, made bytes makes, new))
 
-pub early : (version : FormatVersion) (Makes : List ℕ → Type 0) (Refuses : CoreError → Type 0) (e : CoreError) → Refuses e → RefusedIn version Makes Refuses e
-early V3 Makes Refuses e cause = cause
-early V2 Makes Refuses e cause = inl cause
+pub refused_in_version : (version : FormatVersion) (Makes : List ℕ → Type 0) (Refuses : CoreError → Type 0) (e : CoreError) → Refuses e → RefusedIn version Makes Refuses e
+refused_in_version V3 Makes Refuses e cause = cause
+refused_in_version V2 Makes Refuses e cause = inl cause
 
 -- outcomes, case by case
 pub if_written : {Z : Type 0} (A B : List ℕ → Type 0) (R S : CoreError → Type 0) (r : Result (Vec ℕ Z) CoreError) → ((bytes : List ℕ) → A bytes → B bytes) → ((e : CoreError) → R e → S e)

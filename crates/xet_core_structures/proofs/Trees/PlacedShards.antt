@@ -29,14 +29,14 @@ use Rattle.xet_core_structures.proofs.TwoShards.Results.{section_serves}
 
 module _ (bytes : List ℕ) (info : MDBShardInfo) (start there mid : MemorySource) (files : List (PlacedRecord FileDataSequenceHeader)) (start_is : (in_memory start).bytes ≡ bytes)
     (there_is : in_memory there ≡ after_seek (in_memory start) info.metadata.file_info_offset) (taken : ReadsPlaced file_records (version_of info.header.version) (in_memory there) (in_memory mid) files) where
-  read : ReadsSection (files_of info) (in_memory start) (in_memory mid) info.metadata.file_info_offset taken.0
-  read = subst (λ s. StreamsSection (files_of info) s (in_memory mid) taken.0) there_is taken.1
+  reads_files : ReadsSection (files_of info) (in_memory start) (in_memory mid) info.metadata.file_info_offset taken.0
+  reads_files = subst (λ s. StreamsSection (files_of info) s (in_memory mid) taken.0) there_is taken.1
 
   mid_bytes : (in_memory mid).bytes ≡ bytes
-  mid_bytes = (section_serves (files_of info) (after_seek (in_memory start) info.metadata.file_info_offset) (in_memory mid) taken.0 read).bytes ∙ start_is
+  mid_bytes = (section_serves (files_of info) (after_seek (in_memory start) info.metadata.file_info_offset) (in_memory mid) taken.0 reads_files).bytes ∙ start_is
 
   has_files : HasFiles bytes info
-  has_files = (read.stored, subst (λ b. IsSection (files_of info) (files_at b info) read.stored) start_is read.section, stored_ascend file_records file_laws read.stored taken.0 read.returned taken.2)
+  has_files = (reads_files.stored, subst (λ b. IsSection (files_of info) (files_at b info) reads_files.stored) start_is reads_files.section, stored_ascend file_records file_laws reads_files.stored taken.0 reads_files.returned taken.2)
 
   module _ (there_2 new : MemorySource) (there_2_is : in_memory there_2 ≡ after_seek (in_memory mid) info.metadata.xorb_info_offset) where
     left_is : bytes_left (in_memory there_2) ≡ xorbs_at bytes info
@@ -53,7 +53,7 @@ module _ (bytes : List ℕ) (info : MDBShardInfo) (start there mid : MemorySourc
     shard_placed xorbs further shard files_are xorbs_are key_is = record {
       records = record { files = taken.0; xorbs = further.0 };
       lists = subst (λ b. HoldsLists b info taken.0 further.0) start_is
-          (lists_read (in_memory start) (in_memory mid) (in_memory new) info taken.0 further.0 read (subst (λ s. StreamsSection xorb_records s (in_memory new) further.0) there_2_is further.1) taken.2 further.2);
+          (lists_read (in_memory start) (in_memory mid) (in_memory new) info taken.0 further.0 reads_files (subst (λ s. StreamsSection xorb_records s (in_memory new) further.0) there_2_is further.1) taken.2 further.2);
       places = record {
         files = subst (λ l. PlacesAll file_records l taken.0) (sym files_are) taken.3;
         xorbs = subst (λ l. PlacesAll xorb_records l further.0) (sym xorbs_are) further.3;

@@ -23,11 +23,11 @@ use Rattle.xet_core_structures.specs.TwoShards.ByteResults.{keyed_options}
 use Rattle.xet_core_structures.proofs.Records.RangesInARow.{ranges_in_a_row}
 
 -- the part that is laid out for a shard under a key
-abbrev laid : DataHash → Shard → ShardPart
-laid key s = record { files = values s.files; xorbs = values s.xorbs; version = V3; key = key; creation = 0; expiry = 18446744073709551615 }
+abbrev part_of_shard : DataHash → Shard → ShardPart
+part_of_shard key s = record { files = values s.files; xorbs = values s.xorbs; version = V3; key = key; creation = 0; expiry = 18446744073709551615 }
 
 -- the part of a well-formed shard under a key fits its rows
-part_under : (key : DataHash) (s : Shard) (bytes : List ℕ) → IsHeldLayout key s bytes → IsPartUnder key (laid key s)
+part_under : (key : DataHash) (s : Shard) (bytes : List ℕ) → IsHeldLayout key s bytes → IsPartUnder key (part_of_shard key s)
 part_under key s bytes is =
     let plain : FitsFooter (footer_value (values s.files) (values s.xorbs) (keyed_options (record { word0 = 0; word1 = 0; word2 = 0; word3 = 0 }))) = plain_widths s is.holds.shard in
     record {
@@ -69,12 +69,12 @@ all_laid key (s ∷ shards) [] are = absurd are
 all_laid key (s ∷ shards) (b ∷ bytes) (here, others) =
     let rest = all_laid key shards bytes others in
     record {
-      parts = laid key s ∷ rest.parts;
-      fit = All-cons (IsPartUnder key) (laid key s) rest.parts (part_under key s b here) rest.fit;
+      parts = part_of_shard key s ∷ rest.parts;
+      fit = All-cons (IsPartUnder key) (part_of_shard key s) rest.parts (part_under key s b here) rest.fit;
       are = λ i. sym here.bytes_are i ∷ rest.are i;
       files_are = ap (λ fs. values s.files ++ fs) rest.files_are;
       xorbs_are = ap (λ xs. values s.xorbs ++ xs) rest.xorbs_are;
-      each = All-cons (λ (part : ShardPart). AscendBoth part.files part.xorbs) (laid key s) rest.parts
+      each = All-cons (λ (part : ShardPart). AscendBoth part.files part.xorbs) (part_of_shard key s) rest.parts
           (record { files_ascend = files_ascend s here.holds.shard; xorbs_ascend = xorbs_ascend s here.holds.shard }) rest.each;
       count = omega (arith, rest.count);
     }

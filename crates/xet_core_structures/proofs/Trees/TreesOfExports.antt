@@ -91,11 +91,11 @@ module _ (aux : Bool) (key : DataHash) (inputs outs : List (List ℕ)) (plan : M
     is_join = merge.is_join;
   }
 
-  pub exchanged : (out bytes : List ℕ) (now valid size : ℕ) (old new : Source) → TreeWrites inputs plan (bytes_left old)
+  pub exports_exchange : (out bytes : List ℕ) (now valid size : ℕ) (old new : Source) → TreeWrites inputs plan (bytes_left old)
       → ExportsWith aux (export_options key now valid true true true) old new (Some []) (Some bytes) size → TreeWrites outs plan out
       → (before after : List ℕ) × (length after ≡ 80) × (bytes ≡ before ++ u64_bytes now ++ u64_bytes (now + valid) ++ after)
       × (out ≡ before ++ u64_bytes 0 ++ u64_bytes 18446744073709551615 ++ after)
-  exchanged out bytes now valid size old new unites exports writes =
+  exports_exchange out bytes now valid size old new unites exports writes =
       let joined = bytes_without_expiry (one_layout inputs plan shards join (merge_of_written inputs plan shards join merge) (bytes_left old) unites) in
       let whole = export_of_bytes aux join (export_options key now valid true true true) old new (Some []) (Some bytes) size joined exports in
       let differ = timestamps_differ aux join key in (

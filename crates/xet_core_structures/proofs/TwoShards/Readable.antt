@@ -62,12 +62,12 @@ module _ {H R : Type 0} (K : RecordKind H R) where
     pub stored : K.IsStored r
     pub unchanged : K.as_read r ≡ r
 
-  unmapped : (P : R → Type 0) (es : List (DataHash × R)) → All P (map (λ e. e.1) es) → All (λ e. P e.1) es
-  unmapped P es all = λ k e below.
+  All-unmap : (P : R → Type 0) (es : List (DataHash × R)) → All P (map (λ e. e.1) es) → All (λ e. P e.1) es
+  All-unmap P es all = λ k e below.
       subst P (get_or-map (λ (d : DataHash × R). d.1) es k e e.1 below) (all k e.1 (omega (arith, below, length-map es (λ (d : DataHash × R). d.1))))
 
   each_value : (P : R → Type 0) (m : FinMap hash_cmp R) → All P (values m) → (q : DataHash) (r : R) → get m q ≡ Some r → P r
-  each_value P m all q r at = entry-holds (λ e. P e.1) (entries m) q r (unmapped P (entries m) all) (sym (get-entries m q) ∙ at)
+  each_value P m all q r at = entry-holds (λ e. P e.1) (entries m) q r (All-unmap P (entries m) all) (sym (get-entries m q) ∙ at)
 
   all_values : (P : R → Type 0) (m : FinMap hash_cmp R) → ((q : DataHash) (r : R) → get m q ≡ Some r → P r) → All P (values m)
   all_values P m each = All-map P (λ e. e.1) (entries m) (all_of_map hash_cmp-IsTotalOrder hash_cmp-IsAntisymmetric (λ e. P e.1) m each)

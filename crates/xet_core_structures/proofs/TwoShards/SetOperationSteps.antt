@@ -57,15 +57,15 @@ module _ (IsResult : Shard → Shard → Shard → Type 0) (Refusal : List ℕ �
   abbrev Fails : CoreError → Type 0
   Fails = OperationFails (Refusal old.first.bytes i old.second.bytes j) old new
 
-  pub operated : (info : MDBShardInfo) → OperatesOn IsResult Refusal i j old new (Ok info) → Operates IsResult Fails i j old new (Ok info)
-  operated info is = record { written = is.written; with_options = is.with_options; costs = is.costs; no_failure = is.no_failure; sources = is.sources; widths = is.widths }
+  pub operates : (info : MDBShardInfo) → OperatesOn IsResult Refusal i j old new (Ok info) → Operates IsResult Fails i j old new (Ok info)
+  operates info is = record { written = is.written; with_options = is.with_options; costs = is.costs; no_failure = is.no_failure; sources = is.sources; widths = is.widths }
 
   pub operation_failed : (failure : CopyFailure) (e : CoreError) → e ≡ error_of failure → OperatesOn IsResult Refusal i j old new (Err failure) → Operates IsResult Fails i j old new (Err e)
   operation_failed failure e same is = not_operated IsResult Fails i j old new e (failed_by _ failure e same is.written) is.sources
 
 -- what holds of a source after a seek holds without it
-unmoved : (one new : Source) (at : ℕ) → NoFailure (after_seek one at) new → NoFailure one new
-unmoved one new at no_failure = record { bytes = no_failure.bytes; failures = no_failure.failures; last_failure = no_failure.last_failure }
+NoFailure-before_seek : (one new : Source) (at : ℕ) → NoFailure (after_seek one at) new → NoFailure one new
+NoFailure-before_seek one new at no_failure = record { bytes = no_failure.bytes; failures = no_failure.failures; last_failure = no_failure.last_failure }
 
 -- a source was not moved to its section
 module _ {H R : Type 0} (K : RecordKind H R) (v w : FormatVersion) (makes : Option R → Option R → Option R → Type 0) (one two new : Source) (at_1 at_2 : ℕ) (e : CoreError) where
@@ -100,10 +100,10 @@ module _ (old_1 old_2 : Source) (i j : MDBShardInfo) (same : key_of i ≡ key_of
       (combined : WritesCombined file_records (version_of i.header.version) (version_of j.header.version) IsFile (streams (after_seek old_1 i.metadata.file_info_offset) (after_seek old_2 j.metadata.file_info_offset) after_header)
       (streams mid_1 mid_2 after_files) (HasWritten files)) where
     served_1 : NoFailure old_1 mid_1
-    served_1 = unmoved old_1 mid_1 i.metadata.file_info_offset (section_serves (files_of i) (after_seek old_1 i.metadata.file_info_offset) mid_1 combined.firsts combined.first)
+    served_1 = NoFailure-before_seek old_1 mid_1 i.metadata.file_info_offset (section_serves (files_of i) (after_seek old_1 i.metadata.file_info_offset) mid_1 combined.firsts combined.first)
 
     served_2 : NoFailure old_2 mid_2
-    served_2 = unmoved old_2 mid_2 j.metadata.file_info_offset (section_serves (files_of j) (after_seek old_2 j.metadata.file_info_offset) mid_2 combined.seconds combined.second)
+    served_2 = NoFailure-before_seek old_2 mid_2 j.metadata.file_info_offset (section_serves (files_of j) (after_seek old_2 j.metadata.file_info_offset) mid_2 combined.seconds combined.second)
 
     -- the file sections that were read
     files_read : (version : FormatVersion) (old new : Source) (at : ℕ) (found : List MDBFileInfo) → StreamsSection (file_records_in version) (after_seek old at) new found → Ascends file_records found
@@ -153,10 +153,10 @@ module _ (old_1 old_2 : Source) (i j : MDBShardInfo) (same : key_of i ≡ key_of
       are_combined = record { files = combined.combined; xorbs = further.combined; few_files = combined.few; few_xorbs = further.few }
 
       whole_1 : NoFailure old_1 new_1
-      whole_1 = serves_on old_1 mid_1 new_1 served_1 (unmoved mid_1 new_1 i.metadata.xorb_info_offset (section_serves xorb_records (after_seek mid_1 i.metadata.xorb_info_offset) new_1 further.firsts further.first))
+      whole_1 = serves_on old_1 mid_1 new_1 served_1 (NoFailure-before_seek mid_1 new_1 i.metadata.xorb_info_offset (section_serves xorb_records (after_seek mid_1 i.metadata.xorb_info_offset) new_1 further.firsts further.first))
 
       whole_2 : NoFailure old_2 new_2
-      whole_2 = serves_on old_2 mid_2 new_2 served_2 (unmoved mid_2 new_2 j.metadata.xorb_info_offset (section_serves xorb_records (after_seek mid_2 j.metadata.xorb_info_offset) new_2 further.seconds further.second))
+      whole_2 = serves_on old_2 mid_2 new_2 served_2 (NoFailure-before_seek mid_2 new_2 j.metadata.xorb_info_offset (section_serves xorb_records (after_seek mid_2 j.metadata.xorb_info_offset) new_2 further.seconds further.second))
 
       -- both sections are combined, and the tables and the footer written, unless the output fails
       pub tables_written : (start end : Option (List ℕ)) (r : Result MDBShardInfo CopyFailure) → Appends start after_header (shard_header_bytes (header_value V3))

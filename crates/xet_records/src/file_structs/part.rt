@@ -134,7 +134,7 @@ impl Parts {
     }
 
     /// Whether a part is in the set.
-    #[tactic(auto, using(crate::proofs::Flags::masked))]
+    #[tactic(auto, using(crate::proofs::Flags::bit_and_announces))]
     #[inline(always)]
     pub fn contains(self, part: OptionalPart) -> bool
         ensures { result ≡ announces self part }

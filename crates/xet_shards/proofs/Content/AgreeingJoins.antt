@@ -24,7 +24,7 @@ use Rattle.xet_shards.specs.Content.SetOperations.{IsUnion, ShardsAgree, RowsFit
 use Rattle.xet_shards.specs.Content.Joins.{segments_under, part_under, HasWhatAnyHas, IsJoinOf, AgreePairwise}
 use Rattle.xet_shards.proofs.ShardInMemory.FileUnions.{holds_in_map}
 use Rattle.xet_shards.proofs.ShardInMemory.Sums.{all_of_map, part-le-sum, sum-below}
-use Rattle.xet_shards.proofs.Content.Unions.{IsKnown, known}
+use Rattle.xet_shards.proofs.Content.Unions.{IsKnown, is_known}
 use Rattle.xet_shards.proofs.Content.Overlays.{united_shard, union_exists}
 use Rattle.xet_shards.proofs.Content.Joins.{same_segments, same_part, follows_parts, plain_file, join-unique, join-none, join-one, join-append}
 
@@ -115,7 +115,7 @@ known_either q (Some r) (Some s) t first second agree few is =
 
 module _ (a b c : Shard) (first : IsShard a) (second : IsShard b) (agree : ShardsAgree a b) (union : IsUnion a b c) (few : RowsFitU32 c) where
   file_known : (q : DataHash) (t : MDBFileInfo) → get c.files q ≡ Some t → IsKnown q t
-  file_known q t at = known_either q (get a.files q) (get b.files q) t (λ r. known a q r first) (λ r. known b q r second) (agree.files q)
+  file_known q t at = known_either q (get a.files q) (get b.files q) t (λ r. is_known a q r first) (λ r. is_known b q r second) (agree.files q)
       (omega (arith, few.files, part-le-sum hash_cmp-IsTotalOrder hash_cmp-IsAntisymmetric row_count c.files q t at)) (sym (union.files q) ∙ at)
 
   of_xorbs : (P : DataHash × MDBXorbInfo → Type 0) → All P (entries a.xorbs) → All P (entries b.xorbs) → All P (entries c.xorbs)

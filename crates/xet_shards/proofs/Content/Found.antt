@@ -16,8 +16,8 @@ use Rattle.xet_base.specs.declared.merklehash.DataHash.{DataHash}
 use Rattle.xet_base.specs.Hash.{hash_cmp}
 use Rattle.xet_shards.proofs.Content.Maps.{rising_keys, both_right}
 
-tied : (o : Ordering) → is_eq o ≡ true → o ≡ Equal
-tied o is = grind arith
+is_eq-Equal : (o : Ordering) → is_eq o ≡ true → o ≡ Equal
+is_eq-Equal o is = grind arith
 
 -- a comparison by two numbers and then by others
 pub first_ascends : (m n : ℕ) (rest : Ordering) → ordering_then (nat_cmp m n) rest ≡ Less → m ≤ n
@@ -32,7 +32,7 @@ module _ {K X : Type 0} (R : K → K → Ordering) where
   pub found_entry : IsAntisymmetric R → (es : List (K × X)) (q : K) (v : X) (d : K × X) → find R q es ≡ Some v → (i : ℕ) × (i < length es) × (get_or es i d ≡ (q, v))
   found_entry exact [] q v d is = absurd (none-some v is)
   found_entry exact (e ∷ es) q v d is = elim (cases_Bool (is_at (R q) e.0)) [
-    | inl at ↦ (0, omega arith, λ k. (sym (exact q e.0 (tied (R q e.0) at)) k, same_Some e.1 v (sym (cond-true _ _ _ at) ∙ is) k))
+    | inl at ↦ (0, omega arith, λ k. (sym (exact q e.0 (is_eq-Equal (R q e.0) at)) k, same_Some e.1 v (sym (cond-true _ _ _ at) ∙ is) k))
     | inr apart ↦ let found = found_entry exact es q v d (sym (cond-false _ _ _ apart) ∙ is) in (suc found.0, omega (arith, found.1), found.2)
   ]
 

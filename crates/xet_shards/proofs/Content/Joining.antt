@@ -50,21 +50,21 @@ module _ {X : Type 0} where
   but_found except f q v found = grind arith
 
   -- one entry and then the rest of a map
-  pub replaced : (one n from : FinMap hash_cmp X) (k : DataHash) (v : X) → one ≡ insert empty k v → ((q : DataHash) → get n q ≡ option_or (get one q) (get from q)) → n ≡ insert from k v
-  replaced one n from k v is joined = same_map hash_cmp-IsTotalOrder hash_cmp-IsAntisymmetric n (insert from k v) (λ q.
+  pub inserts_then_fills : (one n from : FinMap hash_cmp X) (k : DataHash) (v : X) → one ≡ insert empty k v → ((q : DataHash) → get n q ≡ option_or (get one q) (get from q)) → n ≡ insert from k v
+  inserts_then_fills one n from k v is joined = same_map hash_cmp-IsTotalOrder hash_cmp-IsAntisymmetric n (insert from k v) (λ q.
       grind (arith, joined q, get-insert {X = X} hash_cmp-IsTotalOrder empty k v q, get-empty {X = X} hash_cmp q, get-insert hash_cmp-IsTotalOrder from k v q))
 
 -- entries with `f` applied to their values
 module _ {X Z : Type 0} (f : Z → X) where
-  abbrev pub shown : DataHash × Z → DataHash × X
-  shown e = (e.0, f e.1)
+  abbrev pub shown_entry : DataHash × Z → DataHash × X
+  shown_entry e = (e.0, f e.1)
 
   pub shown_push : {Y : Type 0} (show : Y → DataHash × Z) (before : List Y) (y : Y)
-      → map shown (map show (before ++ y ∷ [])) ≡ map shown (map show before) ++ shown (show y) ∷ []
-  shown_push show before y = ap (map shown) (map-append show before (y ∷ [])) ∙ map-append shown (map show before) (show y ∷ [])
+      → map shown_entry (map show (before ++ y ∷ [])) ≡ map shown_entry (map show before) ++ shown_entry (show y) ∷ []
+  shown_push show before y = ap (map shown_entry) (map-append show before (y ∷ [])) ∙ map-append shown_entry (map show before) (show y ∷ [])
 
-  pub shown_at : (P : DataHash × X → Type 0) (front rest all : List (DataHash × Z)) (e : DataHash × Z) → front ++ e ∷ rest ≡ all → All P (map shown all) → P (shown e)
-  shown_at P front rest all e whole holds = All-middle P (map shown front) (map shown rest) (shown e) (subst (All P) (ap (map shown) (sym whole) ∙ map-append shown front (e ∷ rest)) holds)
+  pub shown_at : (P : DataHash × X → Type 0) (front rest all : List (DataHash × Z)) (e : DataHash × Z) → front ++ e ∷ rest ≡ all → All P (map shown_entry all) → P (shown_entry e)
+  shown_at P front rest all e whole holds = All-middle P (map shown_entry front) (map shown_entry rest) (shown_entry e) (subst (All P) (ap (map shown_entry) (sym whole) ∙ map-append shown_entry front (e ∷ rest)) holds)
 
 pub none_of : {X : Type 0} (o : Option X) → is_some o ≡ false → o ≡ None
 none_of o is = grind arith

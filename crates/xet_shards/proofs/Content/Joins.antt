@@ -20,7 +20,7 @@ use Rattle.xet_shards.specs.Content.Joining.{either_file}
 use Rattle.xet_shards.specs.Content.SetOperations.{IsUnion, ShardsAgree}
 use Rattle.xet_shards.specs.Content.Joins.{segments_under, part_under, HasWhatAnyHas, FollowsParts, IsJoinOf}
 use Rattle.xet_shards.proofs.Content.Joining.{or_none}
-use Rattle.xet_shards.proofs.Content.Unions.{IsKnown, known, same_shard, same_either}
+use Rattle.xet_shards.proofs.Content.Unions.{IsKnown, is_known, same_shard, same_either}
 
 -- one of two optional parts that are equal if both are present
 pub either_part : {X : Type 0} (o p : Option X) → ((x y : X) → o ≡ Some x → p ≡ Some y → x ≡ y) → (x : X) → (option_or o p ≡ Some x) ↔ ((o ≡ Some x) ⊎ (p ≡ Some x))
@@ -49,8 +49,8 @@ module _ (q : DataHash) where
     pub segments : length r.segments ≡ r.metadata.num_entries
     pub absent : (part : OptionalPart) → has_part r part ≡ false → rows_of part r ≡ []
 
-  announced : (v : Bool) (xs : List HashRow) → v ≡ is_some (if v then Some xs else None)
-  announced v xs = grind arith
+  is_some-cond : (v : Bool) (xs : List HashRow) → v ≡ is_some (if v then Some xs else None)
+  is_some-cond v xs = grind arith
 
   rows_there : (v : Bool) (xs : List HashRow) → (v ≡ false → xs ≡ []) → xs ≡ unwrap_or (if v then Some xs else None) []
   rows_there v xs absent = grind arith
@@ -60,7 +60,7 @@ module _ (q : DataHash) where
 
   pub plain : (r : MDBFileInfo) → HasPlainHeader r → IsPlain r
   plain r has =
-      let flags : r.metadata.file_flags ≡ flags_of (λ part. is_some (part_in part r)) = has.flags ∙ (λ i. flags_of (λ part. announced (has_part r part) (rows_of part r) i)) in
+      let flags : r.metadata.file_flags ≡ flags_of (λ part. is_some (part_in part r)) = has.flags ∙ (λ i. flags_of (λ part. is_some-cond (has_part r part) (rows_of part r) i)) in
       sym (with_parts-rows_of r)
       ∙ (λ i. with_parts (record { file_hash = sym has.keyed i; file_flags = flags i; num_entries = sym has.segments i; _unused = has.reserved i }) r.segments
       (λ part. rows_there (has_part r part) (rows_of part r) (has.absent part) i))
@@ -71,7 +71,7 @@ module _ (q : DataHash) where
       record {
         keyed = sym (ap file_hash_of is);
         reserved = ap (λ (s : MDBFileInfo). s.metadata._unused) is;
-        flags = ap (λ (s : MDBFileInfo). s.metadata.file_flags) is ∙ (λ i. flags_of (λ part. sym (announced (has_part r part) (rows_of part r)) i));
+        flags = ap (λ (s : MDBFileInfo). s.metadata.file_flags) is ∙ (λ i. flags_of (λ part. sym (is_some-cond (has_part r part) (rows_of part r)) i));
         segments = sym (ap (λ (s : MDBFileInfo). s.metadata.num_entries) is);
         absent = λ part none. ap (rows_of part) (is ∙ (λ i. with_parts header r.segments (λ p. rows_kept (has_part r p) (rows_of p r) i)))
             ∙ rows_of-with_parts_if (has_part r) header r part ∙ ap (λ (v : Bool). if v then rows_of part r else []) none;
@@ -134,7 +134,7 @@ module _ (q : DataHash) where
 
 -- each file of a shard is determined by its parts
 pub follows_parts : (s : Shard) → IsShard s → FollowsParts s
-follows_parts s shard q r at = plain q r (known_header q r (known s q r shard at))
+follows_parts s shard q r at = plain q r (known_header q r (is_known s q r shard at))
 
 pub plain_file : (s : Shard) → FollowsParts s → (q : DataHash) → IsPlainFile q (get s.files q)
 plain_file s follows q r at = plain_header q r (follows q r at)

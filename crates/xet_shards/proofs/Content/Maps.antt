@@ -16,8 +16,8 @@ use Rattle.std.proofs.lemmas.Map.Views.{All-keys-insert_entry}
 use Rattle.std.proofs.lemmas.List.{nil_from_length}
 use Rattle.std.proofs.lemmas.List.Elements.{All-cons, All-drop}
 
-pub less : (o : Ordering) → T (is_lt o) → o ≡ Less
-less o p = grind arith
+pub is_lt-Less : (o : Ordering) → T (is_lt o) → o ≡ Less
+is_lt-Less o p = grind arith
 
 pub both_left : (a b : Bool) → T (a && b) → T a
 both_left a b p = grind arith
@@ -26,8 +26,8 @@ pub both_right : (a b : Bool) → T (a && b) → T b
 both_right a b p = grind arith
 
 -- what is said of a value is said of a reference to it
-pub lent : {X : Type 0} (P : X → Type 0) (o : Option (Bor X)) (p : Option X) → option_map (λ x. x.now) o ≡ p → IfSome p P → IfSome o (λ x. P x.now)
-lent P o p same holds = grind (arith, holds)
+pub IfSome-lent : {X : Type 0} (P : X → Type 0) (o : Option (Bor X)) (p : Option X) → option_map (λ x. x.now) o ≡ p → IfSome p P → IfSome o (λ x. P x.now)
+IfSome-lent P o p same holds = grind (arith, holds)
 
 pub lent_map : {X Y : Type 0} (f : X → Y) (o : Option (Bor X)) (p : Option X) → option_map (λ x. x.now) o ≡ p → option_map (λ x. f x.now) o ≡ option_map f p
 lent_map f o p same = grind (arith, same)
@@ -48,7 +48,7 @@ module _ {K X : Type 0} (R : K → K → Ordering) where
 
   below_keys : (x : K) (es : List (K × X)) → T (below_all R x es) → AllByRecursion (λ y. R x y ≡ Less) (keys_of es)
   below_keys x [] below = tt
-  below_keys x (e ∷ es) below = (less (R x e.0) (both_left _ _ below), below_keys x es (both_right _ _ below))
+  below_keys x (e ∷ es) below = (is_lt-Less (R x e.0) (both_left _ _ below), below_keys x es (both_right _ _ below))
 
   -- ascending keys, in the form that std's sums over maps take
   pub rising_keys : (es : List (K × X)) → T (is_sorted R es) → IsStrictlySortedBy R (keys_of es)
@@ -72,8 +72,8 @@ module _ {K X : Type 0} {R : K → K → Ordering} (total : IsTotalOrder R) (exa
       same_entries_map _ _ (entries-from_sorted R (insert_entry R es k v) (sorted-insert_entry es k v sorted)
       ∙ ap (λ fs. insert_entry R fs k v) (sym (entries-from_sorted R es sorted)) ∙ sym (entries-inserted total (from_sorted es) k v))
 
-  pub found : (es : List (K × X)) (q : K) → T (is_sorted R es) → lookup (is_at (R q)) es ≡ get (from_sorted {R = R} es) q
-  found es q sorted = found_is R q es ∙ sym (get-from_sorted R es q sorted)
+  pub finds_in_map : (es : List (K × X)) (q : K) → T (is_sorted R es) → lookup (is_at (R q)) es ≡ get (from_sorted {R = R} es) q
+  finds_in_map es q sorted = found_is R q es ∙ sym (get-from_sorted R es q sorted)
 
   -- what holds of each entry still does after an entry for which it holds is inserted
   pub All-insert_entry : (P : K × X → Type 0) (es : List (K × X)) (k : K) (v : X) → All P es → P (k, v) → All P (insert_entry R es k v)
@@ -100,11 +100,11 @@ module _ {K : Type 0} (X : Type 0) (R : K → K → Ordering) where
   values-empty = ap (map (λ e. e.1)) entries-empty
 
 -- entries inserted one after another, the last first
-abbrev pub puts : {K X : Type 0} → (K → K → Ordering) → List (K × X) → List (K × X)
-puts R [] = []
-puts R (e ∷ es) = put R e.0 e.1 (puts R es)
+abbrev pub put_all : {K X : Type 0} → (K → K → Ordering) → List (K × X) → List (K × X)
+put_all R [] = []
+put_all R (e ∷ es) = put R e.0 e.1 (put_all R es)
 
-pub entries-from_entries : {K X : Type 0} {R : K → K → Ordering} → IsTotalOrder R → (es : List (K × X)) → entries (from_entries {R = R} es) ≡ puts R es
+pub entries-from_entries : {K X : Type 0} {R : K → K → Ordering} → IsTotalOrder R → (es : List (K × X)) → entries (from_entries {R = R} es) ≡ put_all R es
 entries-from_entries {X = X} {R = R} total [] = entries-empty X R
 entries-from_entries {X = X} {R = R} total (e ∷ es) = entries-insert total (from_entries es) e.0 e.1 ∙ ap (put R e.0 e.1) (entries-from_entries total es)
 

@@ -21,7 +21,7 @@ use Rattle.xet_shards.specs.Steps.Joining.{CanJoinFiles}
 use Rattle.xet_shards.specs.Content.SetOperations.{IsUnion, CanUnite}
 use Rattle.xet_shards.proofs.Content.Maps.{sum-insert}
 use Rattle.xet_shards.proofs.ShardInMemory.Sums.{sum-remove}
-use Rattle.xet_shards.proofs.Content.Joining.{entry-append, shown}
+use Rattle.xet_shards.proofs.Content.Joining.{entry-append, shown_entry}
 use Rattle.xet_shards.proofs.ShardInMemory.FileUnions.{entry-before}
 use Rattle.xet_shards.proofs.Content.Unions.{same_shard}
 
@@ -79,8 +79,8 @@ new_key front rest all e whole sorted = entry-before front rest e (subst (λ es.
 
 -- the same iteration, with a function applied to the values
 pub shown_whole : {X Z : Type 0} (f : Z → X) (front rest all : List (DataHash × Z)) (e : DataHash × Z) → front ++ e ∷ rest ≡ all
-    → map (shown f) front ++ shown f e ∷ map (shown f) rest ≡ map (shown f) all
-shown_whole f front rest all e whole = sym (map-append (shown f) front (e ∷ rest)) ∙ ap (map (shown f)) whole
+    → map (shown_entry f) front ++ shown_entry f e ∷ map (shown_entry f) rest ≡ map (shown_entry f) all
+shown_whole f front rest all e whole = sym (map-append (shown_entry f) front (e ∷ rest)) ∙ ap (map (shown_entry f)) whole
 
 pub sum-entries : {X : Type 0} (f : X → ℕ) (es fs : List (DataHash × X)) (e : DataHash × X) → fs ≡ es ++ e ∷ [] → sum_by f (values_of fs) ≡ sum_by f (values_of es) + f e.1
 sum-entries f es fs e push = ap (λ gs. sum_by f (values_of gs)) push ∙ ap (sum_by f) (map-append (λ d. d.1) es (e ∷ [])) ∙ sum_by_push f (values_of es) e.1
@@ -136,18 +136,18 @@ can_join_united a b can = λ q r s own other.
 module _ (a b : Shard) (es : List (DataHash × MDBFileInfo)) (xs : List (DataHash × MDBXorbInfo)) (files xorbs : ℕ) (es_are : es ≡ entries a.files) (xs_are : xs ≡ entries a.xorbs)
     (files_are : (m : FileMap) → ((q : DataHash) → get m q ≡ either_file (entry es q) (get b.files q)) → files ≡ total_rows file_records (values m))
     (xorbs_are : (m : XorbMap) → ((q : DataHash) → get m q ≡ option_or (get b.xorbs q) (entry xs q)) → xorbs ≡ total_rows xorb_records (values m)) where
-  counted : (c : Shard) → IsUnion a b c → (files ≡ total_rows file_records (values c.files)) × (xorbs ≡ total_rows xorb_records (values c.xorbs))
-  counted c union = (files_are c.files (λ q. cc (union.files q, get-entries a.files q)), xorbs_are c.xorbs (λ q. cc (union.xorbs q, get-entries a.xorbs q)))
+  rows_of_union : (c : Shard) → IsUnion a b c → (files ≡ total_rows file_records (values c.files)) × (xorbs ≡ total_rows xorb_records (values c.xorbs))
+  rows_of_union c union = (files_are c.files (λ q. cc (union.files q, get-entries a.files q)), xorbs_are c.xorbs (λ q. cc (union.xorbs q, get-entries a.xorbs q)))
 
   pub unite_if_few : CanJoinFiles a.files b.files → files ≤ 4294967295 → xorbs ≤ 4294967295 → CanUnite a b
   unite_if_few joins few_files few_xorbs = record {
     same = λ q r s own other. (joins q r s own other).same;
-    rows = λ c union. let are = counted c union in record { files = omega arith; xorbs = omega arith };
+    rows = λ c union. let are = rows_of_union c union in record { files = omega arith; xorbs = omega arith };
   }
 
   pub few_if_unite : CanUnite a b → (files ≤ 4294967295) × (xorbs ≤ 4294967295)
   few_if_unite can =
       let union = union_exists a b in
       let few = can.rows (united_shard a b) union in
-      let are = counted (united_shard a b) union in
+      let are = rows_of_union (united_shard a b) union in
       (omega arith, omega arith)

@@ -15,7 +15,7 @@ use Rattle.xet_records.specs.Part.{flags_of, rows_of, all_but}
 use Rattle.xet_records.specs.Merging.{Agree, has_part, part_in, file_with}
 use Rattle.xet_records.specs.View.{without_aux}
 use Rattle.xet_records.proofs.Parts.{rows_of-with_parts_if}
-use Rattle.xet_records.proofs.KeptParts.{cleared, cleared-known, without_aux-formed}
+use Rattle.xet_records.proofs.KeptParts.{announces-without_aux, cleared-known, without_aux-formed}
 use Rattle.xet_shards.specs.Write.Section.{total_rows}
 use Rattle.xet_shards.specs.Content.Shard.{Shard, IsShard, AreFiles, file_hash_of}
 use Rattle.xet_shards.specs.Content.SetOperations.{ShardsAgree}
@@ -50,17 +50,17 @@ without_aux-is_shard s shard = record {
 }
 
 -- records that agree do so without their auxiliary rows
-agreed : (stays v w : Bool) (xs ys xs_left ys_left : List HashRow) → xs_left ≡ (if stays then xs else []) → ys_left ≡ (if stays then ys else []) → IsTrue (stays && v) → IsTrue (stays && w)
+rows_agree : (stays v w : Bool) (xs ys xs_left ys_left : List HashRow) → xs_left ≡ (if stays then xs else []) → ys_left ≡ (if stays then ys else []) → IsTrue (stays && v) → IsTrue (stays && w)
     → (IsTrue v → IsTrue w → xs ≡ ys) → xs_left ≡ ys_left
-agreed stays v w xs ys xs_left ys_left mine others own other agree = grind arith
+rows_agree stays v w xs ys xs_left ys_left mine others own other agree = grind arith
 
 records_agree : (a b : MDBFileInfo) → Agree a b → Agree (without_aux a) (without_aux b)
 records_agree a b agree = record {
   segments = agree.segments;
   parts = λ part own other.
-      agreed (all_but AuxExt part) (has_part a part) (has_part b part) (rows_of part a) (rows_of part b) (rows_of part (without_aux a)) (rows_of part (without_aux b))
+      rows_agree (all_but AuxExt part) (has_part a part) (has_part b part) (rows_of part a) (rows_of part b) (rows_of part (without_aux a)) (rows_of part (without_aux b))
       (rows_of-with_parts_if (all_but AuxExt) (without_aux a).metadata a part) (rows_of-with_parts_if (all_but AuxExt) (without_aux b).metadata b part)
-      (sym (cleared a.metadata.file_flags part) ∙ own) (sym (cleared b.metadata.file_flags part) ∙ other) (agree.parts part);
+      (sym (announces-without_aux a.metadata.file_flags part) ∙ own) (sym (announces-without_aux b.metadata.file_flags part) ∙ other) (agree.parts part);
 }
 
 pub without_aux-agree : (a b : Shard) → ShardsAgree a b → ShardsAgree (shard_without_aux a) (shard_without_aux b)
@@ -77,10 +77,10 @@ plain_without_aux : (q : DataHash) (r : MDBFileInfo) → HasPlainHeader q r → 
 plain_without_aux q r has = record {
   keyed = has.keyed;
   reserved = has.reserved;
-  flags = cleared-known r.metadata.file_flags has.flags ∙ (λ i. flags_of (λ part. sym (cleared r.metadata.file_flags part) i));
+  flags = cleared-known r.metadata.file_flags has.flags ∙ (λ i. flags_of (λ part. sym (announces-without_aux r.metadata.file_flags part) i));
   segments = has.segments;
   absent = λ part none. rows_of-with_parts_if (all_but AuxExt) (without_aux r).metadata r part
-      ∙ dropped (all_but AuxExt part) (has_part r part) (rows_of part r) (sym (cleared r.metadata.file_flags part) ∙ none) (has.absent part);
+      ∙ dropped (all_but AuxExt part) (has_part r part) (rows_of part r) (sym (announces-without_aux r.metadata.file_flags part) ∙ none) (has.absent part);
 } where
   dropped : (stays v : Bool) (xs : List HashRow) → (stays && v) ≡ false → (v ≡ false → xs ≡ []) → (if stays then xs else []) ≡ []
   dropped true v xs none absent = absent none
@@ -92,7 +92,7 @@ part_if part o = if all_but AuxExt part then o else None
 
 part_left : (part : OptionalPart) (r : MDBFileInfo) → part_in part (without_aux r) ≡ part_if part (part_in part r)
 part_left part r =
-    (λ i. if cleared r.metadata.file_flags part i then Some (rows_of-with_parts_if (all_but AuxExt) (without_aux r).metadata r part i) else None)
+    (λ i. if announces-without_aux r.metadata.file_flags part i then Some (rows_of-with_parts_if (all_but AuxExt) (without_aux r).metadata r part i) else None)
     ∙ by_cases (all_but AuxExt part) (has_part r part) (rows_of part r)
   where
     by_cases : (stays v : Bool) (xs : List HashRow) → (if stays && v then Some (if stays then xs else []) else None) ≡ (if stays then (if v then Some xs else None) else None)

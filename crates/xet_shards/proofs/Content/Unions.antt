@@ -26,8 +26,8 @@ pub record IsKnown (q : DataHash) (r : MDBFileInfo) : Type 0 where
   pub keyed : q ≡ file_hash_of r
   pub well_formed : IsWellFormed r
 
-pub known : (s : Shard) (q : DataHash) (r : MDBFileInfo) → IsShard s → get s.files q ≡ Some r → IsKnown q r
-known s q r shard at = record {
+pub is_known : (s : Shard) (q : DataHash) (r : MDBFileInfo) → IsShard s → get s.files q ≡ Some r → IsKnown q r
+is_known s q r shard at = record {
   keyed = holds_in_map (λ e. e.0 ≡ file_hash_of e.1) s.files q r shard.files.keyed at;
   well_formed = holds_in_map (λ e. IsWellFormed e.1) s.files q r shard.files.well_formed at;
 }
@@ -53,7 +53,7 @@ files_turned q (Some r) (Some s) first second agree =
 -- in either order
 pub union-comm : (a b c d : Shard) → IsShard a → IsShard b → ShardsAgree a b → IsUnion a b c → IsUnion b a d → c ≡ d
 union-comm a b c d first second agree one other = same_shard c d (λ q.
-    one.files q ∙ files_turned q (get a.files q) (get b.files q) (λ r. known a q r first) (λ s. known b q s second) (agree.files q) ∙ sym (other.files q))
+    one.files q ∙ files_turned q (get a.files q) (get b.files q) (λ r. is_known a q r first) (λ s. is_known b q s second) (agree.files q) ∙ sym (other.files q))
     (λ q. one.xorbs q ∙ same_either (get a.xorbs q) (get b.xorbs q) (agree.xorbs q) ∙ sym (other.xorbs q))
 
 files_grouped : (o p r : Option MDBFileInfo) → either_file (either_file o p) r ≡ either_file o (either_file p r)
@@ -75,7 +75,7 @@ files_repeated q (Some r) first = let own = first r refl in ap Some (merged_is_j
 
 -- a shard with itself
 pub union-idem : (a c : Shard) → IsShard a → IsUnion a a c → c ≡ a
-union-idem a c shard union = same_shard c a (λ q. union.files q ∙ files_repeated q (get a.files q) (λ r. known a q r shard))
+union-idem a c shard union = same_shard c a (λ q. union.files q ∙ files_repeated q (get a.files q) (λ r. is_known a q r shard))
     (λ q. grind (arith, union.xorbs q))
 
 no_file : (q : DataHash) → get empty_shard.files q ≡ None
@@ -95,8 +95,8 @@ union-of_empty a c union = same_shard c a (λ q. grind (arith, union.files q, no
 pub agreeing_unite : (a b : Shard) → IsShard a → IsShard b → ShardsAgree a b → ((c : Shard) → IsUnion a b c → RowsFitU32 c) → CanUnite a b
 agreeing_unite a b first second agree few = record {
   same = λ q r s own other.
-      let mine = known a q r first own in
-      let others = known b q s second other in
+      let mine = is_known a q r first own in
+      let others = is_known b q s second other in
       same_file_if_agree r s mine.well_formed.whole others.well_formed.whole (sym mine.keyed ∙ others.keyed) (agree.files q r s own other);
   rows = few;
 }

@@ -83,14 +83,14 @@ one_version bytes a b =
 
 -- the first 48 bytes were read, as a header
 module _ (old start mid : Source) (h : MDBShardFileHeader) (first : start ≡ after_seek old 0) (read : ReadsBytes start mid (shard_header_bytes h)) where
-  taken : ReadsBytes (after_seek old 0) mid (shard_header_bytes h)
-  taken = subst (λ s. ReadsBytes s mid (shard_header_bytes h)) first read
+  reads_header : ReadsBytes (after_seek old 0) mid (shard_header_bytes h)
+  reads_header = subst (λ s. ReadsBytes s mid (shard_header_bytes h)) first read
 
   bytes_same : mid.bytes ≡ old.bytes
-  bytes_same = ap (λ (s : Source). s.bytes) taken.after
+  bytes_same = ap (λ (s : Source). s.bytes) reads_header.after
 
   begins : old.bytes ≡ shard_header_bytes h ++ bytes_left mid
-  begins = ReadsBytes-consumes (after_seek old 0) mid (shard_header_bytes h) taken
+  begins = ReadsBytes-consumes (after_seek old 0) mid (shard_header_bytes h) reads_header
 
   front_is_header : take 48 old.bytes ≡ shard_header_bytes h
   front_is_header = front_is 48 old.bytes (shard_header_bytes h) (bytes_left mid) (length-shard_header_bytes h) begins
@@ -100,7 +100,7 @@ module _ (old start mid : Source) (h : MDBShardFileHeader) (first : start ≡ af
 
   device_failed : (new : Source) (made : ℕ) (f : Error) (e : CoreError) → made ≤ 1 → Fails mid new made f → FromDevice f e → LoadFails old new e
   device_failed new made f e most fails from =
-      search (rules, taken, length-shard_header_bytes h)
+      search (rules, reads_header, length-shard_header_bytes h)
 
   pub no_length : (new : Source) (f : Error) (e : CoreError) → Fails mid new 0 f → FromDevice f e → LoadFails old new e
   no_length new f e fails from = device_failed new 0 f e (omega arith) fails from
@@ -109,7 +109,7 @@ module _ (old start mid : Source) (h : MDBShardFileHeader) (first : start ≡ af
   module _ (n : ℕ) (asked : Source) (known : (n ≡ length mid.bytes) × (asked ≡ mid)) (two : IsVersion h.version) where
     pub short_of_footer : (e : CoreError) → IsEndOfInput e → n < 200 → LoadFails old asked e
     short_of_footer e ended short =
-        search (rules, taken, length-shard_header_bytes h, header_there)
+        search (rules, reads_header, length-shard_header_bytes h, header_there)
 
     pub no_seek : (new : Source) (f : Error) (e : CoreError) → Fails asked new 1 f → FromDevice f e → LoadFails old new e
     no_seek new f e fails from = device_failed new 1 f e (omega arith) (subst (λ s. Fails s new 1 f) known.1 fails) from
@@ -133,7 +133,7 @@ module _ (old start mid : Source) (h : MDBShardFileHeader) (first : start ≡ af
           search (
             rules,
             there,
-            taken,
+            reads_header,
             length-shard_header_bytes h,
             refusal_of,
             header_there,
@@ -156,7 +156,7 @@ module _ (old start mid : Source) (h : MDBShardFileHeader) (first : start ≡ af
             length-append,
             last_is,
             length_last,
-            taken,
+            reads_header,
             length-shard_header_bytes h,
             size,
             front_is_header,

@@ -25,8 +25,8 @@ use Rattle.xet_shards.proofs.Write.Sections.{fits_ever}
 use Rattle.xet_shards.proofs.Write.Tables.{length-starts, length-table_bytes}
 
 -- a part between two others
-pub piece : (xs front mid rest : List ℕ) (a b : ℕ) → xs ≡ front ++ (mid ++ rest) → length front ≡ a → a + length mid ≡ b → slice_range xs a b ≡ mid
-piece xs front mid rest a b are begins ends =
+pub slice_range-middle : (xs front mid rest : List ℕ) (a b : ℕ) → xs ≡ front ++ (mid ++ rest) → length front ≡ a → a + length mid ≡ b → slice_range xs a b ≡ mid
+slice_range-middle xs front mid rest a b are begins ends =
     front_is (b - a) (drop a xs) mid rest (omega (arith, ends)) (rest_is a xs front (mid ++ rest) begins are)
 
 module _ (part : ShardPart) where
@@ -102,11 +102,11 @@ module _ (part : ShardPart) where
 
   split_of_layout : (split : SplitShard) → IsSplit (bytes_of_part part) footer split → IsSplitOf part split
   split_of_layout split is = record {
-    files = is.files ∙ piece (bytes_of_part part) header (flat_map file_records.record_bytes part.files) _ 48 (footer.xorb_info_offset - 48) at_files head (omega (arith, length-files));
-    xorbs = is.xorbs ∙ piece (bytes_of_part part) (header ++ file_section) (flat_map xorb_records.record_bytes part.xorbs) _ footer.xorb_info_offset (footer.file_lookup_offset - 48) at_xorbs one (omega (arith, length-xorbs));
-    file_table = is.file_table ∙ piece (bytes_of_part part) ((header ++ file_section) ++ xorb_section) file_table _ footer.file_lookup_offset footer.xorb_lookup_offset at_file_table two refl;
-    xorb_table = is.xorb_table ∙ piece (bytes_of_part part) (((header ++ file_section) ++ xorb_section) ++ file_table) xorb_table _ footer.xorb_lookup_offset footer.chunk_lookup_offset at_xorb_table three refl;
-    chunk_table = is.chunk_table ∙ piece (bytes_of_part part) ((((header ++ file_section) ++ xorb_section) ++ file_table) ++ xorb_table) chunk_table end footer.chunk_lookup_offset footer.footer_offset at_chunk_table four refl;
+    files = is.files ∙ slice_range-middle (bytes_of_part part) header (flat_map file_records.record_bytes part.files) _ 48 (footer.xorb_info_offset - 48) at_files head (omega (arith, length-files));
+    xorbs = is.xorbs ∙ slice_range-middle (bytes_of_part part) (header ++ file_section) (flat_map xorb_records.record_bytes part.xorbs) _ footer.xorb_info_offset (footer.file_lookup_offset - 48) at_xorbs one (omega (arith, length-xorbs));
+    file_table = is.file_table ∙ slice_range-middle (bytes_of_part part) ((header ++ file_section) ++ xorb_section) file_table _ footer.file_lookup_offset footer.xorb_lookup_offset at_file_table two refl;
+    xorb_table = is.xorb_table ∙ slice_range-middle (bytes_of_part part) (((header ++ file_section) ++ xorb_section) ++ file_table) xorb_table _ footer.xorb_lookup_offset footer.chunk_lookup_offset at_xorb_table three refl;
+    chunk_table = is.chunk_table ∙ slice_range-middle (bytes_of_part part) ((((header ++ file_section) ++ xorb_section) ++ file_table) ++ xorb_table) chunk_table end footer.chunk_lookup_offset footer.footer_offset at_chunk_table four refl;
     footer_is = is.footer_is;
   }
 

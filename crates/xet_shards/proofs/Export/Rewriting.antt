@@ -88,30 +88,30 @@ more_same xs ys a b below here rest = drop_split xs a b below ∙ (λ i. here i 
 -- bytes with all parts of a layout, its footer and its size are this layout
 module _ (bytes : List ℕ) (info : MDBShardInfo) (files : List MDBFileInfo) (xorbs : List MDBXorbInfo) (options : LayoutOptions) (ends : HasHeaderAndFooter bytes info) (same : info.metadata ≡ footer_value files xorbs options)
     (size : length bytes ≡ length (layout_of files xorbs options)) where
-  abbrev written : List ℕ
-  written = layout_of files xorbs options
+  abbrev written_bytes : List ℕ
+  written_bytes = layout_of files xorbs options
 
   abbrev footer : MDBShardFileFooter
   footer = footer_value files xorbs options
 
-  same_end : drop footer.footer_offset bytes ≡ drop footer.footer_offset written
+  same_end : drop footer.footer_offset bytes ≡ drop footer.footer_offset written_bytes
   same_end =
       let other = ends_of_layout files xorbs options (subst FitsFooter same ends.footer_widths) in
-      let at : length written - 200 ≡ footer.footer_offset = omega (arith, footer_last files xorbs options) in
-      ap (λ n. drop n bytes) (sym at ∙ ap (λ n. n - 200) (sym size)) ∙ ends.footer ∙ ap shard_footer_bytes same ∙ sym other.footer ∙ ap (λ n. drop n written) at
+      let at : length written_bytes - 200 ≡ footer.footer_offset = omega (arith, footer_last files xorbs options) in
+      ap (λ n. drop n bytes) (sym at ∙ ap (λ n. n - 200) (sym size)) ∙ ends.footer ∙ ap shard_footer_bytes same ∙ sym other.footer ∙ ap (λ n. drop n written_bytes) at
 
   abbrev SamePart : ℕ → ℕ → Type 0
-  SamePart a b = slice_range bytes a b ≡ slice_range written a b
+  SamePart a b = slice_range bytes a b ≡ slice_range written_bytes a b
 
   pub is_layout : SamePart 0 48 → SamePart 48 footer.xorb_info_offset → SamePart footer.xorb_info_offset footer.file_lookup_offset → SamePart footer.file_lookup_offset footer.xorb_lookup_offset
-      → SamePart footer.xorb_lookup_offset footer.chunk_lookup_offset → SamePart footer.chunk_lookup_offset footer.footer_offset → bytes ≡ written
+      → SamePart footer.xorb_lookup_offset footer.chunk_lookup_offset → SamePart footer.chunk_lookup_offset footer.footer_offset → bytes ≡ written_bytes
   is_layout header file_section xorb_section file_table xorb_table chunk_table =
-      more_same bytes written 0 48 (omega arith) header
-      (more_same bytes written 48 footer.xorb_info_offset (omega arith) file_section
-      (more_same bytes written footer.xorb_info_offset footer.file_lookup_offset (omega arith) xorb_section
-      (more_same bytes written footer.file_lookup_offset footer.xorb_lookup_offset (omega arith) file_table
-      (more_same bytes written footer.xorb_lookup_offset footer.chunk_lookup_offset (omega arith) xorb_table
-      (more_same bytes written footer.chunk_lookup_offset footer.footer_offset (omega arith) chunk_table same_end)))))
+      more_same bytes written_bytes 0 48 (omega arith) header
+      (more_same bytes written_bytes 48 footer.xorb_info_offset (omega arith) file_section
+      (more_same bytes written_bytes footer.xorb_info_offset footer.file_lookup_offset (omega arith) xorb_section
+      (more_same bytes written_bytes footer.file_lookup_offset footer.xorb_lookup_offset (omega arith) file_table
+      (more_same bytes written_bytes footer.xorb_lookup_offset footer.chunk_lookup_offset (omega arith) xorb_table
+      (more_same bytes written_bytes footer.chunk_lookup_offset footer.footer_offset (omega arith) chunk_table same_end)))))
 
 positive : (n : ℕ) → 0 < n → nat_lt 0 n ≡ true
 positive n some = grind (arith, nat_tests)

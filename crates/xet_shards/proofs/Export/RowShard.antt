@@ -22,18 +22,18 @@ use Rattle.xet_shards.specs.Export.InARow.{AscendBoth, AreBytesOf, AppendsShards
 use Rattle.xet_shards.specs.Write.Layout.{layout_of, plain_options}
 use Rattle.xet_shards.specs.Write.Section.{total_rows}
 
-both : (a b : Bool) → T a → T b → T (a && b)
-both a b one other = grind (arith, one, other)
+both_true : (a b : Bool) → T a → T b → T (a && b)
+both_true a b one other = grind (arith, one, other)
 
 module _ {X : Type 0} where
   below_keys : (k : DataHash) (es : List (DataHash × X)) → AllByRecursion (λ q. hash_cmp k q ≡ Less) (map (λ e. e.0) es) → T (below_all hash_cmp k es)
   below_keys k [] all = tt
-  below_keys k (e ∷ es) all = both _ _ (subst (λ o. T (is_lt o)) (sym all.0) tt) (below_keys k es all.1)
+  below_keys k (e ∷ es) all = both_true _ _ (subst (λ o. T (is_lt o)) (sym all.0) tt) (below_keys k es all.1)
 
   sorted_keys : (es : List (DataHash × X)) → IsStrictlySortedBy hash_cmp (map (λ e. e.0) es) → T (is_sorted hash_cmp es)
   unfolding IsStrictlySortedBy
   sorted_keys [] rises = tt
-  sorted_keys (e ∷ es) rises = both _ _ (below_keys e.0 es rises.0) (sorted_keys es rises.1)
+  sorted_keys (e ∷ es) rises = both_true _ _ (below_keys e.0 es rises.0) (sorted_keys es rises.1)
 
   module _ (hash : X → DataHash) (part : Shard → FinMap hash_cmp X) where
     abbrev entries_in : List Shard → List (DataHash × X)

@@ -39,9 +39,9 @@ pub record IsLocated (front xorbs : List MDBXorbInfo) (i : ℕ) : Type 0 where
   pub row_is : get_or (table_rows_after front xorbs) i no_table_row ≡ chunk_table_row (total_rows xorb_records (front ++ before)) index (get_or xorb.chunks index no_chunk)
   pub chunk_is : get_or (all_chunks xorbs) i no_chunk ≡ get_or xorb.chunks index no_chunk
 
-pub located : (front xorbs : List MDBXorbInfo) (i : ℕ) → i < length (all_chunks xorbs) → IsLocated front xorbs i
-located front [] i below = absurd (omega (arith, below))
-located front (x ∷ xs) i below = elim (cases_lt i (length x.chunks)) [
+pub is_located : (front xorbs : List MDBXorbInfo) (i : ℕ) → i < length (all_chunks xorbs) → IsLocated front xorbs i
+is_located front [] i below = absurd (omega (arith, below))
+is_located front (x ∷ xs) i below = elim (cases_lt i (length x.chunks)) [
   | inl less ↦ record {
     before = [];
     xorb = x;
@@ -54,7 +54,7 @@ located front (x ∷ xs) i below = elim (cases_lt i (length x.chunks)) [
         ∙ ap (λ rs. chunk_table_row (total_rows xorb_records rs) i (get_or x.chunks i no_chunk)) (sym (append-nil front));
     chunk_is = get_or_append_left x.chunks (all_chunks xs) no_chunk i less;
   }
-  | inr past ↦ later past (located (front ++ x ∷ []) xs (i - length x.chunks) (omega (arith, below, past, length-append x.chunks (all_chunks xs))))
+  | inr past ↦ later past (is_located (front ++ x ∷ []) xs (i - length x.chunks) (omega (arith, below, past, length-append x.chunks (all_chunks xs))))
 ]
   where
     later : length x.chunks ≤ i → IsLocated (front ++ x ∷ []) xs (i - length x.chunks) → IsLocated front (x ∷ xs) i

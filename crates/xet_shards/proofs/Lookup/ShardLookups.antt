@@ -22,7 +22,7 @@ use Rattle.xet_shards.proofs.ShardInMemory.Files.{well_formed_values}
 use Rattle.xet_shards.proofs.Write.WithOptions.{no_file}
 use Rattle.xet_shards.proofs.Lookup.MapAnswers.{map_answers}
 use Rattle.xet_shards.proofs.Read.Readback.{one_as_read}
-use Rattle.xet_shards.proofs.Lookup.TableLookups.{IsLookedUp, IsAnswer, answered, not_answered}
+use Rattle.xet_shards.proofs.Lookup.TableLookups.{IsLookedUp, IsAnswer, lookup_answers, not_answered}
 
 -- the answer among records is one of them with the hash, or none has it
 one_of : {H R : Type 0} (K : RecordKind H R) (laws : KindLaws K) (d : R) (records : List R) (hash : DataHash) (answer : Option R)
@@ -40,7 +40,7 @@ module _ {H R : Type 0} (K : RecordKind H R) (laws : KindLaws K) (d : R) (record
   pub lookup_with_options : (new : Source) (hash : DataHash) (r : Result (Option R) CoreError) → LooksUpRecord K (table_at old start count 4) offset hash old new r
       → MatchResult r (FoundAmong K records hash) (LookupFailsAmong K records hash old new)
   lookup_with_options new hash (Ok answer) looks =
-      let found = answered K laws d records offset start count old is hash new answer looks.read in
+      let found = lookup_answers K laws d records offset start count old is hash new answer looks.read in
       (found.0, one_of K laws d records hash answer found.1)
   lookup_with_options new hash (Err e) looks = not_answered K laws d records offset start count old is hash new e looks.read
 
@@ -73,6 +73,6 @@ module _ (s : Shard) (shard : IsShard s) (version : FormatVersion) where
       → LooksUpRecord (file_records_in version) (table_at old start count 4) offset hash old new r
       → MatchResult r (FoundInShard s hash) (LookupFailsAmong file_records (values s.files) hash old new)
   lookup_written offset start count old is new hash (Ok answer) looks =
-      let found = answered (file_records_in version) (files_laws version) no_file (values s.files) offset start count old is hash new answer looks.read in
+      let found = lookup_answers (file_records_in version) (files_laws version) no_file (values s.files) offset start count old is hash new answer looks.read in
       (found.0, answers hash answer found.1)
   lookup_written offset start count old is new hash (Err e) looks = not_answered (file_records_in version) (files_laws version) no_file (values s.files) offset start count old is hash new e looks.read

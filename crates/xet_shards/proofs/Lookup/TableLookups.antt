@@ -280,9 +280,9 @@ module _ {H R : Type 0} (K : RecordKind H R) (laws : KindLaws K) (d : R) (record
       }
 
   -- a lookup that answers
-  pub answered : (hash : DataHash) (new : Source) (answer : Option R) → FindsRecord K table offset hash old new answer
+  pub lookup_answers : (hash : DataHash) (new : Source) (answer : Option R) → FindsRecord K table offset hash old new answer
       → (length (with_first_word K hash.word0 records) < 8) × IsAnswer K d records hash answer
-  answered hash new answer looks =
+  lookup_answers hash new answer looks =
       let all = looks.are_hits.all table_sorted in
       (omega (arith, looks.few, all, table_hits hash.word0), answer_is answer looks.answer)
     where

@@ -58,8 +58,8 @@ module _ {footer : MDBShardFileFooter} {hashes : List DataHash} (locations : Lis
   visits : VisitsSome xorb_records 2 footer.xorb_info_offset (map row_of locations) old new
   visits = (i + 1, subst (λ rows. Visits xorb_records 2 footer.xorb_info_offset rows old new) (ap (map row_of) (sym more) ∙ sym (take-map row_of (i + 1) locations)) visits_next)
 
-  answered : (answer : Option Run) → AnswerAt (query_at footer hashes next) now.bytes answer → AnswerAt (query_at footer hashes next) old.bytes answer
-  answered answer found = subst (λ bytes. AnswerAt (query_at footer hashes next) bytes answer) before.visits.bytes found
+  answer_stays : (answer : Option Run) → AnswerAt (query_at footer hashes next) now.bytes answer → AnswerAt (query_at footer hashes next) old.bytes answer
+  answer_stays answer found = subst (λ bytes. AnswerAt (query_at footer hashes next) bytes answer) before.visits.bytes found
 
   contains : Contains locations next
   contains = Contains-get_or locations i (0, 0) below
@@ -71,7 +71,7 @@ module _ {footer : MDBShardFileFooter} {hashes : List DataHash} (locations : Lis
       found : (o : CoreResult (Option Run)) → IfOk o (λ answer. true ≡ is_some answer) → IfOk o (AnswerAt (query_at footer hashes next) now.bytes)
           → IfOk o (λ answer. TriedAnswer footer hashes old.bytes answer locations)
       found (Ok None) some answer = absurd (true≢false some)
-      found (Ok (Some run)) some answer = (next, contains, answered (Some run) answer)
+      found (Ok (Some run)) some answer = (next, contains, answer_stays (Some run) answer)
       found (Err e) some answer = tt
 
       refused : (o : CoreResult (Option Run)) → IfErr o (RefusedAt (λ e. e ≡ InvalidShard text) (query_at footer hashes next) now new)
@@ -94,7 +94,7 @@ none_next {footer} {hashes} locations i below {old} {now} {new} before {text} ba
       visits = visits_next locations i below before bare outcome;
       no_failure = serves_after old now new before.no_failure outcome.no_failure;
       none = All-push (λ location. AnswerAt (query_at footer hashes location) old.bytes None) (take i locations) next before.none
-          (answered locations i below before bare outcome None (if_none (AnswerAt (query_at footer hashes next) now.bytes) answer (sym none) outcome.answer));
+          (answer_stays locations i below before bare outcome None (if_none (AnswerAt (query_at footer hashes next) now.bytes) answer (sym none) outcome.answer));
     })
 
 -- all of them have none
@@ -124,8 +124,8 @@ module _ (footer : MDBShardFileFooter) (hash : DataHash) {count : ℕ} {old mid 
   rows_are : map row_of (take count dest_new) ≡ map (λ (h : Hit (ℕ × ℕ)). h.value.0) finds.found
   rows_are = ap (map row_of) in_front ∙ rows_of_values finds.found
 
-  pub queried : (Answer : List (ℕ × ℕ) → Type 0) → Answer (take count dest_new) → Queries footer hash old new Answer
-  queried Answer answer = record {
+  pub queries_tries : (Answer : List (ℕ × ℕ) → Type 0) → Answer (take count dest_new) → Queries footer hash old new Answer
+  queries_tries Answer answer = record {
     fits = search_gave.fits (omega arith);
     found = finds.found;
     few = omega (arith, found_fit finds, finds.number, room);
@@ -141,12 +141,12 @@ module _ (footer : MDBShardFileFooter) (hash : DataHash) {count : ℕ} {old mid 
 
   query_refused : (e : CoreError) → TriedRefused footer hashes mid new e (take count dest_new) → Queries footer hash old new (TriedRefused footer hashes old new e)
   query_refused e (location, contains, refused) =
-      queried (TriedRefused footer hashes old new e) (location, contains, refused_later (query_at footer hashes location) old mid new e search_gave.no_failure refused)
+      queries_tries (TriedRefused footer hashes old new e) (location, contains, refused_later (query_at footer hashes location) old mid new e search_gave.no_failure refused)
 
   query_answered : (answer : Option Run) → TriedAnswer footer hashes mid.bytes answer (take count dest_new)
       → Queries footer hash old new (TriedAnswer footer hashes old.bytes answer)
   query_answered answer found =
-      queried (TriedAnswer footer hashes old.bytes answer) (subst (λ bytes. TriedAnswer footer hashes bytes answer (take count dest_new)) search_gave.no_failure.bytes found)
+      queries_tries (TriedAnswer footer hashes old.bytes answer) (subst (λ bytes. TriedAnswer footer hashes bytes answer (take count dest_new)) search_gave.no_failure.bytes found)
 
 -- the query by the first hash
 pub query_read : (footer : MDBShardFileFooter) (hash : DataHash) {hashes : List DataHash} {count : ℕ} {old mid new : Source} {dest_old dest_new : List (ℕ × ℕ)}

@@ -32,7 +32,7 @@ use Rattle.xet_shards.specs.Lookup.Lookup.{row_at, chunk_lookup_table, IsRowAndI
 use Rattle.xet_shards.specs.Lookup.RunReading.{query_at, AnswerAt, RefusedAt, Queries, TriedAnswer, TriedRefused, QueryAnswer, QueryRefused, QueryOutcome}
 use Rattle.xet_shards.specs.Lookup.WrittenChunks.{ChunkSearchCosts}
 use Rattle.xet_shards.specs.Lookup.WrittenQueries.{HasChunkAt, all_chunks, is_other, others_with_first_word, RunAmong, TriesCost, QueryCosts}
-use Rattle.xet_shards.proofs.Lookup.ChunkLocations.{IsLocated, located, has_row}
+use Rattle.xet_shards.proofs.Lookup.ChunkLocations.{IsLocated, is_located, has_row}
 use Rattle.xet_shards.proofs.ShardInMemory.ChunkLookups.{chunk_within}
 use Rattle.xet_shards.proofs.Write.ChunkTableRows.{chunk_table_row, no_chunk}
 use Rattle.xet_shards.proofs.Lookup.ChunkTables.{no_table_row, word_of, numbers_of, rows_differ, rows_known, hit_row, table_sorted, chunk_search_costs}
@@ -140,7 +140,7 @@ module _ {files : List MDBFileInfo} {xorbs : List MDBXorbInfo} {options : Layout
   of_chunk : (word : ℕ) (h : Hit (ℕ × ℕ)) → IsHit t word IsRowAndIndex h → IsOfChunk word h
   of_chunk word h hit =
       let known = hit_row files xorbs options old footer is with_table word h hit in
-      let spot = located [] xorbs (chunk_of h.row) (chunk_below h.row known.0) in
+      let spot = is_located [] xorbs (chunk_of h.row) (chunk_below h.row known.0) in
       let row : chunk_table_row (total_rows xorb_records spot.before) spot.index (get_or spot.xorb.chunks spot.index no_chunk) ≡ row_of h.row = sym spot.row_is ∙ row_of_chunk h.row known.0 in
       let index : h.value.1 ≡ spot.index = ap (λ (v : ℕ × ℕ). v.1) known.2 ∙ sym (ap (λ (p : ChunkTableRow). p.index) row) in
       record {

@@ -103,9 +103,9 @@ lookup-same xorbs f g same lookup = record {
 }
 
 -- an entry that replaces an entry
-pub cond-shown : {A B : Type 0} (f : A → B) (b : Bool) (x : A) (y : B) (o : Option A) → f x ≡ y → option_map f (cond b (Some x) o) ≡ cond b (Some y) (option_map f o)
-cond-shown f true x y o same = ap Some same
-cond-shown f false x y o same = refl
+pub cond-shown_entry : {A B : Type 0} (f : A → B) (b : Bool) (x : A) (y : B) (o : Option A) → f x ≡ y → option_map f (cond b (Some x) o) ≡ cond b (Some y) (option_map f o)
+cond-shown_entry f true x y o same = ap Some same
+cond-shown_entry f false x y o same = refl
 
 -- the same lookup before
 pub entered-from : (f g h : DataHash → Option ChunkLocation) (r : MDBXorbInfo) (n : ℕ) → ((q : DataHash) → f q ≡ g q) → IsEntered f h r n → IsEntered g h r n

@@ -17,11 +17,11 @@ use Rattle.xet_shards.specs.Content.Shard.{FileMap, file_hash_of}
 use Rattle.xet_shards.specs.Content.Joining.{entry, either_file}
 use Rattle.xet_shards.specs.Steps.Joining.{CanJoinFile, CanJoinFiles, IsJoinedFile}
 use Rattle.xet_shards.proofs.Content.Found.{found_entry, entry_found}
-use Rattle.xet_shards.proofs.Content.Maps.{less, both_left, both_right}
+use Rattle.xet_shards.proofs.Content.Maps.{is_lt-Less, both_left, both_right}
 use Rattle.xet_shards.proofs.Content.Joining.{entry-append}
 
-apart : (k q : DataHash) → T (is_lt (hash_cmp k q)) → eq_by_cmp hash_cmp q k ≡ false
-apart k q below = ap is_eq (hash_cmp-IsTotalOrder.antisymm q k ∙ ap ordering_reverse (less (hash_cmp k q) below))
+less-not_equal : (k q : DataHash) → T (is_lt (hash_cmp k q)) → eq_by_cmp hash_cmp q k ≡ false
+less-not_equal k q below = ap is_eq (hash_cmp-IsTotalOrder.antisymm q k ∙ ap ordering_reverse (is_lt-Less (hash_cmp k q) below))
 
 -- entries with ascending keys: a later one is found, and not among those before its index
 module _ {X : Type 0} where
@@ -32,7 +32,7 @@ module _ {X : Type 0} where
   pub entry-before : (front rest : List (DataHash × X)) (e : DataHash × X) → T (is_sorted hash_cmp (front ++ e ∷ rest)) → entry front e.0 ≡ None
   entry-before [] rest e sorted = refl
   entry-before (d ∷ front) rest e sorted =
-      ap (λ b. cond b (Some d.1) (entry front e.0)) (apart d.0 e.0 (below_front d.0 front rest e (both_left _ _ sorted)))
+      ap (λ b. cond b (Some d.1) (entry front e.0)) (less-not_equal d.0 e.0 (below_front d.0 front rest e (both_left _ _ sorted)))
       ∙ entry-before front rest e (both_right _ _ sorted)
 
   entry-here : (front rest : List (DataHash × X)) (e : DataHash × X) → T (is_sorted hash_cmp (front ++ e ∷ rest)) → entry (front ++ e ∷ rest) e.0 ≡ Some e.1

@@ -13,9 +13,9 @@ use Rattle.std.proofs.lemmas.List.Sums.{sum_by-cons}
 use Rattle.xet_shards.proofs.Content.Maps.{sum-insert, both_left, both_right, below_none, values-empty}
 
 -- what the value of a key counts, if it has one
-abbrev pub counted : {X : Type 0} → (X → ℕ) → Option X → ℕ
-counted f None = 0
-counted f (Some v) = f v
+abbrev pub count_if_some : {X : Type 0} → (X → ℕ) → Option X → ℕ
+count_if_some f None = 0
+count_if_some f (Some v) = f v
 
 module _ {K X : Type 0} {R : K → K → Ordering} (total : IsTotalOrder R) (exact : IsAntisymmetric R) where
   -- an entry removed from a map and inserted again
@@ -36,38 +36,38 @@ module _ {K X : Type 0} {R : K → K → Ordering} (total : IsTotalOrder R) (exa
   pub all_of_map : (P : K × X → Type 0) (m : FinMap R X) → ((q : K) (v : X) → get m q ≡ Some v → P (q, v)) → All P (entries m)
   all_of_map P m each = all_found P (entries m) (entries_sorted m) (λ q v is. each q v (get-entries m q ∙ is))
 
-  removed : (m : FinMap R X) (k : K) → get (remove m k) k ≡ None
-  removed m k = get-remove total m k k ∙ ap (λ b. cond b None (get m k)) ((eq_by_cmp_equiv total).refl k)
+  get-removed_key : (m : FinMap R X) (k : K) → get (remove m k) k ≡ None
+  get-removed_key m k = get-remove total m k k ∙ ap (λ b. cond b None (get m k)) ((eq_by_cmp_equiv total).refl k)
 
   -- a sum is that of one value and of the rest
   pub sum-remove : (f : X → ℕ) (m : FinMap R X) (k : K) (v : X) → get m k ≡ Some v → sum_by f (values m) ≡ sum_by f (values (remove m k)) + f v
-  sum-remove f m k v here = grind (arith, sum-insert total exact f (remove m k) k v, put_back m k v here, removed m k)
+  sum-remove f m k v here = grind (arith, sum-insert total exact f (remove m k) k v, put_back m k v here, get-removed_key m k)
 
   -- no value is more than the sum
   pub part-le-sum : (f : X → ℕ) (m : FinMap R X) (k : K) (v : X) → get m k ≡ Some v → f v ≤ sum_by f (values m)
   part-le-sum f m k v here = omega (arith, sum-remove f m k v here)
 
   -- a sum is that of a key's value and of the rest
-  sum-without : (f : X → ℕ) (m : FinMap R X) (k : K) → sum_by f (values m) ≡ sum_by f (values (remove m k)) + counted f (get m k)
+  sum-without : (f : X → ℕ) (m : FinMap R X) (k : K) → sum_by f (values m) ≡ sum_by f (values (remove m k)) + count_if_some f (get m k)
   sum-without f m k = go (get m k) refl
     where
       absent : get m k ≡ None → remove m k ≡ m
       absent none = same_map total exact _ _ (λ q. grind (arith, get-remove total m k q, exact q k))
 
-      go : (o : Option X) → get m k ≡ o → sum_by f (values m) ≡ sum_by f (values (remove m k)) + counted f o
+      go : (o : Option X) → get m k ≡ o → sum_by f (values m) ≡ sum_by f (values (remove m k)) + count_if_some f o
       go None none = omega (arith, ap (λ (n : FinMap R X). sum_by f (values n)) (absent none))
       go (Some v) is = sum-remove f m k v is
 
   -- no entry of a sorted list counts more than the values of its key in two maps
   abbrev AreBelow : (X → ℕ) → List (K × X) → FinMap R X → FinMap R X → Type 0
-  AreBelow f es m n = (q : K) (v : X) → find R q es ≡ Some v → f v ≤ counted f (get m q) + counted f (get n q)
+  AreBelow f es m n = (q : K) (v : X) → find R q es ≡ Some v → f v ≤ count_if_some f (get m q) + count_if_some f (get n q)
 
   in_rest : (f : X → ℕ) (e : K × X) (es : List (K × X)) (m n : FinMap R X) → T (below_all R e.0 es) → AreBelow f (e ∷ es) m n → AreBelow f es (remove m e.0) (remove n e.0)
   in_rest f e es m n below all q v is =
       let out = other_key e es q v below is in
       let found = all q v (ap (λ b. cond b (Some e.1) (find R q es)) out ∙ is) in
       let same : (o : FinMap R X) → get (remove o e.0) q ≡ get o q = λ o. get-remove total o e.0 q ∙ ap (λ b. cond b None (get o q)) out in
-      omega (arith, found, ap (counted f) (same m), ap (counted f) (same n))
+      omega (arith, found, ap (count_if_some f) (same m), ap (count_if_some f) (same n))
 
   sum_in : (f : X → ℕ) (es : List (K × X)) (m n : FinMap R X) → T (is_sorted R es) → AreBelow f es m n → sum_by f (values_of es) ≤ sum_by f (values m) + sum_by f (values n)
   sum_in f [] m n sorted all = omega arith
@@ -82,7 +82,7 @@ module _ {K X : Type 0} {R : K → K → Ordering} (total : IsTotalOrder R) (exa
       )
 
   -- a map of which no value counts more than those of its key in two maps has at most the sum of both
-  pub sum-of_both : (f : X → ℕ) (a b c : FinMap R X) → ((q : K) (v : X) → get c q ≡ Some v → f v ≤ counted f (get a q) + counted f (get b q))
+  pub sum-of_both : (f : X → ℕ) (a b c : FinMap R X) → ((q : K) (v : X) → get c q ≡ Some v → f v ≤ count_if_some f (get a q) + count_if_some f (get b q))
       → sum_by f (values c) ≤ sum_by f (values a) + sum_by f (values b)
   sum-of_both f a b c all = sum_in f (entries c) a b (entries_sorted c) (λ q v is. all q v (get-entries c q ∙ is))
 
@@ -91,7 +91,7 @@ module _ {K X : Type 0} {R : K → K → Ordering} (total : IsTotalOrder R) (exa
       → sum_by f (values a) ≤ sum_by f (values b)
   sum-below f a b all =
       let none : FinMap R X = empty in
-      let both = sum-of_both f b none a (λ q v at. let found = all q v at in omega (arith, ap (counted f) found.1, found.2)) in
+      let both = sum-of_both f b none a (λ q v at. let found = all q v at in omega (arith, ap (count_if_some f) found.1, found.2)) in
       omega (arith, both, ap (sum_by f) (values-empty X R))
 
   -- or with all its entries

@@ -24,15 +24,15 @@ use Rattle.xet_shards.specs.Steps.MinimalWriting.{StartsNowhere, IsNextStart, Is
 use Rattle.xet_shards.specs.Content.Shard.{xorb_hash_of}
 use Rattle.xet_shards.proofs.StreamingShard.MinimalShard.{start_total}
 
-rises : (o : Ordering) (i j : ℕ) → MatchOrdering o (i < j) (i ≡ j) (j < i) → i ≤ j → is_gt o ≡ false
-rises Less i j ranks before = refl
-rises Equal i j ranks before = refl
-rises Greater i j ranks before = absurd (omega arith)
+le-not_gt : (o : Ordering) (i j : ℕ) → MatchOrdering o (i < j) (i ≡ j) (j < i) → i ≤ j → is_gt o ≡ false
+le-not_gt Less i j ranks before = refl
+le-not_gt Equal i j ranks before = refl
+le-not_gt Greater i j ranks before = absurd (omega arith)
 
-risen : (o : Ordering) (i j : ℕ) → MatchOrdering o (i < j) (i ≡ j) (j < i) → is_gt o ≡ false → i ≤ j
-risen Less i j ranks is = omega arith
-risen Equal i j ranks is = omega arith
-risen Greater i j ranks is = absurd (true≢false is)
+not_gt-le : (o : Ordering) (i j : ℕ) → MatchOrdering o (i < j) (i ≡ j) (j < i) → is_gt o ≡ false → i ≤ j
+not_gt-le Less i j ranks is = omega arith
+not_gt-le Equal i j ranks is = omega arith
+not_gt-le Greater i j ranks is = absurd (true≢false is)
 
 first_of : (o p : Ordering) → is_gt (ordering_then o p) ≡ false → is_gt o ≡ false
 first_of Less p is = refl
@@ -55,10 +55,10 @@ module _ (x : MDBXorbInfo) where
   same_xorb i j = ap (λ o. ordering_then o (nat_cmp i j)) (tied_itself hash_cmp-IsTotalOrder (xorb_hash_of x))
 
   chunks_rise : (i j : ℕ) → i ≤ j → is_gt (start_cmp (chunk_of x i) (chunk_of x j)) ≡ false
-  chunks_rise i j before = ap is_gt (same_xorb i j) ∙ rises (nat_cmp i j) i j (ranked i j _ refl) before
+  chunks_rise i j before = ap is_gt (same_xorb i j) ∙ le-not_gt (nat_cmp i j) i j (ranked i j _ refl) before
 
   chunks_risen : (i j : ℕ) → is_gt (start_cmp (chunk_of x i) (chunk_of x j)) ≡ false → i ≤ j
-  chunks_risen i j is = risen (nat_cmp i j) i j (ranked i j _ refl) (ap is_gt (sym (same_xorb i j)) ∙ is)
+  chunks_risen i j is = not_gt-le (nat_cmp i j) i j (ranked i j _ refl) (ap is_gt (sym (same_xorb i j)) ∙ is)
 
 -- two starts that compare as equal are the same
 start_exact : (a b : FileStart) → start_cmp a b ≡ Equal → a ≡ b

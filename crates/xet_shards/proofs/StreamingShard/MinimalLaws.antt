@@ -16,7 +16,7 @@ use Rattle.xet_records.specs.XorbRow.{is_marked, with_mark}
 use Rattle.xet_records.specs.declared.file_structs.view.KeptParts.{KeptParts}
 use Rattle.xet_records.specs.declared.file_structs.rows.FileDataSequenceEntry.{FileDataSequenceEntry}
 use Rattle.xet_records.specs.View.{with_verification_if, without_verification, without_aux, with_aux_if, as_kept}
-use Rattle.xet_records.proofs.KeptParts.{cleared, segments_kept, with_parts_if-again}
+use Rattle.xet_records.proofs.KeptParts.{announces-without_aux, segments_kept, with_parts_if-again}
 use Rattle.xet_shards.specs.declared.streaming_shard.file_start.FileStart.{FileStart}
 use Rattle.xet_shards.specs.StreamingShard.MinimalShard.{start_cmp, start_of_file, is_start, chunk_of, marked_if, mark_starts, is_eligible, eligible_in, ascending_hashes, eligible_hashes}
 
@@ -32,12 +32,12 @@ abbrev hash_in_pair : ℕ × XorbChunkSequenceEntry → DataHash
 hash_in_pair e = e.1.chunk_hash
 
 -- what two tests with the same answer take of two lists
-picked : (p q : Bool) (e f : ℕ × XorbChunkSequenceEntry) (es fs : List (ℕ × XorbChunkSequenceEntry)) → p ≡ q → hash_in_pair e ≡ hash_in_pair f → map hash_in_pair es ≡ map hash_in_pair fs
+picks_same_hashes : (p q : Bool) (e f : ℕ × XorbChunkSequenceEntry) (es fs : List (ℕ × XorbChunkSequenceEntry)) → p ≡ q → hash_in_pair e ≡ hash_in_pair f → map hash_in_pair es ≡ map hash_in_pair fs
     → map hash_in_pair (if p then e ∷ es else es) ≡ map hash_in_pair (if q then f ∷ fs else fs)
-picked true true e f es fs same hash rest = λ i. hash i ∷ rest i
-picked false false e f es fs same hash rest = rest
-picked true false e f es fs differ hash rest = absurd (true≢false differ)
-picked false true e f es fs differ hash rest = absurd (true≢false (sym differ))
+picks_same_hashes true true e f es fs same hash rest = λ i. hash i ∷ rest i
+picks_same_hashes false false e f es fs same hash rest = rest
+picks_same_hashes true false e f es fs differ hash rest = absurd (true≢false differ)
+picks_same_hashes false true e f es fs differ hash rest = absurd (true≢false (sym differ))
 
 marked_hash : (b : Bool) (c : XorbChunkSequenceEntry) → (marked_if b c).chunk_hash ≡ c.chunk_hash
 marked_hash true c = refl
@@ -57,7 +57,7 @@ module _ (starts : FileStart → Bool) (x : MDBXorbInfo) where
       ≡ map hash_in_pair (filter (is_eligible starts x) (enumerate_from n cs))
   same_chunks n [] = refl
   same_chunks n (c ∷ cs) =
-      picked _ _ (n, mark (n, c)) (n, c) _ _ (same_test (starts (chunk_of x n)) c) (marked_hash (starts (chunk_of x n)) c) (same_chunks (n + 1) cs)
+      picks_same_hashes _ _ (n, mark (n, c)) (n, c) _ _ (same_test (starts (chunk_of x n)) c) (marked_hash (starts (chunk_of x n)) c) (same_chunks (n + 1) cs)
 
   -- read again, a xorb with marks has the eligible chunks that it had
   eligible_again : eligible_in (is_start []) (mark_starts starts x) ≡ eligible_in starts x
@@ -87,7 +87,7 @@ none_left r none = ap (λ b. if b && true then without_verification r else r) no
 without_aux-again : (r : MDBFileInfo) → without_aux (without_aux r) ≡ without_aux r
 without_aux-again r =
     let flags = with_flag AuxExt false r.metadata.file_flags in
-    let same : with_flag AuxExt false flags ≡ flags = ap (λ (b : Bool). flags - (if b then 536870912 else 0) + 0) (cleared r.metadata.file_flags AuxExt) ∙ omega arith in
+    let same : with_flag AuxExt false flags ≡ flags = ap (λ (b : Bool). flags - (if b then 536870912 else 0) + 0) (announces-without_aux r.metadata.file_flags AuxExt) ∙ omega arith in
     with_parts_if-again (all_but AuxExt) (without_aux r).metadata r (without_aux (without_aux r)).metadata (λ i. record r.metadata { file_flags = same i })
 
 none_verified : (r : MDBFileInfo) → has_verification (with_verification_if false r).metadata.file_flags ≡ false
@@ -100,7 +100,7 @@ none_verified r = either (has_verification r.metadata.file_flags) refl
 wanted_again : (wanted aux : Bool) (r : MDBFileInfo) → with_verification_if wanted (with_aux_if aux (with_verification_if wanted r)) ≡ with_aux_if aux (with_verification_if wanted r)
 wanted_again true aux r = all_wanted (with_aux_if aux (with_verification_if true r))
 wanted_again false true r = none_left (with_verification_if false r) (none_verified r)
-wanted_again false false r = none_left (without_aux (with_verification_if false r)) (cleared (with_verification_if false r).metadata.file_flags Verification ∙ none_verified r)
+wanted_again false false r = none_left (without_aux (with_verification_if false r)) (announces-without_aux (with_verification_if false r).metadata.file_flags Verification ∙ none_verified r)
 
 kept_again : (kept : KeptParts) (r : MDBFileInfo) → as_kept kept (as_kept kept r) ≡ as_kept kept r
 kept_again kept r = ap (with_aux_if kept.aux_ext) (wanted_again kept.verification kept.aux_ext r) ∙ either kept.aux_ext

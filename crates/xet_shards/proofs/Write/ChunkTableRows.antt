@@ -26,27 +26,27 @@ keys-insert_entry R k v [] = refl
 keys-insert_entry R k v (e ∷ es) = grind (arith, keys-insert_entry R k v es)
 
 -- a key with nothing under it
-abbrev pub alone : {K : Type 0} → K → K × Unit {0}
-alone k = (k, tt)
+abbrev pub key_alone : {K : Type 0} → K → K × Unit {0}
+key_alone k = (k, tt)
 
-pub keys-alone : {K : Type 0} (ks : List K) → keys_of (map alone ks) ≡ ks
-keys-alone [] = refl
-keys-alone (k ∷ ks) = ap (λ rest. k ∷ rest) (keys-alone ks)
+pub keys-key_alone : {K : Type 0} (ks : List K) → keys_of (map key_alone ks) ≡ ks
+keys-key_alone [] = refl
+keys-key_alone (k ∷ ks) = ap (λ rest. k ∷ rest) (keys-key_alone ks)
 
 -- the keys of a finite map that has each of a list, in any order
 module _ {K : Type 0} (R : K → K → Ordering) (total : IsTotalOrder R) (exact : IsAntisymmetric R) where
-  find-push : (q p : K) (ps : List K) → find R q (map alone (ps ++ p ∷ [])) ≡ cond (eq_by_cmp R q p) (Some (tt {0})) (find R q (map alone ps))
+  find-push : (q p : K) (ps : List K) → find R q (map key_alone (ps ++ p ∷ [])) ≡ cond (eq_by_cmp R q p) (Some (tt {0})) (find R q (map key_alone ps))
   find-push q p [] = refl
   find-push q p (x ∷ ps) = grind (arith, find-push q p ps)
 
   -- one more key is inserted in order
-  pub keys-push : (ps : List K) (p : K) → insert_key R (keys (from_entries {R = R} (map alone ps))) p ≡ keys (from_entries {R = R} (map alone (ps ++ p ∷ [])))
+  pub keys-push : (ps : List K) (p : K) → insert_key R (keys (from_entries {R = R} (map key_alone ps))) p ≡ keys (from_entries {R = R} (map key_alone (ps ++ p ∷ [])))
   keys-push ps p =
-      let m : FinMap R (Unit {0}) = from_entries (map alone ps) in
-      let more : FinMap R (Unit {0}) = from_entries (map alone (ps ++ p ∷ [])) in
+      let m : FinMap R (Unit {0}) = from_entries (map key_alone ps) in
+      let more : FinMap R (Unit {0}) = from_entries (map key_alone (ps ++ p ∷ [])) in
       let same : more ≡ insert m p tt = same_map total exact more (insert m p tt) (λ q.
-      get-from_entries total (map alone (ps ++ p ∷ [])) q ∙ find-push q p ps
-      ∙ sym (get-insert total m p tt q ∙ ap (cond (eq_by_cmp R q p) (Some (tt {0}))) (get-from_entries total (map alone ps) q))) in
+      get-from_entries total (map key_alone (ps ++ p ∷ [])) q ∙ find-push q p ps
+      ∙ sym (get-insert total m p tt q ∙ ap (cond (eq_by_cmp R q p) (Some (tt {0}))) (get-from_entries total (map key_alone ps) q))) in
       sym (ap keys same ∙ ap keys_of (entries-inserted total m p tt) ∙ keys-insert_entry R p tt (entries m))
 
 -- the row of one more chunk

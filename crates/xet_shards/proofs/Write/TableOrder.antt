@@ -23,41 +23,41 @@ use Rattle.xet_shards.specs.Write.Tables.{ChunkTableRow, chunk_table_row_cmp, ch
 use Rattle.xet_shards.proofs.Content.Maps.{rising_keys}
 use Rattle.xet_shards.proofs.Content.Found.{found_entry, entry_found}
 use Rattle.xet_shards.proofs.Write.Tables.{chunk_table_row_total, chunk_table_row_exact}
-use Rattle.xet_shards.proofs.Write.ChunkTableRows.{alone}
+use Rattle.xet_shards.proofs.Write.ChunkTableRows.{key_alone}
 
 -- a row that is in a list is found among its entries
-row_found : (p d : ChunkTableRow) (ps : List ChunkTableRow) (i : ℕ) → i < length ps → get_or ps i d ≡ p → find chunk_table_row_cmp p (map alone ps) ≡ Some (tt {0})
+row_found : (p d : ChunkTableRow) (ps : List ChunkTableRow) (i : ℕ) → i < length ps → get_or ps i d ≡ p → find chunk_table_row_cmp p (map key_alone ps) ≡ Some (tt {0})
 row_found p d [] i within here = absurd (omega (arith, within))
 row_found p d (x ∷ ps) zero within here =
-    cond-true (is_at (chunk_table_row_cmp p) x) (Some (tt {0})) (find chunk_table_row_cmp p (map alone ps)) (ap (λ q. is_eq (chunk_table_row_cmp p q)) here ∙ ap is_eq (tied_itself chunk_table_row_total p))
+    cond-true (is_at (chunk_table_row_cmp p) x) (Some (tt {0})) (find chunk_table_row_cmp p (map key_alone ps)) (ap (λ q. is_eq (chunk_table_row_cmp p q)) here ∙ ap is_eq (tied_itself chunk_table_row_total p))
 row_found p d (x ∷ ps) (suc i) within here = go (is_at (chunk_table_row_cmp p) x) (row_found p d ps i (omega (arith, within)) here)
   where
-    go : (b : Bool) → find chunk_table_row_cmp p (map alone ps) ≡ Some (tt {0}) → cond b (Some (tt {0})) (find chunk_table_row_cmp p (map alone ps)) ≡ Some (tt {0})
+    go : (b : Bool) → find chunk_table_row_cmp p (map key_alone ps) ≡ Some (tt {0}) → cond b (Some (tt {0})) (find chunk_table_row_cmp p (map key_alone ps)) ≡ Some (tt {0})
     go true later = refl
     go false later = later
 
 module _ (xorbs : List MDBXorbInfo) where
   abbrev table_map : FinMap chunk_table_row_cmp (Unit {0})
-  table_map = from_entries (map alone (chunk_table_rows xorbs))
+  table_map = from_entries (map key_alone (chunk_table_rows xorbs))
 
   pub chunk_table-sorted : IsStrictlySortedBy chunk_table_row_cmp (chunk_table xorbs)
   chunk_table-sorted = rising_keys chunk_table_row_cmp (entries table_map) (entries_sorted table_map)
 
   pub in_table_rows : (p : ChunkTableRow) → Contains (chunk_table xorbs) p → Contains (chunk_table_rows xorbs) p
   in_table_rows p (i, below, here) =
-      let d = alone p in
+      let d = key_alone p in
       let i_in : i < length (entries table_map) = omega (arith, below, length-map (entries table_map) (λ (e : ChunkTableRow × Unit {0}). e.0)) in
       let key : (get_or (entries table_map) i d).0 ≡ p = sym (get_or-map (λ (e : ChunkTableRow × Unit {0}). e.0) (entries table_map) i d p i_in) ∙ here in
       let found = entry_found chunk_table_row_cmp chunk_table_row_total (entries table_map) i p tt d (entries_sorted table_map) i_in (λ k. (key k, tt)) in
-      let at = found_entry chunk_table_row_cmp chunk_table_row_exact (map alone (chunk_table_rows xorbs)) p tt d
-      (sym (get-from_entries chunk_table_row_total (map alone (chunk_table_rows xorbs)) p) ∙ get-entries table_map p ∙ found) in
-      let at_in : at.0 < length (chunk_table_rows xorbs) = omega (arith, at.1, length-map (chunk_table_rows xorbs) alone) in
-      (at.0, at_in, ap (λ (e : ChunkTableRow × Unit {0}). e.0) (sym (get_or-map alone (chunk_table_rows xorbs) at.0 p d at_in) ∙ at.2))
+      let at = found_entry chunk_table_row_cmp chunk_table_row_exact (map key_alone (chunk_table_rows xorbs)) p tt d
+      (sym (get-from_entries chunk_table_row_total (map key_alone (chunk_table_rows xorbs)) p) ∙ get-entries table_map p ∙ found) in
+      let at_in : at.0 < length (chunk_table_rows xorbs) = omega (arith, at.1, length-map (chunk_table_rows xorbs) key_alone) in
+      (at.0, at_in, ap (λ (e : ChunkTableRow × Unit {0}). e.0) (sym (get_or-map key_alone (chunk_table_rows xorbs) at.0 p d at_in) ∙ at.2))
 
   pub in_table : (p : ChunkTableRow) → Contains (chunk_table_rows xorbs) p → Contains (chunk_table xorbs) p
   in_table p (i, below, here) =
-      let d = alone p in
-      let found = sym (get-entries table_map p) ∙ get-from_entries chunk_table_row_total (map alone (chunk_table_rows xorbs)) p ∙ row_found p p (chunk_table_rows xorbs) i below here in
+      let d = key_alone p in
+      let found = sym (get-entries table_map p) ∙ get-from_entries chunk_table_row_total (map key_alone (chunk_table_rows xorbs)) p ∙ row_found p p (chunk_table_rows xorbs) i below here in
       let at = found_entry chunk_table_row_cmp chunk_table_row_exact (entries table_map) p tt d found in (
         at.0,
         omega (arith, at.1, length-map (entries table_map) (λ (e : ChunkTableRow × Unit {0}). e.0)),

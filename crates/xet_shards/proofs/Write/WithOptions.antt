@@ -58,21 +58,21 @@ in_size true bytes = omega arith
 in_size false bytes = omega arith
 
 module _ (files : List MDBFileInfo) (xorbs : List MDBXorbInfo) (options : LayoutOptions) (old : Source) (footer : MDBShardFileFooter) (is : IsBytesWithOptions files xorbs options old.bytes footer) where
-  abbrev known : MDBShardFileFooter
-  known = footer_value files xorbs options
+  abbrev known_footer : MDBShardFileFooter
+  known_footer = footer_value files xorbs options
 
   file_widths : All FitsRecord files
   file_widths = λ k r below. (stored_ever file_records options.version _ (is.files_fit.stored k r below)).widths
 
   -- the tables start within 48 bits
-  file_table_fits : known.file_lookup_offset ≤ 2 ^ 44
+  file_table_fits : known_footer.file_lookup_offset ≤ 2 ^ 44
   file_table_fits = omega (arith, length-file_section files file_widths, length-xorb_section xorbs, is.files_fit.rows, is.xorbs_fit.rows)
 
-  xorb_table_fits : known.xorb_lookup_offset ≤ 2 ^ 45
+  xorb_table_fits : known_footer.xorb_lookup_offset ≤ 2 ^ 45
   xorb_table_fits =
       omega (arith, file_table_fits, in_size options.file_table (table_bytes file_records files), length-table_bytes file_records files, length-le-rows files, is.files_fit.rows)
 
-  pub chunk_table_starts : known.chunk_lookup_offset ≤ 2 ^ 46
+  pub chunk_table_starts : known_footer.chunk_lookup_offset ≤ 2 ^ 46
   chunk_table_starts =
       omega (arith, xorb_table_fits, in_size options.xorb_table (table_bytes xorb_records xorbs), length-table_bytes xorb_records xorbs, xorb_rows-chunks xorbs, is.xorbs_fit.rows)
 
@@ -92,7 +92,7 @@ module _ (files : List MDBFileInfo) (xorbs : List MDBXorbInfo) (options : Layout
         fits = is.xorbs_fit;
         offset_fits = omega (arith, length-file_section files file_widths, is.files_fit.rows);
         rest = after_xorbs files xorbs options;
-        records_are = ap (drop known.xorb_info_offset) is.bytes_are ∙ xorbs_at files xorbs options;
+        records_are = ap (drop known_footer.xorb_info_offset) is.bytes_are ∙ xorbs_at files xorbs options;
       })
 
   pub files_in : Ascends file_records files → options.file_table ≡ true → IsLookedUp (file_records_in options.version) no_file files footer.file_info_offset footer.file_lookup_offset footer.file_lookup_num_entry old
@@ -106,7 +106,7 @@ module _ (files : List MDBFileInfo) (xorbs : List MDBXorbInfo) (options : Layout
         start_fits = omega (arith, file_table_fits);
         start_there = omega (arith, file_table_there files xorbs options, ap length is.bytes_are);
         after = after_file_table files xorbs options;
-        table_is = ap (drop known.file_lookup_offset) is.bytes_are ∙ file_table_is_at files xorbs options
+        table_is = ap (drop known_footer.file_lookup_offset) is.bytes_are ∙ file_table_is_at files xorbs options
             ∙ ap (λ b. flat_map start_row (if_included b (starts file_records files)) ++ after_file_table files xorbs options) with_table;
       })
 
@@ -121,7 +121,7 @@ module _ (files : List MDBFileInfo) (xorbs : List MDBXorbInfo) (options : Layout
         start_fits = omega (arith, xorb_table_fits);
         start_there = omega (arith, xorb_table_there files xorbs options, ap length is.bytes_are);
         after = after_xorb_table files xorbs options;
-        table_is = ap (drop known.xorb_lookup_offset) is.bytes_are ∙ xorb_table_is_at files xorbs options
+        table_is = ap (drop known_footer.xorb_lookup_offset) is.bytes_are ∙ xorb_table_is_at files xorbs options
             ∙ ap (λ b. flat_map start_row (if_included b (starts xorb_records xorbs)) ++ after_xorb_table files xorbs options) with_table;
       })
 

@@ -20,18 +20,18 @@ use Rattle.xet_shards.proofs.Write.Tables.{chunk_table_row_total}
 use Rattle.xet_shards.specs.Write.Tables.{ChunkTableRow, chunk_table_row_cmp, chunk_table_rows, ascending_rows, chunk_table, chunk_table_row_bytes, table_bytes, chunk_table_bytes}
 use Rattle.xet_shards.specs.Write.Layout.{footer_value, layout_of, plain_options}
 use Rattle.xet_shards.proofs.Write.ChunkTableRows.{ascending_rows-nil}
-use Rattle.xet_shards.proofs.Content.Maps.{puts, entries-from_entries}
+use Rattle.xet_shards.proofs.Content.Maps.{put_all, entries-from_entries}
 use Rattle.xet_shards.proofs.Write.XorbLayouts.{length-layout_of}
 
 -- the hash with the words n, 1, 0 and 0
-abbrev small : ℕ → DataHash
-small n = record { word0 = n; word1 = 1; word2 = 0; word3 = 0 }
+abbrev small_hash : ℕ → DataHash
+small_hash n = record { word0 = n; word1 = 1; word2 = 0; word3 = 0 }
 
 -- a file of the chunks 0 to 5, 5 bytes, of one xorb
 abbrev file : ℕ → ℕ → MDBFileInfo
 file hash xorb = record {
-  metadata = record { file_hash = small hash; file_flags = 0; num_entries = 1; _unused = 0 };
-  segments = record { xorb_hash = small xorb; xorb_flags = 0; unpacked_segment_bytes = 5; chunk_index_start = 0; chunk_index_end = 5 } ∷ [];
+  metadata = record { file_hash = small_hash hash; file_flags = 0; num_entries = 1; _unused = 0 };
+  segments = record { xorb_hash = small_hash xorb; xorb_flags = 0; unpacked_segment_bytes = 5; chunk_index_start = 0; chunk_index_end = 5 } ∷ [];
   verification = [];
   metadata_ext = None;
   aux_ext = None;
@@ -40,8 +40,8 @@ file hash xorb = record {
 -- a xorb of one chunk of 5 bytes
 abbrev xorb : ℕ → ℕ → MDBXorbInfo
 xorb hash chunk = record {
-  metadata = record { xorb_hash = small hash; xorb_flags = 0; num_entries = 1; num_bytes_in_xorb = 5; num_bytes_on_disk = 0 };
-  chunks = record { chunk_hash = small chunk; chunk_byte_range_start = 0; unpacked_segment_bytes = 5; flags = 0; _unused = 0 } ∷ [];
+  metadata = record { xorb_hash = small_hash hash; xorb_flags = 0; num_entries = 1; num_bytes_in_xorb = 5; num_bytes_on_disk = 0 };
+  chunks = record { chunk_hash = small_hash chunk; chunk_byte_range_start = 0; unpacked_segment_bytes = 5; flags = 0; _unused = 0 } ∷ [];
 }
 
 -- the offsets of file section, xorb section, the three tables and the footer
@@ -52,7 +52,7 @@ offsets f = f.file_info_offset ∷ f.xorb_info_offset ∷ f.file_lookup_offset �
 abbrev sums : MDBShardFileFooter → List ℕ
 sums f = f.stored_bytes ∷ f.materialized_bytes ∷ f.stored_bytes_on_disk ∷ []
 
-ascending_is : (ps : List ChunkTableRow) → ascending_rows ps ≡ map (λ e. e.0) (puts chunk_table_row_cmp (map (λ p. (p, tt {0})) ps))
+ascending_is : (ps : List ChunkTableRow) → ascending_rows ps ≡ map (λ e. e.0) (put_all chunk_table_row_cmp (map (λ p. (p, tt {0})) ps))
 ascending_is ps = ap (map (λ e. e.0)) (entries-from_entries chunk_table_row_total (map (λ p. (p, tt {0})) ps))
 
 -- a chunk that is in two xorbs
@@ -89,22 +89,22 @@ size_of_two = length-layout_of [] (xorb 10 21 ∷ xorb 11 21 ∷ []) None (All-n
 
 -- a chunk, and a xorb of three chunks of 5, 6 and 7 bytes
 abbrev chunk : ℕ → ℕ → ℕ → XorbChunkSequenceEntry
-chunk hash start bytes = record { chunk_hash = small hash; chunk_byte_range_start = start; unpacked_segment_bytes = bytes; flags = 0; _unused = 0 }
+chunk hash start bytes = record { chunk_hash = small_hash hash; chunk_byte_range_start = start; unpacked_segment_bytes = bytes; flags = 0; _unused = 0 }
 
-abbrev three : MDBXorbInfo
-three = record {
-  metadata = record { xorb_hash = small 10; xorb_flags = 0; num_entries = 3; num_bytes_in_xorb = 18; num_bytes_on_disk = 0 };
+abbrev xorb_of_three : MDBXorbInfo
+xorb_of_three = record {
+  metadata = record { xorb_hash = small_hash 10; xorb_flags = 0; num_entries = 3; num_bytes_in_xorb = 18; num_bytes_on_disk = 0 };
   chunks = chunk 21 0 5 ∷ chunk 22 5 6 ∷ chunk 23 11 7 ∷ [];
 }
 
 -- a segment of chunks of that xorb
 abbrev segment : ℕ → ℕ → ℕ → FileDataSequenceEntry
-segment bytes start end = record { xorb_hash = small 10; xorb_flags = 0; unpacked_segment_bytes = bytes; chunk_index_start = start; chunk_index_end = end }
+segment bytes start end = record { xorb_hash = small_hash 10; xorb_flags = 0; unpacked_segment_bytes = bytes; chunk_index_start = start; chunk_index_end = end }
 
 -- the first two hashes match, the third does not
-pub run_to_other_hash : run_at no_key (three, 1) (small 22 ∷ small 23 ∷ small 99 ∷ []) ≡ (2, segment 13 1 3)
+pub run_to_other_hash : run_at no_key (xorb_of_three, 1) (small_hash 22 ∷ small_hash 23 ∷ small_hash 99 ∷ []) ≡ (2, segment 13 1 3)
 run_to_other_hash = refl
 
 -- the xorb ends before the hashes
-pub run_to_end_of_xorb : run_at no_key (three, 2) (small 23 ∷ small 24 ∷ []) ≡ (1, segment 7 2 3)
+pub run_to_end_of_xorb : run_at no_key (xorb_of_three, 2) (small_hash 23 ∷ small_hash 24 ∷ []) ≡ (1, segment 7 2 3)
 run_to_end_of_xorb = refl

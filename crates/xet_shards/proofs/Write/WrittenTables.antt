@@ -31,7 +31,7 @@ use Rattle.xet_shards.specs.Write.Tables.{hash_in, chunk_table_rows_from, chunk_
 use Rattle.xet_shards.specs.Write.Layout.{LayoutOptions, if_included, shard_header_bytes, header_value, shard_footer_bytes, footer_value, layout_of, layout_in, info_value_in, plain_options_in}
 use Rattle.xet_shards.specs.Read.TableReading.{FitsStart, triple_of, triple_row, FitsTriple}
 use Rattle.xet_shards.specs.Steps.ChunkMerging.{FitsTableRow}
-use Rattle.xet_shards.proofs.Write.ChunkTableRows.{alone, keys-alone, chunk_table_row}
+use Rattle.xet_shards.proofs.Write.ChunkTableRows.{key_alone, keys-key_alone, chunk_table_row}
 use Rattle.xet_shards.proofs.Write.Layouts.{length-shard_header_bytes}
 use Rattle.xet_shards.proofs.Content.Maps.{All-keys-from_entries}
 use Rattle.xet_shards.proofs.Write.Sections.{FitsSection, xorbs_fit}
@@ -159,7 +159,7 @@ module _ (xorbs : List MDBXorbInfo) (fit : All FitsXorb xorbs) (few : total_rows
   pub chunk_table_fits : All FitsTriple (map triple_of (chunk_table xorbs))
   chunk_table_fits =
       All-map FitsTriple triple_of (chunk_table xorbs)
-      (All-keys-from_entries chunk_table_row_total FitsTableRow (map alone (chunk_table_rows xorbs)) (subst (All FitsTableRow) (sym (keys-alone (chunk_table_rows xorbs))) (table_rows_fit [] xorbs fit (omega (arith, few)))))
+      (All-keys-from_entries chunk_table_row_total FitsTableRow (map key_alone (chunk_table_rows xorbs)) (subst (All FitsTableRow) (sym (keys-key_alone (chunk_table_rows xorbs))) (table_rows_fit [] xorbs fit (omega (arith, few)))))
 
   few_starts : length (starts xorb_records xorbs) ≤ 4294967295
   few_starts = omega (arith, few, length-starts xorb_records xorbs, xorb_rows-chunks xorbs)
@@ -176,21 +176,21 @@ in_few : {X : Type 0} (b : Bool) (rows : List X) → length rows ≤ 4294967295 
 in_few true rows few = few
 in_few false rows few = omega arith
 
-map_in : {X Y : Type 0} (f : X → Y) (b : Bool) (rows : List X) → map f (if_included b rows) ≡ if_included b (map f rows)
-map_in f true rows = refl
-map_in f false rows = refl
+map-if_included : {X Y : Type 0} (f : X → Y) (b : Bool) (rows : List X) → map f (if_included b rows) ≡ if_included b (map f rows)
+map-if_included f true rows = refl
+map-if_included f false rows = refl
 
 -- the tables of such records with any layout options
 module _ (files : List MDBFileInfo) (xorbs : List MDBXorbInfo) (options : LayoutOptions) (fits : FitsSection xorb_records xorbs)
     (old new : Source) (are : old.bytes ≡ layout_of files xorbs options) where
-  abbrev written : MDBShardFileFooter
-  written = footer_value files xorbs options
+  abbrev written_footer : MDBShardFileFooter
+  written_footer = footer_value files xorbs options
 
   widths : All FitsXorb xorbs
   widths k r below = (fits.stored k r below).widths
 
   xorb_table_in : {Z : Type 0} (r : Result (Vec (ℕ × ℕ) Z) CoreError)
-      → ReadsOrFails start_row FitsStart 12 old new written.xorb_lookup_offset written.xorb_lookup_num_entry r → IsReadAs old new (if_included options.xorb_table (starts xorb_records xorbs)) r
+      → ReadsOrFails start_row FitsStart 12 old new written_footer.xorb_lookup_offset written_footer.xorb_lookup_num_entry r → IsReadAs old new (if_included options.xorb_table (starts xorb_records xorbs)) r
   xorb_table_in r read =
       search (
         rules,
@@ -206,11 +206,11 @@ module _ (files : List MDBFileInfo) (xorbs : List MDBXorbInfo) (options : Layout
       )
 
   chunk_table_in : {Z : Type 0} (r : Result (Vec (ℕ × (ℕ × ℕ)) Z) CoreError)
-      → ReadsOrFails triple_row FitsTriple 16 old new written.chunk_lookup_offset written.chunk_lookup_num_entry r → IsReadAs old new (map triple_of (if_included options.chunk_table (chunk_table xorbs))) r
+      → ReadsOrFails triple_row FitsTriple 16 old new written_footer.chunk_lookup_offset written_footer.chunk_lookup_num_entry r → IsReadAs old new (map triple_of (if_included options.chunk_table (chunk_table xorbs))) r
   chunk_table_in r read =
       search (
         rules,
-        map_in,
+        map-if_included,
         whole_table,
         length-triple,
         triple_injective,

@@ -14,7 +14,7 @@ use Rattle.xet_records.specs.XorbRecord.{xorb_records, xorb_row_count}
 use Rattle.xet_shards.specs.Write.Section.{section_bytes, total_rows, with_fronts}
 use Rattle.xet_shards.specs.Write.Tables.{ChunkTableRow, chunk_table_row_cmp, chunk_table_rows_from, chunk_table_rows, chunk_table, table_bytes, chunk_table_bytes}
 use Rattle.xet_shards.specs.Write.Layout.{LayoutOptions, if_included, header_value, footer_value, shard_header_bytes, shard_footer_bytes, layout_of, plain_options}
-use Rattle.xet_shards.proofs.Write.ChunkTableRows.{alone, keys-alone, chunk_table_row}
+use Rattle.xet_shards.proofs.Write.ChunkTableRows.{key_alone, keys-key_alone, chunk_table_row}
 use Rattle.xet_shards.proofs.Content.Maps.{IsRising, rising_lower, length-from_entries}
 use Rattle.xet_shards.proofs.Write.Tables.{length-table_bytes, length-chunk_table_row_bytes, chunk_table_row_total, chunk_table_row_exact}
 use Rattle.xet_shards.proofs.Write.Layouts.{length-shard_header_bytes, length-file_section, length-xorb_section, length-shard_footer_bytes}
@@ -74,12 +74,12 @@ length-chunk_table_rows xorbs = length-table_rows_after [] xorbs
 -- the chunk table has a row for each chunk
 pub length-chunk_table : (xorbs : List MDBXorbInfo) → length (chunk_table xorbs) ≡ total_chunks xorbs
 length-chunk_table xorbs =
-    let rows : List (ChunkTableRow × Unit {0}) = map alone (chunk_table_rows xorbs) in
+    let rows : List (ChunkTableRow × Unit {0}) = map key_alone (chunk_table_rows xorbs) in
     let table : FinMap chunk_table_row_cmp (Unit {0}) = from_entries rows in
     length-map (entries table) (λ (e : ChunkTableRow × Unit {0}). e.0)
     ∙ length-from_entries chunk_table_row_total sum_of (λ p q same. ap sum_of (chunk_table_row_exact p q same)) 0 rows
-    (subst (IsRising sum_of 0) (sym (keys-alone (chunk_table_rows xorbs))) (rising_rows [] xorbs))
-    ∙ length-map (chunk_table_rows xorbs) alone
+    (subst (IsRising sum_of 0) (sym (keys-key_alone (chunk_table_rows xorbs))) (rising_rows [] xorbs))
+    ∙ length-map (chunk_table_rows xorbs) key_alone
     ∙ length-chunk_table_rows xorbs
 
 length-chunk_rows : (xorbs : List MDBXorbInfo) → length (chunk_table_bytes xorbs) ≡ 16 * length (chunk_table xorbs)

@@ -2,7 +2,7 @@ use Rattle.std.proofs.Common.{arith, rules, ◌≡◌, length, true, false, [], 
 use Rattle.std.proofs.lemmas.List.{take_all, append-nil, length-append}
 use Rattle.std.proofs.lemmas.Slice.Zip.{zip_turn, zip_end, length-zip}
 use Rattle.xet_base.specs.Hash.{hash_eq}
-use Rattle.mdb.proofs.Keys.{kept, kept_more}
+use Rattle.mdb.proofs.Keys.{values_of_key, kept_more}
 use Rattle.mdb.proofs.by_key.values_under.Goals as goal
 
 -- a value under the key is kept
@@ -23,8 +23,8 @@ loop-value-preserved-in-Continue-1 g c =
     let count = length-append yielded ((c.in-Some.value, c.in-Some.its) ∷ []) in
     let pushed : c.push.new.self.items ≡ c.loop-value.found.items ++ value ∷ [] = search rules in
     pushed ∙ ap (λ l. l ++ value ∷ []) c.loop-value.invariant
-    ∙ ap (λ b. kept c.args.key.now (take (length yielded) (zip values keys)) ++ cond b (value ∷ []) []) (sym same)
-    ∙ sym more ∙ ap (λ n. kept c.args.key.now (take n (zip values keys))) (sym count)
+    ∙ ap (λ b. values_of_key c.args.key.now (take (length yielded) (zip values keys)) ++ cond b (value ∷ []) []) (sym same)
+    ∙ sym more ∙ ap (λ n. values_of_key c.args.key.now (take n (zip values keys))) (sym count)
 
 -- and no other
 pub loop-value-preserved : goal.loop-value-preserved
@@ -43,8 +43,8 @@ loop-value-preserved g c =
     let other : hash_eq c.in-Some.its.now c.args.key.now ≡ false = sym c.eq.ensures ∙ c.if-eq.false in
     let count = length-append yielded ((c.in-Some.value, c.in-Some.its) ∷ []) in
     c.loop-value.invariant ∙ sym (append-nil _)
-    ∙ ap (λ b. kept c.args.key.now (take (length yielded) (zip values keys)) ++ cond b (value ∷ []) []) (sym other)
-    ∙ sym more ∙ ap (λ n. kept c.args.key.now (take n (zip values keys))) (sym count)
+    ∙ ap (λ b. values_of_key c.args.key.now (take (length yielded) (zip values keys)) ++ cond b (value ∷ []) []) (sym other)
+    ∙ sym more ∙ ap (λ n. values_of_key c.args.key.now (take n (zip values keys))) (sym count)
 
 -- all values were met
 pub returns : goal.returns
@@ -56,6 +56,6 @@ returns g c =
     c.next.new.self c.next.result (search rules) (search rules) c.loop-value.yielded_by c.in-None.is
     c.next.ensures.steps in
     c.loop-value.invariant
-    ∙ ap (kept c.args.key.now) (
+    ∙ ap (values_of_key c.args.key.now) (
     take_all (length c.loop-value.yielded) (zip values keys) (omega (arith, count, length-zip values keys))
     )

@@ -1,6 +1,6 @@
 use Rattle.std.proofs.Common.{rules, [], ◌∙◌, get_or, ap, sym, subst, arith, if◌then◌else◌}
 use Rattle.script_lines.specs.Commands.{texts, SpellsKey, SpellsNumber}
-use Rattle.script_lines.proofs.Commands.{all_6, export_words, text_at}
+use Rattle.script_lines.proofs.Commands.{six_texts, export_words, text_at}
 use Rattle.script_lines.specs.declared.verb.Verb.TheVariants.{Export, Drop}
 use Rattle.script_lines.proofs.command.parse_export.Goals as goal
 
@@ -24,7 +24,7 @@ returns-clause-found c =
         get_or (texts words) 2 [],
         get_or (texts words) 3 [],
         get_or (texts words) 4 [],
-        all_6 words _ _ _ _ _ _ c.in-len6.len_at_least c.in-len6.len_below c.in_ok-from.ensures.name c.in_ok-buffer.ensures.name c.in_ok-parse_parts.ensures.found.1,
+        six_texts words _ _ _ _ _ _ c.in-len6.len_at_least c.in-len6.len_below c.in_ok-from.ensures.name c.in_ok-buffer.ensures.name c.in_ok-parse_parts.ensures.found.1,
         search rules,
         search rules,
         subst (λ w. SpellsKey w c.in_ok-parse_key.field-0) (sym (text_at words 2 _ (omega arith))) c.in_ok-parse_key.ensures.found,

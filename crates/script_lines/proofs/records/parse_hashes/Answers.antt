@@ -3,12 +3,12 @@ use Rattle.std.proofs.lemmas.Grind.{common_steps}
 use Rattle.std.specs.List.{AllZip}
 use Rattle.script_lines.specs.Commands.{texts}
 use Rattle.script_lines.specs.Words.{SpellsHash}
-use Rattle.script_lines.proofs.SpelledHashes.{spelled_more, unspelled}
+use Rattle.script_lines.proofs.SpelledHashes.{spelled_more, not_all_spelled}
 use Rattle.script_lines.proofs.records.parse_hashes.Goals as goal
 
 pub returns-in_err-parse_hash-clause-every : goal.returns-in_err-parse_hash-clause-every
 returns-in_err-parse_hash-clause-every c = λ hashes all.
-    absurd (unspelled c.args.words.now c.loop-word.word-index _ c.loop-word-test.true c.in_err-parse_hash.ensures.none hashes all)
+    absurd (not_all_spelled c.args.words.now c.loop-word.word-index _ c.loop-word-test.true c.in_err-parse_hash.ensures.none hashes all)
 
 pub loop-word-preserved : goal.loop-word-preserved
 loop-word-preserved c = record {

@@ -1,7 +1,7 @@
 use Rattle.std.proofs.Common.{rules, ◌≡◌, ◌∷◌, ◌++◌, ℕ, List, map, Bor, sym, ap, ◌∙◌, arith}
 use Rattle.std.proofs.lemmas.Result.{err_from_is_err_and}
 use Rattle.script_lines.specs.Trees.{words_of_line}
-use Rattle.script_lines.proofs.Trees.{opening, closing, pair_after, name_before, some_words, pair_found}
+use Rattle.script_lines.proofs.Trees.{open_parenthesis, close_parenthesis, pair_after, name_before, some_words, pair_found}
 use Rattle.script_lines.proofs.tree.+parse_front.Goals as goal
 
 pub returns-in_default-clause-every : goal.returns-in_default-clause-every
@@ -23,7 +23,7 @@ pub returns-then-depth-eq0-clause-every : goal.returns-then-depth-eq0-clause-eve
 returns-then-depth-eq0-clause-every t c = λ tree rest is same.
     let words = ap (λ (ws : List (Bor (List ℕ))). map (λ w. w.now) ws) c.in-Some.ensures.cases.0 in
     let others = map (λ w. w.now) c.in-Some.rest.now in
-    let first : c.in-Some.first.now.now ≡ opening = search (rules, c.if-ne.false, c.if-ne.ensures) in
+    let first : c.in-Some.first.now.now ≡ open_parenthesis = search (rules, c.if-ne.false, c.if-ne.ensures) in
     let pair = pair_after tree c.args.depth others rest is (sym (ap (λ (w : List ℕ). w ∷ others) first) ∙ sym words ∙ same) in
     absurd (omega (arith, pair.positive, c.if-depth-eq0.true))
 
@@ -31,46 +31,46 @@ pub returns-in_err-left-clause-every : goal.returns-in_err-left-clause-every
 returns-in_err-left-clause-every t c = λ tree rest is same.
     let words = ap (λ (ws : List (Bor (List ℕ))). map (λ w. w.now) ws) c.in-Some.ensures.cases.0 in
     let others = map (λ w. w.now) c.in-Some.rest.now in
-    let first : c.in-Some.first.now.now ≡ opening = search (rules, c.if-ne.false, c.if-ne.ensures) in
+    let first : c.in-Some.first.now.now ≡ open_parenthesis = search (rules, c.if-ne.false, c.if-ne.ensures) in
     let pair = pair_after tree c.args.depth others rest is (sym (ap (λ (w : List ℕ). w ∷ others) first) ∙ sym words ∙ same) in
     let p = err_from_is_err_and c.from_residual-in_err-left.result c.from_residual-in_err-left.ensures.1 in
-    rw (p.1, p.2) (c.in_err-left.ensures.every pair.left (words_of_line pair.right ++ (closing ∷ rest)) pair.left_is pair.are)
+    rw (p.1, p.2) (c.in_err-left.ensures.every pair.left (words_of_line pair.right ++ (close_parenthesis ∷ rest)) pair.left_is pair.are)
 
 pub returns-in_err-right-clause-every : goal.returns-in_err-right-clause-every
 returns-in_err-right-clause-every t c = λ tree rest is same.
     let words = ap (λ (ws : List (Bor (List ℕ))). map (λ w. w.now) ws) c.in-Some.ensures.cases.0 in
     let others = map (λ w. w.now) c.in-Some.rest.now in
-    let first : c.in-Some.first.now.now ≡ opening = search (rules, c.if-ne.false, c.if-ne.ensures) in
+    let first : c.in-Some.first.now.now ≡ open_parenthesis = search (rules, c.if-ne.false, c.if-ne.ensures) in
     let pair = pair_after tree c.args.depth others rest is (sym (ap (λ (w : List ℕ). w ∷ others) first) ∙ sym words ∙ same) in
-    let left = c.in_ok-left.ensures.every pair.left (words_of_line pair.right ++ (closing ∷ rest)) pair.left_is pair.are in
+    let left = c.in_ok-left.ensures.every pair.left (words_of_line pair.right ++ (close_parenthesis ∷ rest)) pair.left_is pair.are in
     let p = err_from_is_err_and c.from_residual-in_err-right.result c.from_residual-in_err-right.ensures.1 in
-    rw (p.1, p.2) (c.in_err-right.ensures.every pair.right (closing ∷ rest) pair.right_is left)
+    rw (p.1, p.2) (c.in_err-right.ensures.every pair.right (close_parenthesis ∷ rest) pair.right_is left)
 
 pub returns-in_err-rest-clause-every : goal.returns-in_err-rest-clause-every
 returns-in_err-rest-clause-every t c = λ tree rest is same.
     let words = ap (λ (ws : List (Bor (List ℕ))). map (λ w. w.now) ws) c.in-Some.ensures.cases.0 in
     let others = map (λ w. w.now) c.in-Some.rest.now in
-    let first : c.in-Some.first.now.now ≡ opening = search (rules, c.if-ne.false, c.if-ne.ensures) in
+    let first : c.in-Some.first.now.now ≡ open_parenthesis = search (rules, c.if-ne.false, c.if-ne.ensures) in
     let pair = pair_after tree c.args.depth others rest is (sym (ap (λ (w : List ℕ). w ∷ others) first) ∙ sym words ∙ same) in
-    let left = c.in_ok-left.ensures.every pair.left (words_of_line pair.right ++ (closing ∷ rest)) pair.left_is pair.are in
-    let right = c.in_ok-right.ensures.every pair.right (closing ∷ rest) pair.right_is left in
+    let left = c.in_ok-left.ensures.every pair.left (words_of_line pair.right ++ (close_parenthesis ∷ rest)) pair.left_is pair.are in
+    let right = c.in_ok-right.ensures.every pair.right (close_parenthesis ∷ rest) pair.right_is left in
     absurd (c.in_err-rest.ensures.every rest right)
 
 pub returns-clause-every : goal.returns-clause-every
 returns-clause-every t c = λ tree rest is same.
     let words = ap (λ (ws : List (Bor (List ℕ))). map (λ w. w.now) ws) c.in-Some.ensures.cases.0 in
     let others = map (λ w. w.now) c.in-Some.rest.now in
-    let first : c.in-Some.first.now.now ≡ opening = search (rules, c.if-ne.false, c.if-ne.ensures) in
+    let first : c.in-Some.first.now.now ≡ open_parenthesis = search (rules, c.if-ne.false, c.if-ne.ensures) in
     let pair = pair_after tree c.args.depth others rest is (sym (ap (λ (w : List ℕ). w ∷ others) first) ∙ sym words ∙ same) in
-    let left = c.in_ok-left.ensures.every pair.left (words_of_line pair.right ++ (closing ∷ rest)) pair.left_is pair.are in
-    let right = c.in_ok-right.ensures.every pair.right (closing ∷ rest) pair.right_is left in
+    let left = c.in_ok-left.ensures.every pair.left (words_of_line pair.right ++ (close_parenthesis ∷ rest)) pair.left_is pair.are in
+    let right = c.in_ok-right.ensures.every pair.right (close_parenthesis ∷ rest) pair.right_is left in
     c.in_ok-rest.ensures.every rest right
 
 pub returns-clause-found : goal.returns-clause-found
 returns-clause-found t c =
     let words = ap (λ (ws : List (Bor (List ℕ))). map (λ w. w.now) ws) c.in-Some.ensures.cases.0 in
     let others = map (λ w. w.now) c.in-Some.rest.now in
-    let first : c.in-Some.first.now.now ≡ opening = search (rules, c.if-ne.false, c.if-ne.ensures) in
+    let first : c.in-Some.first.now.now ≡ open_parenthesis = search (rules, c.if-ne.false, c.if-ne.ensures) in
     let found = pair_found c.args.depth c.in_ok-left.left c.in_ok-right.right c.in_ok-new.field-0.value c.in_ok-new-2.field-0.value
     others (map (λ w. w.now) c.in_ok-left.rest.now) (map (λ w. w.now) c.in_ok-right.rest.now) (map (λ w. w.now) c.in_ok-rest.rest.now)
     c.in_ok-new.ensures.ok c.in_ok-new-2.ensures.ok (omega (arith, c.if-depth-eq0.false)) c.in_ok-left.ensures.found c.in_ok-right.ensures.found c.in_ok-rest.ensures.found in

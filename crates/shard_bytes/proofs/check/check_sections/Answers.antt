@@ -10,7 +10,7 @@ use Rattle.xet_shards.specs.Export.Rewriting.{HasSections}
 use Rattle.xet_shards.specs.Write.Tables.{hash_in}
 use Rattle.shard_bytes.specs.declared.check.Section.TheVariants.{Files, Xorbs}
 use Rattle.shard_bytes.specs.Steps.Checking.{IsReport, IsUnreadable, AddsDisorder, BeginsWith}
-use Rattle.shard_bytes.proofs.Checking.{if_ok, reported}
+use Rattle.shard_bytes.proofs.Checking.{IfOk-weaker, reported}
 use Rattle.shard_bytes.proofs.Combining.{in_memory}
 use Rattle.shard_bytes.proofs.Reading.{files_unread, xorbs_unread, files, xorbs, both_read, file_hashes_are, xorb_hashes_are, files_begin, xorbs_begin}
 use Rattle.shard_bytes.proofs.check.check_sections.Goals as goal
@@ -19,7 +19,7 @@ use Rattle.shard_bytes.proofs.check.check_sections.Goals.{In-Ok-read_all_xorb_bl
 pub returns-in-Err-clause-report : goal.returns-in-Err-clause-report
 returns-in-Err-clause-report c =
     let e = c.in-Err.error in
-    if_ok c.unreadable.result (λ found. IsUnreadable Files e found.items) (λ found. IsReport c.args.bytes.now found.items)
+    IfOk-weaker c.unreadable.result (λ found. IsUnreadable Files e found.items) (λ found. IsReport c.args.bytes.now found.items)
     (λ found unreadable. files_unread c.args.bytes.now c.args.info.now (in_memory c.new-source.result) (in_memory c.read_file_info_ranges.new.source) e found.items c.requires c.new-source.ensures
     (λ failed. absurd (omega (arith, failed.0))) c.in-Err.ensures.read unreadable)
     c.unreadable.ensures.report
@@ -28,7 +28,7 @@ pub returns-in-Err-read_all_xorb_blocks-clause-report : goal.returns-in-Err-read
 returns-in-Err-read_all_xorb_blocks-clause-report c =
     let e = c.in-Err-read_all_xorb_blocks.error in
     let at = c.in_ok-xorbs_start.ensures in
-    if_ok c.unreadable-in-Err-read_all_xorb_blocks.result (λ found. IsUnreadable Xorbs e found.items) (λ found. IsReport c.args.bytes.now found.items)
+    IfOk-weaker c.unreadable-in-Err-read_all_xorb_blocks.result (λ found. IsUnreadable Xorbs e found.items) (λ found. IsReport c.args.bytes.now found.items)
     (λ found unreadable. xorbs_unread c.args.bytes.now (in_memory c.new-source.result) (in_memory c.read_file_info_ranges.new.source) (in_memory c.position.new.self) c.in-Ok.files.items
     c.in_ok-xorbs_start.xorbs_start c.new-source.ensures c.in-Ok.ensures.read at.0 at.1 c.args.info.now c.requires (in_memory c.read_all_xorb_blocks.new.source) e found.items
     (λ failed. absurd (omega (arith, failed.0))) c.in-Err-read_all_xorb_blocks.ensures.read unreadable)

@@ -3,7 +3,7 @@ use Rattle.xet_core_structures.specs.Layout.{layout_of, footer_value}
 use Rattle.xet_core_structures.specs.Source.{bytes_left}
 use Rattle.xet_shards.specs.Export.Rewriting.{HasSections}
 use Rattle.shard_bytes.specs.Steps.Checking.{Compares, AddsDifferences}
-use Rattle.shard_bytes.proofs.Checking.{on_ok}
+use Rattle.shard_bytes.proofs.Checking.{OnOk-weaker}
 use Rattle.shard_bytes.proofs.check.push_differences.Goals as goal
 
 pub returns-in-Ok-clause-added : goal.returns-in-Ok-clause-added
@@ -17,7 +17,7 @@ returns-in-Ok-clause-added c =
     let out = c.as_slice.ensures.value ∙ again.written ∙ ap (λ zs. zs ++ layout_of again.files again.xorbs c.of_info-options.result) c.new-written.ensures.items
     ∙ ap (layout_of again.files again.xorbs) c.of_info-options.ensures in
     let footer = again.footer_is ∙ ap (footer_value again.files again.xorbs) c.of_info-options.ensures in
-    on_ok c.compare.result (Compares bytes info c.as_slice.result.now c.in-Ok.footer old new) (AddsDifferences bytes info old new)
+    OnOk-weaker c.compare.result (Compares bytes info c.as_slice.result.now c.in-Ok.footer old new) (AddsDifferences bytes info old new)
     (λ compares. (
       again.files,
       again.xorbs,

@@ -1,5 +1,5 @@
 use Rattle.std.proofs.lemmas.Result.{err_from_is_err_and}
-use Rattle.xet_core_structures.proofs.Trees.InVersions.{early, if_written}
+use Rattle.xet_core_structures.proofs.Trees.InVersions.{refused_in_version, if_written}
 use Rattle.shard_bytes.specs.Combining.{IsResultOf, RefusalOf, CombinesBytes, CombiningRefusal}
 use Rattle.shard_bytes.specs.Sizes.{IsResultSize, sources_of}
 use Rattle.shard_bytes.proofs.Combining.{result_under}
@@ -14,7 +14,7 @@ pub returns-in_err-bytes-clause-combined : goal.returns-in_err-bytes-clause-comb
 returns-in_err-bytes-clause-combined c =
     let a = c.args in
     let p = err_from_is_err_and c.from_residual.result c.from_residual.ensures.1 in
-    rw (p.1, p.2) (early a.version (CombinesBytes (IsResultOf a.operation) a.first.now a.second.now) (CombiningRefusal (RefusalOf a.operation) a.first.now a.second.now) _ c.in_err-bytes.ensures.combined)
+    rw (p.1, p.2) (refused_in_version a.version (CombinesBytes (IsResultOf a.operation) a.first.now a.second.now) (CombiningRefusal (RefusalOf a.operation) a.first.now a.second.now) _ c.in_err-bytes.ensures.combined)
 
 pub returns-clause-combined : goal.returns-clause-combined
 returns-clause-combined c =

@@ -5,14 +5,14 @@ use Rattle.shard_bytes.specs.Completing.{Completes}
 use Rattle.shard_bytes.specs.Sizes.{IsRewriteSize}
 use Rattle.xet_shards.specs.Export.InARow.{options_under}
 use Rattle.shard_bytes.proofs.Combining.{in_memory}
-use Rattle.shard_bytes.proofs.Completing.{completed, not_completed, whole_holds, only_memory_lacks}
+use Rattle.shard_bytes.proofs.Completing.{completes, not_completed, whole_holds, only_memory_lacks}
 use Rattle.shard_bytes.proofs.RewriteSizes.{size_of_version}
 use Rattle.shard_bytes.proofs.complete.complete_bytes.Goals as goal
 
 pub returns-in-Ok-clause-completed : goal.returns-in-Ok-clause-completed
 returns-in-Ok-clause-completed c =
     let left : bytes_left (in_memory c.new-source.result) ≡ c.args.bytes.now = ap bytes_left c.new-source.ensures in
-    completed c.args.key c.args.bytes.now (in_memory c.new-source.result) left c.in_ok-whole.whole.items c.write_again.new.writer.items c.in-Ok.field-0 c.in_ok-whole.ensures.empty c.in-Ok.ensures
+    completes c.args.key c.args.bytes.now (in_memory c.new-source.result) left c.in_ok-whole.whole.items c.write_again.new.writer.items c.in-Ok.field-0 c.in_ok-whole.ensures.empty c.in-Ok.ensures
 
 pub returns-in-Ok-clause-of_shard : goal.returns-in-Ok-clause-of_shard
 returns-in-Ok-clause-of_shard c = λ s shard follows.

@@ -3,7 +3,7 @@ use Rattle.xet_core_structures.specs.Layout.{layout_of}
 use Rattle.xet_core_structures.specs.MinimalShard.{mark_starts, is_start, minimal_options}
 use Rattle.xet_core_structures.specs.Shard.{xorb_hash_of}
 use Rattle.shard_bytes.specs.Minimal.{Accepts, Keeps}
-use Rattle.shard_bytes.proofs.Keeping.{kept_so, both_so}
+use Rattle.shard_bytes.proofs.Keeping.{IsKept-wider, both_so}
 use Rattle.shard_bytes.specs.Sizes.{IsMinimalSize}
 use Rattle.shard_bytes.proofs.MinimalSizes.{size_of_subset}
 use Rattle.shard_bytes.proofs.minimal.subset_bytes.Goals as goal
@@ -17,7 +17,7 @@ returns-in-Ok-clause-subset c =
       m,
       written.kept,
       c.in_ok-shard.ensures,
-      kept_so _ (λ x accepted. IsTrue accepted ↔ Keeps subset.kept (xorb_hash_of x))
+      IsKept-wider _ (λ x accepted. IsTrue accepted ↔ Keeps subset.kept (xorb_hash_of x))
           (λ x accepted answer. both_so (subst (λ y. IsTrue accepted ↔ Accepts filter (xorb_hash_of y)) answer.shows answer.says.met) (c.in_ok-filter.ensures (xorb_hash_of x))) m.xorbs written.kept written.is_kept,
       written.written.appended ∙ ap (λ (zs : List ℕ). zs ++ layout_of [] (map (mark_starts (is_start m.files)) written.kept) (minimal_options subset.now subset.expiry)) c.new-written.ensures.items,
     )

@@ -2,7 +2,7 @@ use Rattle.std.proofs.Common.{inr, refl, take}
 use Rattle.xet_core_structures.specs.SectionReading.{files_of}
 use Rattle.shard_bytes.specs.RangeReads.{chunk_table_in, file_table_in}
 use Rattle.shard_bytes.proofs.CutOut.{fits_there}
-use Rattle.shard_bytes.proofs.RangeReads.{answer_of, collided, looked_up, queried}
+use Rattle.shard_bytes.proofs.RangeReads.{answer_of, collides_in_table, looked_up, query_answers}
 use Rattle.shard_bytes.proofs.Reading.{source_of}
 use Rattle.shard_bytes.proofs.WrittenParts.{file_found, run_found, xorb_found}
 use Rattle.shard_bytes.proofs.parts.parts_are_enough.Goals as goal
@@ -32,7 +32,7 @@ returns-clause-any_collision c = λ shard info hash table e small ends part refu
       after = source_of shard;
       bytes_are = refl;
       works = refl;
-      outcome = collided (files_of info) shard table f.file_info_offset f.file_lookup_offset f.file_lookup_num_entry hash part (fits_there (file_table_in f shard) table hash.word0 part small) e refused;
+      outcome = collides_in_table (files_of info) shard table f.file_info_offset f.file_lookup_offset f.file_lookup_num_entry hash part (fits_there (file_table_in f shard) table hash.word0 part small) e refused;
     })
 
 pub returns-clause-file : goal.returns-clause-file
@@ -49,7 +49,7 @@ returns-clause-any_query c = λ shard info q qs answer small ends parts. record 
   after = source_of shard;
   bytes_are = refl;
   works = refl;
-  outcome = queried shard info ends q qs answer parts (fits_there (chunk_table_in info.metadata shard) parts.table _ parts.has_rows small);
+  outcome = query_answers shard info ends q qs answer parts (fits_there (chunk_table_in info.metadata shard) parts.table _ parts.has_rows small);
 }
 
 pub returns-clause-query : goal.returns-clause-query

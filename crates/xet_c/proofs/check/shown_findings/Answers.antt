@@ -1,12 +1,12 @@
 use Rattle.std.proofs.Common.{◌≡◌, map, ap, ◌∙◌}
-use Rattle.shard_bytes.proofs.Checking.{if_ok}
+use Rattle.shard_bytes.proofs.Checking.{IfOk-weaker}
 use Rattle.xet_c.specs.Checking.{c_finding, ShowsFindings}
 use Rattle.xet_c.proofs.check.shown_findings.Goals as goal
 
 pub returns-clause-ok : goal.returns-clause-ok
 returns-clause-ok c =
     let checked = c.in_ok-findings.ensures in
-    if_ok c.shown.result (λ shown. shown.items ≡ map c_finding c.as_slice.result.now) (λ shown. ShowsFindings c.args.shard.now shown.items)
+    IfOk-weaker c.shown.result (λ shown. shown.items ≡ map c_finding c.as_slice.result.now) (λ shown. ShowsFindings c.args.shard.now shown.items)
     (λ shown is. record {
       findings = c.in_ok-findings.findings.items;
       each = checked.each;

@@ -1,13 +1,13 @@
 use Rattle.std.proofs.Common.{Bor, ℕ, List, map, arith}
 use Rattle.shard_bytes.specs.Sizes.{IsResultSize}
-use Rattle.xet_c.proofs.Outcomes.{filled, size_given}
+use Rattle.xet_c.proofs.Outcomes.{outcome_of_fill, size_given}
 use Rattle.xet_c.proofs.merge.xet_merge_in.Goals as goal
 
 pub returns-clause-any_bytes : goal.returns-clause-any_bytes
-returns-clause-any_bytes c = filled _ _ _ _ _ _ _ _ (omega arith) c.merge_in-filled.ensures.any_bytes c.answer.ensures
+returns-clause-any_bytes c = outcome_of_fill _ _ _ _ _ _ _ _ (omega arith) c.merge_in-filled.ensures.any_bytes c.answer.ensures
 
 pub returns-clause-one_byte_string : goal.returns-clause-one_byte_string
-returns-clause-one_byte_string c = λ all join have. filled _ _ _ _ _ _ _ _ (omega arith) (c.merge_in-filled.ensures.one_byte_string all join have) c.answer.ensures
+returns-clause-one_byte_string c = λ all join have. outcome_of_fill _ _ _ _ _ _ _ _ (omega arith) (c.merge_in-filled.ensures.one_byte_string all join have) c.answer.ensures
 
 pub returns-clause-size : goal.returns-clause-size
 returns-clause-size c =

@@ -1,14 +1,14 @@
 use Rattle.std.proofs.Common.{Bor, ℕ, List, map, arith}
 use Rattle.shard_bytes.specs.Sizes.{IsResultSize}
-use Rattle.xet_c.proofs.Outcomes.{filled, size_given}
+use Rattle.xet_c.proofs.Outcomes.{outcome_of_fill, size_given}
 use Rattle.xet_c.proofs.merge.xet_merge_range.Goals as goal
 
 pub returns-clause-range : goal.returns-clause-range
 returns-clause-range c = (
   c.range_of-asked.result,
   c.range_of-asked.ensures,
-  filled _ _ _ _ _ _ _ _ (omega arith) c.merge_range_bytes_into-filled.ensures.any_bytes c.answer.ensures,
-  λ key all join part have. filled _ _ _ _ _ _ _ _ (omega arith) (c.merge_range_bytes_into-filled.ensures.one_byte_string key all join part have) c.answer.ensures,
+  outcome_of_fill _ _ _ _ _ _ _ _ (omega arith) c.merge_range_bytes_into-filled.ensures.any_bytes c.answer.ensures,
+  λ key all join part have. outcome_of_fill _ _ _ _ _ _ _ _ (omega arith) (c.merge_range_bytes_into-filled.ensures.one_byte_string key all join part have) c.answer.ensures,
 )
 
 pub returns-clause-size : goal.returns-clause-size

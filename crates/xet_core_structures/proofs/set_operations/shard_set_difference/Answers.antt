@@ -1,7 +1,7 @@
 use Rattle.std.proofs.lemmas.Result.{err_from_is_err_and}
 use Rattle.xet_shards.specs.Content.SetOperations.{IsDifference}
 use Rattle.xet_core_structures.specs.TwoShards.ByteResults.{DifferenceRefusal}
-use Rattle.xet_core_structures.proofs.TwoShards.SetOperationSteps.{operated, operation_failed}
+use Rattle.xet_core_structures.proofs.TwoShards.SetOperationSteps.{operates, operation_failed}
 use Rattle.xet_core_structures.proofs.set_operations.shard_set_difference.Goals as goal
 
 pub returns-in_err-operate-clause-outcome : goal.returns-in_err-operate-clause-outcome
@@ -10,4 +10,4 @@ returns-in_err-operate-clause-outcome g c =
     rw p.1 (operation_failed IsDifference DifferenceRefusal _ _ _ _ c.in_err-operate.field-0.0 _ p.2 c.in_err-operate.ensures.outcome)
 
 pub returns-clause-outcome : goal.returns-clause-outcome
-returns-clause-outcome g c = operated IsDifference DifferenceRefusal _ _ _ _ c.in_ok-operate.field-0 c.in_ok-operate.ensures.outcome
+returns-clause-outcome g c = operates IsDifference DifferenceRefusal _ _ _ _ c.in_ok-operate.field-0 c.in_ok-operate.ensures.outcome

@@ -10,7 +10,7 @@ use types.Part.{agg}
 use denote.Builtin.{unit}
 use denote.Steps.{nothing}
 use denote.Triple.Walked.{walk_of, ends_at}
-use Rattle.xet_base.proofs.Ghost.{token, Mark, made, gives_last}
+use Rattle.xet_base.proofs.Ghost.{token, Mark, Mark-from_nothing, gives_last}
 use Rattle.std.proofs.raw_atomic.Walks.{proved}
 use Rattle.xet_base.specs.contracts.count.Count as R
 use Rattle.xet_base.specs.contracts.count.Count.new as f
@@ -28,5 +28,5 @@ new_spec 𝓤 𝓛 𝓜 𝓡 wired =
     sets ! (agg ! (no_more !)) refl (tt, tt) $ sets ! (agg ! (and_then ! (get ! refl) (no_more !))) refl (tt, (tt, tt)) $
     returns ! (look_at ! 0 refl) $ free_all ! refl $
     suffices ! _ (ends_at 𝓛 f.ended tt c y token (record { marker = record {}; value = 0 }) tt tt) $
-    nothing ! $ use0 𝓛 (‵ ((Mark (R.the_type).name [] unit).own_val (tt, tt) (token ∷ []))) (made (R.the_type).name [] unit 𝓛) $
+    nothing ! $ use0 𝓛 (‵ ((Mark (R.the_type).name [] unit).own_val (tt, tt) (token ∷ []))) (Mark-from_nothing (R.the_type).name [] unit 𝓛) $
     fjoin ! $ nothing ! $ join ! $ nothing ! $ join ! $ frame ! $ gives_last ! refl))

@@ -1,9 +1,9 @@
 use Rattle.std.proofs.Common.{◌+◌, ◌-◌, ◌*◌, ◌^◌, ◌≤◌, length, ◌∙◌, arith}
-use Rattle.xet_base.proofs.Blake3.{leaf, smaller, parts_are, doubled}
+use Rattle.xet_base.proofs.Blake3.{leaf_is_chunk, smaller, parts_are, pow-double}
 use Rattle.xet_base.proofs.keyed_hash.tree.+tree_words.Goals as goal
 
 pub returns-then-level-eq0 : goal.returns-then-level-eq0
-returns-then-level-eq0 t c = c.chunk_words.ensures ∙ leaf c.args.key.now c.args.level c.args.t c.args.top c.args.bytes.now c.if-level-eq0.true
+returns-then-level-eq0 t c = c.chunk_words.ensures ∙ leaf_is_chunk c.args.key.now c.args.level c.args.t c.args.top c.args.bytes.now c.if-level-eq0.true
 
 pub returns-then-bytes-size : goal.returns-then-bytes-size
 returns-then-bytes-size t c =
@@ -13,7 +13,7 @@ returns-then-bytes-size t c =
 pub tree_words-right-requires : goal.tree_words-right-requires
 tree_words-right-requires t c =
     let half = c.chunks_below-half.ensures.is in
-    let whole = doubled c.args.level (c.args.level - 1) (omega (arith, c.if-level-eq0.false)) in
+    let whole = pow-double c.args.level (c.args.level - 1) (omega (arith, c.if-level-eq0.false)) in
     let room : length c.split_at.result.1.now ≤ 1024 * 2 ^ (c.args.level - 1) = omega (arith, c.requires.room, whole, half, c.split_at.ensures.back_len) in
     let counter : 1024 * (c.args.t + c.chunks_below-half.result) + length c.split_at.result.1.now ≤ 2 ^ 64 = omega (arith, c.requires.counter, c.split_at.ensures.back_len) in
     (omega (arith, c.if-level-eq0.false, c.decreases), (omega arith, (room, (counter, omega arith))))

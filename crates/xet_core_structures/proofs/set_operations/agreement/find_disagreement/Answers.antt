@@ -9,8 +9,8 @@ use Rattle.xet_core_structures.proofs.Agreement.AgreeingInputs.{none_found}
 use Rattle.xet_core_structures.proofs.set_operations.agreement.find_disagreement.Goals as goal
 
 -- what stands for an item that a list does not have
-abbrev nothing : Disagreement
-nothing = record { record_hash = File (record { word0 = 0; word1 = 0; word2 = 0; word3 = 0 }); first = 0; second = 0 }
+abbrev absent_item : Disagreement
+absent_item = record { record_hash = File (record { word0 = 0; word1 = 0; word2 = 0; word3 = 0 }); first = 0; second = 0 }
 
 pub returns-then-is_empty : goal.returns-then-is_empty
 returns-then-is_empty c =
@@ -21,4 +21,4 @@ returns-then-is_empty c =
 pub returns : goal.returns
 returns c =
     let some : 0 < length c.as_slice-found.result.now = search rules in
-    c.in_ok-found.ensures.each _ (subst (λ l. Contains l (get_or c.as_slice-found.result.now 0 nothing)) c.as_slice-found.ensures.value (Contains-get_or c.as_slice-found.result.now 0 nothing some))
+    c.in_ok-found.ensures.each _ (subst (λ l. Contains l (get_or c.as_slice-found.result.now 0 absent_item)) c.as_slice-found.ensures.value (Contains-get_or c.as_slice-found.result.now 0 absent_item some))

@@ -2,7 +2,7 @@ use Rattle.std.proofs.Common.{ℕ, List, map}
 use Rattle.std.specs.Borrow.{Bor}
 use Rattle.std.proofs.lemmas.Result.{err_from_is_err_and}
 use Rattle.xet_core_structures.specs.Trees.RangeTrees.{RangeWrites, RangeRefusal}
-use Rattle.xet_core_structures.proofs.Trees.InVersions.{made_of_union, refused_of_union, early, if_written}
+use Rattle.xet_core_structures.proofs.Trees.InVersions.{made_of_union, refused_of_union, refused_in_version, if_written}
 use Rattle.xet_core_structures.proofs.Trees.Parts.{part_of_union}
 use Rattle.xet_core_structures.proofs.Trees.RangeTrees.{no_memory_after}
 use Rattle.xet_core_structures.proofs.set_operations.ranges.merge.Goals as goal
@@ -11,7 +11,7 @@ pub returns-in_err-part : goal.returns-in_err-part
 returns-in_err-part c =
     let inputs : List (List ℕ) = map (λ (x : Bor (List ℕ)). x.now) c.args.inputs.now in
     let p = err_from_is_err_and c.from_residual.result c.from_residual.ensures.1 in
-    rw (p.1, p.2) (early c.args.version (RangeWrites c.args.range.now inputs c.args.plan.now) (RangeRefusal c.args.range.now inputs c.args.plan.now) _ c.in_err-part.ensures)
+    rw (p.1, p.2) (refused_in_version c.args.version (RangeWrites c.args.range.now inputs c.args.plan.now) (RangeRefusal c.args.range.now inputs c.args.plan.now) _ c.in_err-part.ensures)
 
 pub part_bytes_in-requires : goal.part_bytes_in-requires
 part_bytes_in-requires c =

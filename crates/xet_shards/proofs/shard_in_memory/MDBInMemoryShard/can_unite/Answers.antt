@@ -11,11 +11,11 @@ use Rattle.xet_shards.proofs.Content.Overlays.{from_sorted-entries, can_join_uni
 use Rattle.xet_shards.proofs.shard_in_memory.MDBInMemoryShard.can_unite.Goals as goal
 
 -- for the shards as contracts see them, not their fields
-seen : (b : Bool) (s t u v : ShardWithLookup) → s ≡ u → t ≡ v → IsTrue b ↔ CanUnite s.content t.content → IsTrue b ↔ CanUnite u.content v.content
-seen b s t u v own other = subst (λ (p : ShardWithLookup × ShardWithLookup). IsTrue b ↔ CanUnite p.0.content p.1.content) (λ i. (own i, other i))
+as_contracts_see : (b : Bool) (s t u v : ShardWithLookup) → s ≡ u → t ≡ v → IsTrue b ↔ CanUnite s.content t.content → IsTrue b ↔ CanUnite u.content v.content
+as_contracts_see b s t u v own other = subst (λ (p : ShardWithLookup × ShardWithLookup). IsTrue b ↔ CanUnite p.0.content p.1.content) (λ i. (own i, other i))
 
 pub returns-in_default : goal.returns-in_default
-returns-in_default c = seen false _ _ _ _ c.self.view_is c.other.view_is (
+returns-in_default c = as_contracts_see false _ _ _ _ c.self.view_is c.other.view_is (
   λ wrong. absurd (true≢false (sym wrong)),
   λ can. absurd (c.in_default.ensures (subst (λ m. CanJoinFiles m c.other.inside.files) (sym (from_sorted-entries c.self.inside.files c.content.result.now.entries c.content.ensures.entries))
       (can_join_united (shard_inside c.self.inside).content (shard_inside c.other.inside).content can))),
@@ -31,7 +31,7 @@ pub returns-then-file_rows-from : goal.returns-then-file_rows-from
 returns-then-file_rows-from c =
     let own = (shard_inside c.self.inside).content in
     let others = (shard_inside c.other.inside).content in
-    seen _ _ _ _ _ c.self.view_is c.other.view_is (
+    as_contracts_see _ _ _ _ _ c.self.view_is c.other.view_is (
       λ few. unite_if_few own others _ _ _ _ c.content.ensures.entries c.content-2.ensures.entries c.in-Some.ensures.1 c.united_xorb_rows-xorb_rows.ensures
           (subst (λ m. CanJoinFiles m others.files) (from_sorted-entries c.self.inside.files c.content.result.now.entries c.content.ensures.entries) c.in-Some.ensures.0) (omega (arith, c.if-file_rows-from.true, c.from.ensures))
           (omega (arith, leb-true c.united_xorb_rows-xorb_rows.result _ few, c.from-then-file_rows-from.ensures)),
@@ -42,7 +42,7 @@ returns-then-file_rows-from c =
 
 pub returns-else-file_rows-from : goal.returns-else-file_rows-from
 returns-else-file_rows-from c =
-    seen _ _ _ _ _ c.self.view_is c.other.view_is (
+    as_contracts_see _ _ _ _ _ c.self.view_is c.other.view_is (
       λ few. absurd (omega (arith, leb-true c.in-Some.file_rows _ few, c.if-file_rows-from.false)),
       λ can.
           let few = few_if_unite (shard_inside c.self.inside).content (shard_inside c.other.inside).content _ _ _ _

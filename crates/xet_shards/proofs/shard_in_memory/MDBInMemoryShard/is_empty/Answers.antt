@@ -5,13 +5,13 @@ use Rattle.xet_records.specs.declared.file_structs.MDBFileInfo.{MDBFileInfo}
 use Rattle.xet_records.specs.declared.xorb_structs.MDBXorbInfo.{MDBXorbInfo}
 use Rattle.xet_shards.specs.ShardInMemory.ChunkLookup.{ShardWithLookup}
 use Rattle.xet_shards.specs.Content.Shard.{Shard}
-use Rattle.xet_shards.proofs.ShardInMemory.Xorbs.{length-shown}
+use Rattle.xet_shards.proofs.ShardInMemory.Xorbs.{length-shown_entry}
 use Rattle.xet_shards.proofs.shard_in_memory.MDBInMemoryShard.is_empty.Goals as goal
 
 pub returns-then-is_empty : goal.returns-then-is_empty
 returns-then-is_empty c =
     let files = ap length c.content.ensures.entries ∙ sym (len-entries c.self.inside.files) in
-    let xorbs = sym (length-shown c.content-then-is_empty.result.now.entries)
+    let xorbs = sym (length-shown_entry c.content-then-is_empty.result.now.entries)
     ∙ ap length c.content-then-is_empty.ensures.entries ∙ sym (len-entries c.self.inside.xorbs.xorbs) in (
       λ yes. ap (λ (s : ShardWithLookup). s.content) (sym c.self.view_is)
           ∙ (λ i. record {

@@ -11,7 +11,7 @@ use Rattle.xet_shards.specs.ShardInMemory.ChunkLookup.{ShardWithLookup}
 use Rattle.xet_shards.specs.Write.Layout.{layout}
 use Rattle.xet_shards.proofs.ShardInMemory.Files.{widths_of_values, length-le-rows}
 use Rattle.xet_shards.proofs.Write.XorbLayouts.{length-layout_of, xorb_rows-chunks}
-use Rattle.xet_shards.proofs.ShardInMemory.Xorbs.{length-shown}
+use Rattle.xet_shards.proofs.ShardInMemory.Xorbs.{length-shown_entry}
 use Rattle.xet_shards.proofs.shard_in_memory.MDBInMemoryShard.shard_file_size.Goals.{After-len-xorbs}
 use Rattle.xet_shards.proofs.shard_in_memory.MDBInMemoryShard.shard_file_size.Goals as goal
 
@@ -20,7 +20,7 @@ files_counted c = c.len-files.ensures.len ∙ ap length c.content.ensures.entrie
 
 xorbs_counted : (c : After-len-xorbs) → c.len-xorbs.result ≡ length (values c.self.inside.xorbs.xorbs)
 xorbs_counted c =
-    c.len-xorbs.ensures.len ∙ sym (length-shown c.content-2.result.now.entries) ∙ ap length c.content-2.ensures.entries
+    c.len-xorbs.ensures.len ∙ sym (length-shown_entry c.content-2.result.now.entries) ∙ ap length c.content-2.ensures.entries
     ∙ sym (length-map (entries c.self.inside.xorbs.xorbs) (λ (e : DataHash × MDBXorbInfo). e.1))
 
 pub overflow_sub-chunks : goal.overflow_sub-chunks

@@ -12,25 +12,25 @@ use Rattle.xet_shards.proofs.shard_in_memory.chunk_query.chunk_hash_dedup_query.
 use Rattle.xet_shards.proofs.shard_in_memory.chunk_query.chunk_hash_dedup_query.Goals as goal
 
 -- what is found in the fields is in the lookup as contracts see it
-kept : (c : In_ok-xorb) → get c.args.xorbs.now.locations c.in_ok-first.field-0.now ≡ Some (shown_location c.in_ok-xorb.field-0.now)
-kept c = sym (c.lookup.ensures.locations c.in_ok-first.field-0.now) ∙ ap (option_map shown_location) (sym c.in_ok-xorb.ensures.value)
+in_shown_lookup : (c : In_ok-xorb) → get c.args.xorbs.now.locations c.in_ok-first.field-0.now ≡ Some (shown_location c.in_ok-xorb.field-0.now)
+in_shown_lookup c = sym (c.lookup.ensures.locations c.in_ok-first.field-0.now) ∙ ap (option_map shown_location) (sym c.in_ok-xorb.ensures.value)
 
 pub run_at-requires-clause-well_formed : goal.run_at-requires-clause-well_formed
 run_at-requires-clause-well_formed c =
-    subst IsXorb (sym c.as_ref.ensures) (c.lookup.ensures.well_formed _ _ (kept (goal.at.run_at-requires-clause-well_formed c).In_ok-xorb))
+    subst IsXorb (sym c.as_ref.ensures) (c.lookup.ensures.well_formed _ _ (in_shown_lookup (goal.at.run_at-requires-clause-well_formed c).In_ok-xorb))
 
 pub run_at-requires-clause-within : goal.run_at-requires-clause-within
 run_at-requires-clause-within c =
     let found = c.in_ok-xorb.field-0.now in
     subst (λ (r : MDBXorbInfo). found.1 ≤ length r.chunks) (sym c.as_ref.ensures)
-    (location_within c.args.xorbs.now.xorbs c.args.xorbs.now.locations _ (shown_location found) c.lookup.ensures.lookup (kept (goal.at.run_at-requires-clause-within c).In_ok-xorb))
+    (location_within c.args.xorbs.now.xorbs c.args.xorbs.now.locations _ (shown_location found) c.lookup.ensures.lookup (in_shown_lookup (goal.at.run_at-requires-clause-within c).In_ok-xorb))
 
 pub returns-clause-answer : goal.returns-clause-answer
 returns-clause-answer c =
     let qs = c.args.query_hashes.now in
     let found = c.in_ok-xorb.field-0.now in
     ap Some (c.run_at.ensures ∙ ap (λ (r : MDBXorbInfo). run_at no_key (r, found.1) qs) c.as_ref.ensures)
-    ∙ answer_kept c.args.xorbs.now.locations qs c.in_ok-first.field-0.now (shown_location found) c.in_ok-first.ensures.value (kept (goal.at.returns-clause-answer c).In_ok-xorb)
+    ∙ answer_kept c.args.xorbs.now.locations qs c.in_ok-first.field-0.now (shown_location found) c.in_ok-first.ensures.value (in_shown_lookup (goal.at.returns-clause-answer c).In_ok-xorb)
 
 pub returns-in_err-xorb-clause-none : goal.returns-in_err-xorb-clause-none
 returns-in_err-xorb-clause-none c =
@@ -42,5 +42,5 @@ returns-in_err-xorb-clause-none c =
 pub returns-clause-none : goal.returns-clause-none
 returns-clause-none c = (
   λ none. absurd (none-some _ (sym none)),
-  λ unknown. absurd (unknown _ _ (sym c.in_ok-first.ensures.value) (c.lookup.ensures.lookup.present _ _ (kept (goal.at.returns-clause-none c).In_ok-xorb))),
+  λ unknown. absurd (unknown _ _ (sym c.in_ok-first.ensures.value) (c.lookup.ensures.lookup.present _ _ (in_shown_lookup (goal.at.returns-clause-none c).In_ok-xorb))),
 )

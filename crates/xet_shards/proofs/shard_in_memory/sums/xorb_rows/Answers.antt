@@ -4,7 +4,7 @@ use Rattle.xet_records.specs.declared.xorb_structs.MDBXorbInfo.{MDBXorbInfo}
 use Rattle.xet_records.specs.XorbRecord.{xorb_records, xorb_row_count, IsXorb}
 use Rattle.xet_shards.specs.Write.Section.{total_rows}
 use Rattle.xet_shards.proofs.ShardInMemory.Walks.{entry_holds, sum-middle}
-use Rattle.xet_shards.proofs.ShardInMemory.Xorbs.{owned, seen, seen_turn, xorb_values}
+use Rattle.xet_shards.proofs.ShardInMemory.Xorbs.{owned_xorbs, seen_xorbs, seen_turn, xorb_values}
 use Rattle.xet_shards.proofs.shard_in_memory.sums.xorb_rows.Goals as goal
 
 pub overflow_add-rows : goal.overflow_add-rows
@@ -20,6 +20,6 @@ overflow_add-rows-in-loop-xorb c =
     Fits-of_lt (omega (
       arith,
       ap (λ rs. total_rows xorb_records rs) whole,
-      sum-middle xorb_row_count (seen c.loop-xorb.yielded) (owned c.next.new.self) xorb,
+      sum-middle xorb_row_count (seen_xorbs c.loop-xorb.yielded) (owned_xorbs c.next.new.self) xorb,
       ap (λ (r : MDBXorbInfo). length r.chunks) c.deref.ensures,
     ))

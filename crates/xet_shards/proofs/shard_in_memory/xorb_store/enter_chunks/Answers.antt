@@ -11,7 +11,7 @@ use Rattle.xet_records.specs.declared.xorb_structs.MDBXorbInfo.{MDBXorbInfo}
 use Rattle.xet_shards.specs.ShardInMemory.XorbStore.{shown_location, location_in}
 use Rattle.xet_shards.proofs.Write.ChunkTableRows.{no_chunk}
 use Rattle.xet_shards.proofs.ShardInMemory.Walks.{All-middle}
-use Rattle.xet_shards.proofs.ShardInMemory.ChunkLookups.{All-front, entered-more, cond-shown}
+use Rattle.xet_shards.proofs.ShardInMemory.ChunkLookups.{All-front, entered-more, cond-shown_entry}
 use Rattle.xet_shards.proofs.shard_in_memory.xorb_store.enter_chunks.Goals as goal
 
 pub loop-chunk-preserved : goal.loop-chunk-preserved
@@ -34,6 +34,6 @@ loop-chunk-preserved c =
       owners = All-front (λ (o : Rc MDBXorbInfo Global). o.value ≡ c.args.xorb.now) left (owner ∷ []) all;
       entered = entered-more _ (location_in c.loop-chunk.lookup) (location_in c.insert-inserted.new.self) c.args.xorb.now c.loop-chunk.chunk-index _ chunk
           (λ q. ap (option_map shown_location) (updates q)
-          ∙ cond-shown shown_location (hash_eq _ q) (owner, c.loop-chunk.index) (c.args.xorb.now, c.loop-chunk.chunk-index) (hash_map.get hash_eq c.loop-chunk.lookup q) (λ i. (own i, before.index i)))
+          ∙ cond-shown_entry shown_location (hash_eq _ q) (owner, c.loop-chunk.index) (c.args.xorb.now, c.loop-chunk.chunk-index) (hash_map.get hash_eq c.loop-chunk.lookup q) (λ i. (own i, before.index i)))
           before.entered;
     }

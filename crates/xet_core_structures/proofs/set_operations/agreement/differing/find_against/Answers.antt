@@ -1,7 +1,7 @@
 use Rattle.std.proofs.Common.{◌≡◌, inl, inr, ◌<◌, ◌≤◌, length, false, rules, refl, sym, ap, ◌∙◌, subst, arith, true≢false}
 use Rattle.std.specs.Prelude.{slice_get}
 use Rattle.std.proofs.lemmas.Option.{same_Some, slice_get_read, slice_get_within}
-use Rattle.xet_core_structures.proofs.Records.Items.{has_at, at_of, below_or_at}
+use Rattle.xet_core_structures.proofs.Records.Items.{has_at, place_of_item, below_or_at}
 use Rattle.xet_core_structures.proofs.set_operations.agreement.differing.find_against.Goals as goal
 
 pub returns-then-not-are_agreed : goal.returns-then-not-are_agreed
@@ -24,5 +24,5 @@ loop-one-preserved g c = λ i k low k_at.
 pub returns : goal.returns
 returns g c = λ k has.
     let past : length c.args.kept.now ≤ c.loop-one.one-index = search rules in
-    let at = at_of c.args.kept.now k has in
+    let at = place_of_item c.args.kept.now k has in
     c.loop-one.invariant at.0 k (omega (arith, past, slice_get_within c.args.kept.now at.0 k at.1)) at.1

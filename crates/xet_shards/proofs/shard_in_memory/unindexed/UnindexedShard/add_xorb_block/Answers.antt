@@ -12,9 +12,9 @@ use Rattle.xet_shards.proofs.Content.Maps.{from_sorted-insert_entry, sorted-inse
 use Rattle.xet_shards.proofs.shard_in_memory.unindexed.UnindexedShard.add_xorb_block.Goals as goal
 
 -- the xorbs after the insertion
-inserted : (es fs : List (DataHash × MDBXorbInfo)) (m : XorbMap) (xorb : MDBXorbInfo) → T (is_sorted hash_cmp es) → fs ≡ insert_entry hash_cmp es (xorb_hash_of xorb) xorb → from_sorted es ≡ m
+xorbs_after_insertion : (es fs : List (DataHash × MDBXorbInfo)) (m : XorbMap) (xorb : MDBXorbInfo) → T (is_sorted hash_cmp es) → fs ≡ insert_entry hash_cmp es (xorb_hash_of xorb) xorb → from_sorted es ≡ m
     → from_sorted fs ≡ insert m (xorb_hash_of xorb) xorb
-inserted es fs m xorb sorted put seen =
+xorbs_after_insertion es fs m xorb sorted put seen =
     let k = xorb_hash_of xorb in
     ap (from_sorted {R = hash_cmp}) put ∙ from_sorted-insert_entry hash_cmp-IsTotalOrder hash_cmp-IsAntisymmetric es k xorb sorted ∙ ap (λ n. insert n k xorb) seen
 
@@ -26,7 +26,7 @@ invariant_of-self-2 c =
     let before = c.self.invariant in
     let well : IsXorb xorb = c.is_well_formed.ensures.0 c.if-not-is_well_formed.false in
     let after = sym c.in_ok-insert.ensures.entries in
-    let put = inserted es _ _ xorb before.sorted c.in_ok-insert.ensures.entries (ap (λ (s : Shard). s.xorbs) c.self.view_is) in
+    let put = xorbs_after_insertion es _ _ xorb before.sorted c.in_ok-insert.ensures.entries (ap (λ (s : Shard). s.xorbs) c.self.view_is) in
     record {
       sorted = subst (λ fs. T (is_sorted hash_cmp fs)) after (sorted-insert_entry hash_cmp-IsTotalOrder hash_cmp-IsAntisymmetric es k xorb before.sorted);
       xorbs = subst AreXorbs after record {
@@ -40,5 +40,5 @@ invariant_of-self-2 c =
 pub returns-clause-ok : goal.returns-clause-ok
 returns-clause-ok c =
     let files = ap (λ (s : Shard). s.files) c.self.view_is in
-    let xorbs = inserted c.self.inside.xorbs.entries _ _ c.args.xorb_block c.self.invariant.sorted c.in_ok-insert.ensures.entries (ap (λ (s : Shard). s.xorbs) c.self.view_is) in
+    let xorbs = xorbs_after_insertion c.self.inside.xorbs.entries _ _ c.args.xorb_block c.self.invariant.sorted c.in_ok-insert.ensures.entries (ap (λ (s : Shard). s.xorbs) c.self.view_is) in
     λ i. record { files = files i; xorbs = xorbs i }

@@ -5,7 +5,7 @@ use Rattle.std.specs.declared.rc.Rc.{Rc}
 use Rattle.std.specs.FinMap.{get, from_sorted, is_sorted, insert}
 use Rattle.xet_base.specs.declared.merklehash.DataHash.{DataHash}
 use Rattle.xet_base.specs.Hash.{hash_cmp}
-use Rattle.xet_base.proofs.HashMaps.{insert-shown, same-shown}
+use Rattle.xet_base.proofs.HashMaps.{insert-shown_entry, same-shown_entry}
 use Rattle.xet_base.proofs.HashOrder.{hash_cmp-IsTotalOrder, hash_cmp-IsAntisymmetric}
 use Rattle.xet_records.specs.declared.xorb_structs.MDBXorbInfo.{MDBXorbInfo}
 use Rattle.xet_records.specs.XorbRecord.{IsXorb}
@@ -38,7 +38,7 @@ invariant_of-self-in_err-insert c =
 pub returns-in_err-insert-clause-err : goal.returns-in_err-insert-clause-err
 returns-in_err-insert-clause-err c =
     let xorbs = ap (λ (es : List (DataHash × Rc MDBXorbInfo Global)). from_sorted {R = hash_cmp} (shown_xorbs es)) c.in_err-insert.ensures.err in
-    let locations = same-shown shown_location c.reserve.new.self.entries c.self.inside.lookup.entries c.reserve.ensures.entries.2 in
+    let locations = same-shown_entry shown_location c.reserve.new.self.entries c.self.inside.lookup.entries c.reserve.ensures.entries.2 in
     on_err _ ((λ i. record { xorbs = xorbs i; locations = locations i }) ∙ c.self.view_is)
 
 -- the view of the store after the xorb is inserted
@@ -47,7 +47,7 @@ invariant_of-self-2 c =
     let r = c.args.xorb.value in
     let es = c.self.inside.content.entries in
     let before = c.self.invariant in
-    let shown = ap shown_xorbs c.in_ok-insert.ensures.entries ∙ insert-shown (λ (o : Rc MDBXorbInfo Global). o.value) _ c.in_ok-owner.owner es
+    let shown = ap shown_xorbs c.in_ok-insert.ensures.entries ∙ insert-shown_entry (λ (o : Rc MDBXorbInfo Global). o.value) _ c.in_ok-owner.owner es
     ∙ (λ i. insert_entry hash_cmp (shown_xorbs es) (xorb_hash_of (c.deref.ensures i)) (c.in_ok-owner.ensures.cases i)) in
     let entered = entered-from (location_in c.reserve.new.self) (location_in c.self.inside.lookup) (location_in c.enter_chunks.new.lookup) r (length r.chunks)
     (λ q. ap (option_map shown_location) (c.reserve.ensures.entries.2 q))
@@ -69,7 +69,7 @@ pub returns-clause-ok : goal.returns-clause-ok
 returns-clause-ok c =
     let r = c.args.xorb.value in
     let es = c.self.inside.content.entries in
-    let shown = ap shown_xorbs c.in_ok-insert.ensures.entries ∙ insert-shown (λ (o : Rc MDBXorbInfo Global). o.value) _ c.in_ok-owner.owner es
+    let shown = ap shown_xorbs c.in_ok-insert.ensures.entries ∙ insert-shown_entry (λ (o : Rc MDBXorbInfo Global). o.value) _ c.in_ok-owner.owner es
     ∙ (λ i. insert_entry hash_cmp (shown_xorbs es) (xorb_hash_of (c.deref.ensures i)) (c.in_ok-owner.ensures.cases i)) in
     ap (from_sorted {R = hash_cmp}) shown
     ∙ from_sorted-insert_entry hash_cmp-IsTotalOrder hash_cmp-IsAntisymmetric (shown_xorbs es) (xorb_hash_of r) r c.self.invariant.sorted
