@@ -116,12 +116,12 @@ pub fn check_bytes(alloc: Global, bytes: &[u8]) -> Result<Vec<Finding>>
 {
     match load_bytes(alloc, bytes) {
         Ok(info) => check_sections(alloc, bytes, &info),
-        Err(error) => only(alloc, unloaded(bytes, error)),
+        Err(error) => only(alloc, load_finding(bytes, error)),
     }
 }
 
 // The finding of bytes of which header and footer cannot be read, by the error of reading them.
-fn unloaded(bytes: &[u8], error: CoreError) -> Finding
+fn load_finding(bytes: &[u8], error: CoreError) -> Finding
     requires { LoadRefusal bytes.now error }
     ensures { IsUnloaded bytes.now result }
 {

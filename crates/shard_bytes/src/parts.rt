@@ -75,7 +75,7 @@ fn search_starts(alloc: Global, table: &[u8], word: u64, rows: &mut [u32; 8]) ->
         (RefusesRows table.now word) }
 {
     let mut info = MDBShardInfo::default();
-    info.metadata.file_lookup_num_entry = rows_in(table, START_ROW_SIZE)?;
+    info.metadata.file_lookup_num_entry = row_count_of(table, START_ROW_SIZE)?;
     let mut source = MemorySource::new(table);
     info.get_file_info_index_by_hash(alloc, &mut source, &hash_with_word(word), rows)
 }
@@ -113,13 +113,13 @@ fn search_chunks(
         (RefusesPlaces table.now) }
 {
     let mut info = MDBShardInfo::default();
-    info.metadata.chunk_lookup_num_entry = rows_in(table, CHUNK_ROW_SIZE)?;
+    info.metadata.chunk_lookup_num_entry = row_count_of(table, CHUNK_ROW_SIZE)?;
     let mut source = MemorySource::new(table);
     info.get_xorb_info_index_by_chunk(alloc, &mut source, &hash_with_word(word), places)
 }
 
 // The number of rows of a table, each of `row_size` bytes. `InvalidArguments` if the last is cut.
-fn rows_in(table: &[u8], row_size: u64) -> Result<u64>
+fn row_count_of(table: &[u8], row_size: u64) -> Result<u64>
     requires { 0 < row_size }
     ensures { MatchResult result
         (λ rows. (length table.now % row_size ≡ 0) × (rows ≡ length table.now / row_size)

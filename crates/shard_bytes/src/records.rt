@@ -50,7 +50,7 @@ pub fn write_records(
     let mut shard = UnindexedShard::new(alloc);
     add_files(alloc, &mut shard, files)?;
     add_xorbs(&mut shard, xorbs)?;
-    bytes_of(alloc, &shard, version, expiry)
+    write_layout(alloc, &shard, version, expiry)
 }
 
 // Adds files to a shard in memory, one after another.
@@ -76,7 +76,7 @@ fn add_xorbs(shard: &mut UnindexedShard, xorbs: Vec<MDBXorbInfo>) -> Result<()>
 }
 
 // The bytes of a shard in memory.
-fn bytes_of(
+fn write_layout(
     alloc: Global,
     shard: &UnindexedShard,
     version: FormatVersion,

@@ -7,7 +7,7 @@ use script_lines::words::parse_u64;
 use shard_bytes::check::check_bytes;
 use std::alloc::Global;
 use xet_core_structures::set_operations::{
-    MergePlan, Merged, find_disagreement, find_disagreements, find_malformed, merge_agreeing,
+    MergeOutcome, MergePlan, find_disagreement, find_disagreements, find_malformed, merge_agreeing,
     shard_union_tree,
 };
 
@@ -43,9 +43,9 @@ impl Probe {
         let tree = parse_tree(self.alloc, tree)?;
         let merged = merge_agreeing(self.alloc, &tree, self.buffers(names)?.as_slice())?;
         match merged {
-            Merged::Bytes(bytes) => self.put_buffer(name, bytes),
-            Merged::Disagreement(found) => Ok(show_line(&found, out)?),
-            Merged::Malformed(found) => Ok(show_line(&found, out)?),
+            MergeOutcome::Bytes(bytes) => self.put_buffer(name, bytes),
+            MergeOutcome::Disagreement(found) => Ok(show_line(&found, out)?),
+            MergeOutcome::Malformed(found) => Ok(show_line(&found, out)?),
         }
     }
 

@@ -97,7 +97,7 @@ fn round(state: Rows, words: Words) -> (Rows, Words)
 {
     let state = mix_columns(state, &words);
     let state = mix_diagonals(state, &words);
-    (state, permuted(&words))
+    (state, permute(&words))
 }
 
 #[inline(always)]
@@ -118,13 +118,13 @@ fn mix_diagonals(state: Rows, m: &Words) -> Rows
     let (a, b, c, d) = state;
     let x = u32x4::from_array([m[8], m[10], m[12], m[14]]);
     let y = u32x4::from_array([m[9], m[11], m[13], m[15]]);
-    let b_diagonal = turned(b);
+    let b_diagonal = rotate_lanes(b);
     let c_diagonal = turned_twice(c);
     let d_diagonal = turned_back(d);
     let (a, b, c, d) = mix(a, b_diagonal, c_diagonal, d_diagonal, x, y);
     let b_row = turned_back(b);
     let c_row = turned_twice(c);
-    let d_row = turned(d);
+    let d_row = rotate_lanes(d);
     (a, b_row, c_row, d_row)
 }
 
@@ -168,7 +168,7 @@ fn xor_rotate(a: u32x4, b: u32x4, k: u32) -> u32x4
 
 // The lanes, each one place to the left.
 #[inline(always)]
-fn turned(v: u32x4) -> u32x4
+fn rotate_lanes(v: u32x4) -> u32x4
     ensures { result ≡ slice_index v 1 ∷ slice_index v 2 ∷ slice_index v 3 ∷ slice_index v 0 ∷ [] }
 {
     let [v0, v1, v2, v3] = v.to_array();
@@ -209,7 +209,7 @@ fn words_in(state: Rows) -> Words
 // The message for the next round.
 #[inline(always)]
 #[tactic(auto, unfolding(crate::specs::KeyedHash::next_message))]
-fn permuted(m: &Words) -> Words
+fn permute(m: &Words) -> Words
     ensures { result ≡ next_message m.now }
 {
     [

@@ -240,7 +240,7 @@ fn show_malformed(one: &Option<MalformedRecord>, malformed: &mut bool, found: &m
 fn disagreement_of(disagreement: &Disagreement) -> XetDisagreement
     ensures { result ≡ c_disagreement disagreement.now }
 {
-    shown(
+    to_c_disagreement(
         disagreement.record_hash,
         disagreement.first,
         disagreement.second,
@@ -250,10 +250,10 @@ fn disagreement_of(disagreement: &Disagreement) -> XetDisagreement
 fn malformed_of(malformed: &MalformedRecord) -> XetDisagreement
     ensures { result ≡ c_malformed malformed.now }
 {
-    shown(malformed.record_hash, malformed.input, malformed.input)
+    to_c_disagreement(malformed.record_hash, malformed.input, malformed.input)
 }
 
-fn shown(record_hash: RecordHash, first: usize, second: usize) -> XetDisagreement
+fn to_c_disagreement(record_hash: RecordHash, first: usize, second: usize) -> XetDisagreement
     ensures { result ≡ c_record record_hash first second }
 {
     let (hash, is_xorb) = match record_hash {

@@ -49,10 +49,10 @@ fn shown_findings(alloc: Global, shard: &[u8]) -> Result<Vec<XetFinding>>
     ensures causes { IfErr result (λ e. e ≡ CoreError.OutOfMemory) }
 {
     let findings = check_bytes(alloc, shard)?;
-    shown(alloc, findings.as_slice())
+    to_c_findings(alloc, findings.as_slice())
 }
 
-fn shown(alloc: Global, findings: &[Finding]) -> Result<Vec<XetFinding>>
+fn to_c_findings(alloc: Global, findings: &[Finding]) -> Result<Vec<XetFinding>>
     ensures ok { IfOk result (λ shown. shown.items ≡ map c_finding findings.now) }
     ensures causes { IfErr result (λ e. e ≡ CoreError.OutOfMemory) }
 {
@@ -67,25 +67,25 @@ fn finding_of(finding: Finding) -> XetFinding
     ensures { result ≡ c_finding finding }
 {
     match finding {
-        Finding::Unsupported(Format::NoTag) => numbered(1, 1, 0),
-        Finding::Unsupported(Format::OtherVersion(version)) => numbered(2, 1, version),
-        Finding::Unsupported(Format::NoFooter) => numbered(3, 7, 0),
-        Finding::TooShort => numbered(4, 0, 0),
-        Finding::Cut(section) => numbered(5, number_of_section(section), 0),
-        Finding::Refused(section) => numbered(6, number_of_section(section), 0),
+        Finding::Unsupported(Format::NoTag) => to_c_finding(1, 1, 0),
+        Finding::Unsupported(Format::OtherVersion(version)) => to_c_finding(2, 1, version),
+        Finding::Unsupported(Format::NoFooter) => to_c_finding(3, 7, 0),
+        Finding::TooShort => to_c_finding(4, 0, 0),
+        Finding::Cut(section) => to_c_finding(5, number_of_section(section), 0),
+        Finding::Refused(section) => to_c_finding(6, number_of_section(section), 0),
         Finding::OutOfOrder(section, index) => {
-            numbered(7, number_of_section(section), index as u64)
+            to_c_finding(7, number_of_section(section), index as u64)
         }
-        Finding::Differs(part) => numbered(8, number_of_part(part), 0),
-        Finding::Size(size) => numbered(9, 0, size as u64),
+        Finding::Differs(part) => to_c_finding(8, number_of_part(part), 0),
+        Finding::Size(size) => to_c_finding(9, 0, size as u64),
         Finding::Malformed(section, index) => {
-            numbered(10, number_of_section(section), index as u64)
+            to_c_finding(10, number_of_section(section), index as u64)
         }
-        Finding::Reordered => numbered(11, 6, 0),
+        Finding::Reordered => to_c_finding(11, 6, 0),
     }
 }
 
-fn numbered(kind: u32, part: u32, number: u64) -> XetFinding
+fn to_c_finding(kind: u32, part: u32, number: u64) -> XetFinding
     ensures { result ≡ record { kind = kind; part = part; number = number } }
 {
     XetFinding { kind, part, number }

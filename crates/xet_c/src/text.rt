@@ -28,7 +28,7 @@ pub extern "C" fn xet_hash_to_hex(
         out.new written.new result }
 {
     let text = MerkleHash::from(hash.words).hex(alloc);
-    deliver(bytes_of(text), out, written)
+    deliver(text_bytes(text), out, written)
 }
 
 /// Reads a hash from its 64 hexadecimal digits, of either case. The error of any other text is that
@@ -59,7 +59,7 @@ pub extern "C" fn xet_shard_name(
         out.new written.new result }
 {
     let name = shard_file_name(alloc, &MerkleHash::from(hash.words));
-    deliver(bytes_of(name), out, written)
+    deliver(text_bytes(name), out, written)
 }
 
 /// Reads the hash in the name of a shard file: 64 hexadecimal digits of either case, and `.mdb`.
@@ -78,7 +78,7 @@ pub extern "C" fn xet_parse_shard_name(name: &[u8], hash: &mut XetHash) -> u32
     }
 }
 
-fn bytes_of(text: Result<String>) -> Result<Vec<u8>>
+fn text_bytes(text: Result<String>) -> Result<Vec<u8>>
     ensures { MatchResult text
         (λ text. IsOkAnd result (λ bytes. bytes.items ≡ string_bytes text))
         (λ e. IsErrAnd result (λ f. f ≡ e)) }

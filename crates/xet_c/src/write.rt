@@ -45,7 +45,7 @@ pub extern "C" fn xet_write(
         (RefusesListed files.now segments.now xorbs.now chunks.now V3) out.old out.new
         written.new result }
 {
-    let bytes = bytes_of(
+    let bytes = layout_of_lists(
         alloc,
         files,
         segments,
@@ -94,12 +94,12 @@ fn bytes_in(
         (NotInNumber version (RefusesListed files.now segments.now xorbs.now chunks.now)) }
 {
     match FormatVersion::of_number(version) {
-        Some(version) => bytes_of(alloc, files, segments, xorbs, chunks, version, expiry),
+        Some(version) => layout_of_lists(alloc, files, segments, xorbs, chunks, version, expiry),
         None => Err(CoreError::InvalidArguments),
     }
 }
 
-fn bytes_of(
+fn layout_of_lists(
     alloc: Global,
     files: &[XetListedFile],
     segments: &[XetFileSegment],

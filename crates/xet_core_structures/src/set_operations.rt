@@ -16,7 +16,7 @@ mod trees;
 mod two_shards;
 
 pub use agreement::{
-    AgreeingFill, AgreeingMerge, Disagreement, MalformedRecord, Merged, RecordHash,
+    AgreeingFill, AgreeingMerge, Disagreement, MalformedRecord, MergeOutcome, RecordHash,
     find_disagreement, find_disagreements, find_malformed, merge_agreeing, merge_or_disagreements,
     merge_or_disagreements_into,
 };

@@ -256,7 +256,7 @@ impl SectionRecord for MDBFileInfo {
 
     type Header = FileDataSequenceHeader;
 
-    type Kept = Option<FileMetadataExt>;
+    type SkipValue = Option<FileMetadataExt>;
 
     ghost kind = { file_records };
 

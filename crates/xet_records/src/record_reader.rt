@@ -80,11 +80,11 @@ pub trait SectionRecord {
     type Header: Row;
 
     /// What reading past a record keeps of the rows after its header.
-    type Kept: Copy;
+    type SkipValue: Copy;
 
     ghost kind: { RecordKind Self.Header Self };
 
-    ghost kept: { Self → Self.Kept };
+    ghost kept: { Self → Self.SkipValue };
 
     /// The hash of the file or xorb.
     fn hash(header: &Self::Header) -> MerkleHash
@@ -118,7 +118,7 @@ pub trait SectionRecord {
     fn skip_rows_after<M, I: ByteInput<M>>(
         input: &mut I,
         header: Self::Header,
-    ) -> Result<Self::Kept>
+    ) -> Result<Self::SkipValue>
         ensures { MatchResult result
             (λ value. (skipped : Self) × (kept skipped ≡ value)
             × ReadsRowsAfter kind header (I.reads input.old input.new) skipped)
@@ -148,7 +148,7 @@ pub fn read_header<R: SectionRecord, M, I: ByteInput<M>>(
         rows_left.new)
         (NextRecordNotRead (in_version R.kind version) I.reads I.fails rows_left.old input.old input.new) }
 {
-    let header: R::Header = row_reader::read_row(input)?;
+    let header: R::Header = row_reader::read_input_row(input)?;
     if R::is_bookend(&header) {
         return Ok(None);
     }

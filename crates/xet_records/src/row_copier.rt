@@ -60,24 +60,24 @@ pub fn copy_row<T: Row, M, I: ByteInput<M>, W: Write>(
         (W.contents writer.old) (W.contents writer.new))
         (CopyFails I.reads I.fails input.old input.new 48) }
 {
-    let row = read_row::<T, M, I>(input)?;
-    write_row(&row, writer)?;
+    let row = read_row_to_copy::<T, M, I>(input)?;
+    write_copied_row(&row, writer)?;
     Ok(row)
 }
 
 // Reads a row, with the error of reading rows.
 #[inline(always)]
-fn read_row<T: Row, M, I: ByteInput<M>>(input: &mut I) -> Result<T>
+fn read_row_to_copy<T: Row, M, I: ByteInput<M>>(input: &mut I) -> Result<T>
     ensures { MatchResult result
         (ReadsRow T.row_bytes T.Fits T.as_read (I.reads input.old input.new))
         (I.fails input.old input.new 48) }
 {
-    Ok(row_reader::read_row::<T, M, I>(input)?)
+    Ok(row_reader::read_input_row::<T, M, I>(input)?)
 }
 
 /// Writes a row. The failure is the output's.
 #[inline(always)]
-pub fn write_row<T: Row, W: Write>(row: &T, writer: &mut W) -> CopyResult<()>
+pub fn write_copied_row<T: Row, W: Write>(row: &T, writer: &mut W) -> CopyResult<()>
     ensures appended { OnOk result
         (Appends (W.contents writer.old) (W.contents writer.new) (T.row_bytes row.now)) }
     ensures causes { IfErr result IsOutputFailure }

@@ -11,7 +11,7 @@ use xet_base::input::ByteInput;
 
 /// Reads a row. `UnexpectedEof` if fewer than 48 bytes are left.
 #[inline(always)]
-pub fn read_row<T: Row, M, I: ByteInput<M>>(input: &mut I) -> io::Result<T>
+pub fn read_input_row<T: Row, M, I: ByteInput<M>>(input: &mut I) -> io::Result<T>
     ensures { MatchResult result
         (ReadsRow T.row_bytes T.Fits T.as_read (I.reads input.old input.new))
         (I.fill_fails input.old input.new 48) }
@@ -33,7 +33,7 @@ pub fn read_rows<T: Row + Drop, M, I: ByteInput<M>>(
 {
     let mut rows = Rows::with_capacity(alloc, count.min(ROWS_AT_ONCE) as usize)?;
     for _row in 0..count {
-        rows.push(read_row(input)?)?;
+        rows.push(read_input_row(input)?)?;
     }
     Ok(rows)
 }
@@ -60,7 +60,7 @@ pub fn read_optional<T: Row, M, I: ByteInput<M>>(
     ensures touched { IfErr result (λ _. IsTrue wanted) }
 {
     if wanted {
-        Ok(Some(read_row(input)?))
+        Ok(Some(read_input_row(input)?))
     } else {
         Ok(None)
     }

@@ -232,7 +232,7 @@ pub fn read_row<T: Row, R: Read>(reader: &mut R) -> io::Result<T>
     ensures end { IfErr result
         (ReaderLacks (R.remaining reader.old) 48) }
 {
-    row_reader::read_row::<T, OfReader, R>(reader)
+    row_reader::read_input_row::<T, OfReader, R>(reader)
 }
 
 /// Reads `count` rows. `UnexpectedEof` if fewer are left. May fail with `OutOfMemory`.

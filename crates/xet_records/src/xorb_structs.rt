@@ -350,7 +350,7 @@ impl SectionRecord for MDBXorbInfo {
 
     type Header = XorbChunkSequenceHeader;
 
-    type Kept = ();
+    type SkipValue = ();
 
     ghost kind = { xorb_records };
 

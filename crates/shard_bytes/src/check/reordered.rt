@@ -33,7 +33,7 @@ pub fn is_reordered(alloc: Global, written: &[u8], found: &[u8]) -> Result<bool>
         return Ok(false);
     }
     let written = rows_of(alloc, written)?;
-    let sorted = sorted(found);
+    let sorted = sort_rows(found);
     Ok(are_equal(sorted.as_slice(), written.as_slice()))
 }
 
@@ -78,7 +78,7 @@ fn words_ascend(rows: &[ChunkTableRow]) -> bool
 }
 
 // The rows in ascending order.
-fn sorted(mut rows: Vec<ChunkTableRow>) -> Vec<ChunkTableRow>
+fn sort_rows(mut rows: Vec<ChunkTableRow>) -> Vec<ChunkTableRow>
     ensures { IsSortedOf rows.items result.items }
 {
     rows.sort_unstable();

@@ -89,12 +89,12 @@ fn compress(starts: Lanes, messages: &Lanes) -> Lanes
     ensures { (j : ℕ) → j < 4
         → lane j result ≡ state_after 7 (lane j starts) (lane j messages.now) }
 {
-    let second = permuted(messages);
-    let third = permuted(&second);
-    let fourth = permuted(&third);
-    let fifth = permuted(&fourth);
-    let sixth = permuted(&fifth);
-    let seventh = permuted(&sixth);
+    let second = permute(messages);
+    let third = permute(&second);
+    let fourth = permute(&third);
+    let fifth = permute(&fourth);
+    let sixth = permute(&fifth);
+    let seventh = permute(&sixth);
     let states = round(starts, messages);
     let states = round(states, &second);
     let states = round(states, &third);
@@ -179,7 +179,7 @@ fn mix_diagonals(states: Lanes, m: &Lanes) -> Lanes
 // The messages for the next round.
 #[inline(always)]
 #[tactic(auto, unfolding(crate::specs::KeyedHash::next_message))]
-fn permuted(m: &Lanes) -> Lanes
+fn permute(m: &Lanes) -> Lanes
     ensures { (j : ℕ) → j < 4 → lane j result ≡ next_message (lane j m.now) }
 {
     [

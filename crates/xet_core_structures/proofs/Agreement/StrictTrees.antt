@@ -22,7 +22,7 @@ use Rattle.xet_shards.specs.Ends.Ends.{HasHeaderAndFooter}
 use Rattle.xet_shards.specs.Content.Shard.{Shard}
 use Rattle.xet_core_structures.specs.declared.set_operations.MergePlan.{MergePlan}
 use Rattle.xet_core_structures.specs.declared.set_operations.MergePlan.TheVariants.{Leaf, Both'}
-use Rattle.xet_core_structures.specs.declared.set_operations.trees.parts.Part.{Part}
+use Rattle.xet_core_structures.specs.declared.set_operations.trees.parts.TreePart.{TreePart}
 use Rattle.xet_core_structures.specs.declared.set_operations.trees.parts.PlacedShard.{PlacedShard}
 use Rattle.xet_core_structures.specs.declared.set_operations.trees.placed.PlacedRecord.{PlacedRecord}
 use Rattle.xet_core_structures.specs.Agreement.Agreement.{HoldsAt, AgreeAt, HoldShards, InputsAgree}
@@ -280,7 +280,7 @@ pub if_made : {T E : Type 0} (r : Result T E) (P : T → Type 0) (Q : E → Type
 if_made (Ok v) P Q is = is
 if_made (Err e) P Q is = tt
 
-pub both_agree : (Is : List ℕ → Part → Type 0) (inputs : List (List ℕ)) (left right : MergePlan) (x y : List ℕ) (r : Result Part CoreError) → WritesAgreeing inputs left x → WritesAgreeing inputs right y
+pub both_agree : (Is : List ℕ → TreePart → Type 0) (inputs : List (List ℕ)) (left right : MergePlan) (x y : List ℕ) (r : Result TreePart CoreError) → WritesAgreeing inputs left x → WritesAgreeing inputs right y
     → IfOk r (λ part. (bytes : List ℕ) × UnitesBytes x y bytes × BytesAgree x y × Is bytes part)
     → IfOk r (λ part. (bytes : List ℕ) × ((x y : List ℕ) × WritesAgreeing inputs left x × WritesAgreeing inputs right y × UnitesBytes x y bytes × BytesAgree x y) × Is bytes part)
 both_agree Is inputs left right x y (Ok part) x_written y_written (bytes, unites, agree, is) = (bytes, (x, y, x_written, y_written, unites, agree), is)

@@ -28,8 +28,8 @@ use Rattle.xet_shards.proofs.ShardInMemory.Sums.{sub-sum}
 use Rattle.xet_core_structures.specs.declared.set_operations.MergePlan.{MergePlan}
 use Rattle.xet_core_structures.specs.declared.set_operations.MergePlan.TheVariants.{Leaf, Both'}
 use Rattle.xet_core_structures.specs.declared.set_operations.trees.parts.PlacedShard.{PlacedShard}
-use Rattle.xet_core_structures.specs.declared.set_operations.trees.parts.Part.{Part}
-use Rattle.xet_core_structures.specs.declared.set_operations.trees.parts.Part.TheVariants.{Input, Placed, United}
+use Rattle.xet_core_structures.specs.declared.set_operations.trees.parts.TreePart.{TreePart}
+use Rattle.xet_core_structures.specs.declared.set_operations.trees.parts.TreePart.TheVariants.{Input, Placed, United}
 use Rattle.xet_core_structures.specs.Records.ByteUnion.{IsEitherFile, IsEitherXorb, IsByteUnion}
 use Rattle.xet_core_structures.specs.TwoShards.ByteResults.{keyed_layout, keyed_info, key_of, HaveResult, HaveNoUnionOf, HaveNoUnion, InputRefusal, UnitesBytes, BytesRefusal}
 use Rattle.xet_core_structures.specs.Steps.ByteResults.{Records, HaveInputs, AreCombined}
@@ -219,21 +219,21 @@ lists_refused x i y j one other e first second (inl no_memory) = inl (inl no_mem
 lists_refused x i y j one other e first second (inr (invalid, none)) = inr (invalid, no_shard_union x i y j one other first second none)
 
 -- a union is a part
-pub part_of_union : (bytes : List ℕ) (part : Part) → IsUnionPart bytes part → IsPart bytes part
+pub part_of_union : (bytes : List ℕ) (part : TreePart) → IsUnionPart bytes part → IsPart bytes part
 part_of_union bytes (Input x) is = absurd is
 part_of_union bytes (Placed x lists) is = absurd is
 part_of_union bytes (United shard) is = is
 
 -- so is what a tree gives
-pub part_of_tree : (plan : MergePlan) (bytes : List ℕ) (part : Part) → IsPartOf plan bytes part → IsPart bytes part
+pub part_of_tree : (plan : MergePlan) (bytes : List ℕ) (part : TreePart) → IsPartOf plan bytes part → IsPart bytes part
 part_of_tree (Leaf i) bytes (Input x) is = is
 part_of_tree (Leaf i) bytes (Placed x lists) is = is
 part_of_tree (Leaf i) bytes (United shard) is = absurd is
 part_of_tree (Both' p left q right) bytes part is = part_of_union bytes part is
 
 -- both sides of a tree give a part, and so does their union, or it is refused
-module _ (Is : List ℕ → Part → Type 0) where
-  pub both_parts : (inputs : List (List ℕ)) (left right : MergePlan) (x y : List ℕ) (r : Result Part CoreError) → TreeWrites inputs left x → TreeWrites inputs right y
+module _ (Is : List ℕ → TreePart → Type 0) where
+  pub both_parts : (inputs : List (List ℕ)) (left right : MergePlan) (x y : List ℕ) (r : Result TreePart CoreError) → TreeWrites inputs left x → TreeWrites inputs right y
       → MatchResult r (λ part. (bytes : List ℕ) × UnitesBytes x y bytes × Is bytes part) (BytesRefusal x y)
       → MatchResult r
       (λ part. (bytes : List ℕ) × ((x y : List ℕ) × TreeWrites inputs left x × TreeWrites inputs right y × UnitesBytes x y bytes) × Is bytes part)

@@ -13,7 +13,7 @@ use Rattle.xet_records.specs.declared.xorb_structs.XorbChunkSequenceHeader.{Xorb
 use Rattle.xet_core_structures.specs.declared.set_operations.MergePlan.TheVariants.{Leaf}
 use Rattle.xet_core_structures.specs.declared.set_operations.trees.inputs.PlacedInputs.{PlacedInputs}
 use Rattle.xet_core_structures.specs.declared.set_operations.trees.parts.PlacedShard.{PlacedShard}
-use Rattle.xet_core_structures.specs.declared.set_operations.trees.parts.Part.{Part}
+use Rattle.xet_core_structures.specs.declared.set_operations.trees.parts.TreePart.{TreePart}
 use Rattle.xet_core_structures.specs.declared.set_operations.trees.placed.PlacedRecord.{PlacedRecord}
 use Rattle.xet_core_structures.specs.Trees.MergeTrees.{TreeWrites, TreeRefusal}
 use Rattle.xet_core_structures.specs.Steps.Parts.{IsPlacedOf, ArePlaced, IsPartOf}
@@ -83,7 +83,7 @@ module _ (inputs : List (List ℕ)) (placed : PlacedInputs) (are : ArePlaced inp
       subst (λ p. p) (λ j. IsPlacedOf (record { key = k j; files = f j; xorbs = y j }) x) here.is
 
 -- a leaf whose input is placed
-pub leaf_part : (inputs : List (List ℕ)) (i : ℕ) (r : Result Part CoreError) → MatchResult r (λ part. (bytes : List ℕ) × (slice_get inputs i ≡ Some bytes) × IsPartOf (Leaf i) bytes part) (λ e. (e ≡ InvalidArguments) × (length inputs ≤ i))
+pub leaf_part : (inputs : List (List ℕ)) (i : ℕ) (r : Result TreePart CoreError) → MatchResult r (λ part. (bytes : List ℕ) × (slice_get inputs i ≡ Some bytes) × IsPartOf (Leaf i) bytes part) (λ e. (e ≡ InvalidArguments) × (length inputs ≤ i))
     → MatchResult r (λ part. (bytes : List ℕ) × TreeWrites inputs (Leaf i) bytes × IsPartOf (Leaf i) bytes part) (TreeRefusal inputs (Leaf i))
 leaf_part inputs i (Ok part) is = is
 leaf_part inputs i (Err e) is = inl is

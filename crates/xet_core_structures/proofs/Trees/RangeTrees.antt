@@ -15,7 +15,7 @@ use Rattle.xet_shards.proofs.Content.AgreeingJoins.{joins_exist}
 use Rattle.xet_shards.proofs.Write.Sections.{files_fit}
 use Rattle.xet_core_structures.specs.declared.set_operations.MergePlan.{MergePlan}
 use Rattle.xet_core_structures.specs.declared.set_operations.MergePlan.TheVariants.{Leaf, Both'}
-use Rattle.xet_core_structures.specs.declared.set_operations.trees.parts.Part.{Part}
+use Rattle.xet_core_structures.specs.declared.set_operations.trees.parts.TreePart.{TreePart}
 use Rattle.xet_core_structures.specs.declared.set_operations.ranges.HashRange.{HashRange}
 use Rattle.xet_core_structures.specs.Steps.Parts.{IsUnionPart}
 use Rattle.xet_core_structures.specs.TwoShards.ByteResults.{keyed_options, keyed_layout, key_of, UnitesBytes, BytesRefusal}
@@ -159,13 +159,13 @@ at_input (x ∷ xs) (suc i) d low = at_input xs i d (omega (arith, low))
 
 module _ (range : HashRange) (inputs : List (List ℕ)) where
   -- an input gives a part, or is refused
-  pub leaf_part : (i : ℕ) (x : List ℕ) (r : Result Part CoreError) → slice_get inputs i ≡ Some x → MatchResult r (λ part. (out : List ℕ) × IsRangeOf range x out × IsUnionPart out part) (ReadRefusal x)
+  pub leaf_part : (i : ℕ) (x : List ℕ) (r : Result TreePart CoreError) → slice_get inputs i ≡ Some x → MatchResult r (λ part. (out : List ℕ) × IsRangeOf range x out × IsUnionPart out part) (ReadRefusal x)
       → MatchResult r (λ part. (bytes : List ℕ) × RangeWrites range inputs (Leaf i) bytes × IsUnionPart bytes part) (RangeRefusal range inputs (Leaf i))
   leaf_part i x (Ok part) at (out, is, of_part) = (out, (x, at, is), of_part)
   leaf_part i x (Err e) at refusal = inr (x, at, refusal)
 
   -- both sides of a tree give a part, and so does their union, or it is refused
-  pub both_parts : (left right : MergePlan) (x y : List ℕ) (r : Result Part CoreError) → RangeWrites range inputs left x → RangeWrites range inputs right y
+  pub both_parts : (left right : MergePlan) (x y : List ℕ) (r : Result TreePart CoreError) → RangeWrites range inputs left x → RangeWrites range inputs right y
       → MatchResult r (λ part. (bytes : List ℕ) × UnitesBytes x y bytes × IsUnionPart bytes part) (BytesRefusal x y)
       → MatchResult r
       (λ part. (bytes : List ℕ) × ((x y : List ℕ) × RangeWrites range inputs left x × RangeWrites range inputs right y × UnitesBytes x y bytes) × IsUnionPart bytes part)

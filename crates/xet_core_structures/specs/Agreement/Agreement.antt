@@ -26,8 +26,8 @@ use Rattle.xet_core_structures.specs.declared.set_operations.agreement.AgreeingM
 use Rattle.xet_core_structures.specs.declared.set_operations.agreement.AgreeingMerge.TheVariants.{Bytes as MergedBytes, Disagreements, Malformed as FoundMalformed}
 use Rattle.xet_core_structures.specs.declared.set_operations.agreement.AgreeingFill.{AgreeingFill}
 use Rattle.xet_core_structures.specs.declared.set_operations.agreement.AgreeingFill.TheVariants.{Bytes as FilledBytes, Disagreements as Disagreeing, Malformed as Misformed}
-use Rattle.xet_core_structures.specs.declared.set_operations.agreement.Merged.{Merged}
-use Rattle.xet_core_structures.specs.declared.set_operations.agreement.Merged.TheVariants.{Bytes, Disagreement as Disagreed, Malformed}
+use Rattle.xet_core_structures.specs.declared.set_operations.agreement.MergeOutcome.{MergeOutcome}
+use Rattle.xet_core_structures.specs.declared.set_operations.agreement.MergeOutcome.TheVariants.{Bytes, Disagreement as Disagreed, Malformed}
 use Rattle.xet_core_structures.specs.TwoShards.ByteResults.{key_of, LoadRefusal}
 use Rattle.xet_core_structures.specs.Records.ShardContents.{HasShard}
 use Rattle.xet_core_structures.specs.Trees.Filling.{Fills}
@@ -142,7 +142,7 @@ HaveKey inputs plan key =
 -- what a merge of inputs that have to agree gives: the bytes that the tree writes, if the inputs
 -- hold well-formed shards and these agree; else the first of all that do not agree, or a record
 -- that no shard may have
-abbrev pub IsMerged : List (List ℕ) → MergePlan → Merged → Type 0
+abbrev pub IsMerged : List (List ℕ) → MergePlan → MergeOutcome → Type 0
 IsMerged inputs plan (Bytes bytes) =
     HoldShards inputs × InputsAgree inputs × TreeWrites inputs plan bytes.items
 IsMerged inputs plan (Disagreed d) =

@@ -11,7 +11,7 @@ use Rattle.xet_records.specs.RecordKind.{RecordKind}
 use Rattle.xet_records.specs.XorbRecord.{size_of_chunks}
 use Rattle.xet_shards.specs.Content.SetOperations.{ShardsAgree}
 use Rattle.xet_shards.specs.Content.Shard.{Shard, IsShard}
-use Rattle.xet_core_structures.specs.declared.set_operations.trees.parts.Part.{Part}
+use Rattle.xet_core_structures.specs.declared.set_operations.trees.parts.TreePart.{TreePart}
 use Rattle.xet_core_structures.specs.declared.set_operations.trees.placed.PlacedRecord.{PlacedRecord}
 use Rattle.xet_core_structures.specs.Records.RecordPairs.{key_of_record}
 use Rattle.xet_core_structures.specs.declared.set_operations.agreement.RecordHash.{RecordHash}
@@ -93,7 +93,7 @@ WritesAgreeing inputs (Both' p left q right) out =
     × UnitesBytes x y out × BytesAgree x y
 
 -- the inputs agree, and this is what the tree writes
-abbrev pub IsAgreed : List (List ℕ) → MergePlan → Part → Type 0
+abbrev pub IsAgreed : List (List ℕ) → MergePlan → TreePart → Type 0
 IsAgreed inputs plan part =
     InputsAgree inputs × ((bytes : List ℕ) × TreeWrites inputs plan bytes × IsPartOf plan bytes part)
 

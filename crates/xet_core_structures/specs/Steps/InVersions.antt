@@ -6,8 +6,8 @@ use Rattle.xet_base.specs.declared.error.CoreError.TheVariants.{InvalidArguments
 use Rattle.xet_records.specs.declared.record_reader.FormatVersion.{FormatVersion}
 use Rattle.xet_records.specs.declared.record_reader.FormatVersion.TheVariants.{V2, V3}
 use Rattle.xet_records.specs.Version.{number_of}
-use Rattle.xet_core_structures.specs.declared.set_operations.trees.parts.Part.{Part}
-use Rattle.xet_core_structures.specs.declared.set_operations.trees.parts.Part.TheVariants.{Input, Placed, United}
+use Rattle.xet_core_structures.specs.declared.set_operations.trees.parts.TreePart.{TreePart}
+use Rattle.xet_core_structures.specs.declared.set_operations.trees.parts.TreePart.TheVariants.{Input, Placed, United}
 use Rattle.xet_core_structures.specs.Trees.InVersions.{AreInBothVersions, HasNewFiles}
 
 -- bytes with the number of version 2 in their header
@@ -20,26 +20,26 @@ AreNumbered true bytes out = out ≡ with_number_2 bytes
 AreNumbered false bytes out = out ≡ bytes
 
 -- the bytes of a part in a version; an input has the version that it has
-abbrev pub IsPartIn : FormatVersion → Part → List ℕ → List ℕ → Type 0
+abbrev pub IsPartIn : FormatVersion → TreePart → List ℕ → List ℕ → Type 0
 IsPartIn V3 part bytes out = out ≡ bytes
 IsPartIn V2 (Input x) bytes out = out ≡ bytes
 IsPartIn V2 (Placed x lists) bytes out = out ≡ bytes
 IsPartIn V2 (United shard) bytes out = AreInBothVersions bytes out
 
 -- a part has a file that the version in which it is to be written does not have
-abbrev pub IsTooNew : FormatVersion → Part → List ℕ → Type 0
+abbrev pub IsTooNew : FormatVersion → TreePart → List ℕ → Type 0
 IsTooNew V3 part bytes = ⊥
 IsTooNew V2 (Input x) bytes = ⊥
 IsTooNew V2 (Placed x lists) bytes = ⊥
 IsTooNew V2 (United shard) bytes = HasNewFiles bytes
 
 -- why a part is not written in a version
-abbrev pub IsNotWritten : FormatVersion → Part → List ℕ → CoreError → Type 0
+abbrev pub IsNotWritten : FormatVersion → TreePart → List ℕ → CoreError → Type 0
 IsNotWritten version part bytes e =
     (e ≡ OutOfMemory) ⊎ ((e ≡ InvalidArguments) × IsTooNew version part bytes)
 
 -- whether the bytes of a part get the number of version 2, to be in a version
-pub record GetsNumber (version : FormatVersion) (part : Part) (bytes : List ℕ) (gets : Bool)
+pub record GetsNumber (version : FormatVersion) (part : TreePart) (bytes : List ℕ) (gets : Bool)
     : Type 0 where
   pub written : (out : List ℕ) → AreNumbered gets bytes out → IsPartIn version part bytes out
   pub header : gets ≡ true → 40 ≤ length bytes

@@ -15,12 +15,12 @@ use Rattle.xet_core_structures.specs.declared.set_operations.MergePlan.TheVarian
 use Rattle.xet_core_structures.specs.declared.set_operations.trees.inputs.PlacedInputs.{PlacedInputs}
 use Rattle.xet_core_structures.specs.declared.set_operations.trees.parts.PlacedLists.{PlacedLists}
 use Rattle.xet_core_structures.specs.declared.set_operations.trees.parts.PlacedShard.{PlacedShard}
-use Rattle.xet_core_structures.specs.declared.set_operations.trees.parts.Part.{Part}
-use Rattle.xet_core_structures.specs.declared.set_operations.trees.parts.Part.TheVariants.{Input, Placed, United}
-use Rattle.xet_core_structures.specs.declared.set_operations.trees.parts.Opened.{Opened}
-use Rattle.xet_core_structures.specs.declared.set_operations.trees.parts.Opened.TheVariants.{Input as OpenedInput, Placed as OpenedPlaced, United as OpenedUnion}
-use Rattle.xet_core_structures.specs.declared.set_operations.trees.parts.Listed.{Listed}
-use Rattle.xet_core_structures.specs.declared.set_operations.trees.parts.Listed.TheVariants.{Own, Placed as PlacedBefore}
+use Rattle.xet_core_structures.specs.declared.set_operations.trees.parts.TreePart.{TreePart}
+use Rattle.xet_core_structures.specs.declared.set_operations.trees.parts.TreePart.TheVariants.{Input, Placed, United}
+use Rattle.xet_core_structures.specs.declared.set_operations.trees.parts.OpenPart.{OpenPart}
+use Rattle.xet_core_structures.specs.declared.set_operations.trees.parts.OpenPart.TheVariants.{Input as OpenedInput, Placed as OpenedPlaced, United as OpenedUnion}
+use Rattle.xet_core_structures.specs.declared.set_operations.trees.parts.PartRecords.{PartRecords}
+use Rattle.xet_core_structures.specs.declared.set_operations.trees.parts.PartRecords.TheVariants.{Own, Placed as PlacedBefore}
 use Rattle.xet_core_structures.specs.TwoShards.ByteResults.{key_of, keyed_info}
 use Rattle.xet_core_structures.specs.Steps.ByteResults.{Records}
 use Rattle.xet_core_structures.specs.Steps.ShardContents.{HoldsLists}
@@ -71,7 +71,7 @@ abbrev pub shard_with : PlacedLists → PlacedShard
 shard_with l = record { key = l.key; files = l.files.now; xorbs = l.xorbs.now }
 
 -- the shard in memory that has the records of a part
-abbrev pub shard_in : Listed → PlacedShard
+abbrev pub shard_in : PartRecords → PlacedShard
 shard_in (Own shard) = shard
 shard_in (PlacedBefore lists) = shard_with lists
 
@@ -93,26 +93,26 @@ pub record IsUnited (bytes : List ℕ) (info : MDBShardInfo) (shard : PlacedShar
   pub xorbs : PlacesAll xorb_records shard.xorbs.items (values union.xorbs)
 
 -- a part stands for these bytes
-abbrev pub IsPart : List ℕ → Part → Type 0
+abbrev pub IsPart : List ℕ → TreePart → Type 0
 IsPart bytes (Input x) = x.now ≡ bytes
 IsPart bytes (Placed x lists) = (x.now ≡ bytes) × IsPlacedOf (shard_with lists) bytes
 IsPart bytes (United shard) = (info : MDBShardInfo) × IsUnited bytes info shard
 
 -- a part is a union that stands for these bytes
-abbrev pub IsUnionPart : List ℕ → Part → Type 0
+abbrev pub IsUnionPart : List ℕ → TreePart → Type 0
 IsUnionPart bytes (Input x) = ⊥
 IsUnionPart bytes (Placed x lists) = ⊥
 IsUnionPart bytes (United shard) = IsPart bytes (United shard)
 
 -- a part that a tree gives stands for these bytes: that of a leaf is an input, any other a union
-abbrev pub IsPartOf : MergePlan → List ℕ → Part → Type 0
+abbrev pub IsPartOf : MergePlan → List ℕ → TreePart → Type 0
 IsPartOf (Leaf i) bytes (Input x) = x.now ≡ bytes
 IsPartOf (Leaf i) bytes (Placed x lists) = IsPart bytes (Placed x lists)
 IsPartOf (Leaf i) bytes (United shard) = ⊥
 IsPartOf (Both' p left q right) bytes part = IsUnionPart bytes part
 
 -- a part stands for these bytes, in which these are the header and the footer
-abbrev pub IsOpened : List ℕ → MDBShardInfo → Opened → Type 0
+abbrev pub IsOpened : List ℕ → MDBShardInfo → OpenPart → Type 0
 IsOpened bytes info (OpenedInput x i) = (x.now ≡ bytes) × (i ≡ info)
 IsOpened bytes info (OpenedPlaced lists) = PlacesShard bytes info (shard_with lists)
 IsOpened bytes info (OpenedUnion shard) = IsUnited bytes info shard

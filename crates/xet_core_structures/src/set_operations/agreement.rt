@@ -32,7 +32,7 @@ mod strict_tree;
 
 use super::MergePlan;
 use crate::set_operations::trees::inputs::{PlacedInputs, input_at, place_input, place_inputs};
-use crate::set_operations::trees::parts::{Part, PlacedShard, place_tree_of};
+use crate::set_operations::trees::parts::{PlacedShard, TreePart, place_tree_of};
 use crate::set_operations::trees::versions::{fill_with_part_in, part_bytes_in};
 use crate::set_operations::two_shards::record_operation::OfUnion;
 use bumpalo::Bump;
@@ -40,7 +40,7 @@ use differing::{Differing, find_differing};
 use kinds::Agreement;
 use malformed::find_malformed_record;
 use std::alloc::Global;
-use strict_tree::{covered, place_agreeing_tree};
+use strict_tree::{end_of_leaves, place_agreeing_tree};
 use xet_base::error::{CoreError, Result};
 use xet_base::merklehash::MerkleHash;
 use xet_records::file_structs::MDBFileInfo;
@@ -364,7 +364,7 @@ fn fill_in_arena<'a>(
 /// What a tree gives, if all inputs agree; else all that disagree.
 #[derive(Drop)]
 pub enum AgreedPart<'a> {
-    Agreed(Part<'a>),
+    Agreed(TreePart<'a>),
     Disagreements(Vec<Disagreement>),
 }
 
@@ -393,13 +393,13 @@ fn tried_tree<'a>(
     arena: &'a Bump,
     plan: &MergePlan,
     placed: &'a PlacedInputs<'a>,
-) -> Result<Option<Part<'a>>>
+) -> Result<Option<TreePart<'a>>>
     requires { (inputs : List (List ℕ)) × ArePlaced inputs placed.now }
     ensures { (inputs : List (List ℕ)) → ArePlaced inputs placed.now → HoldShards inputs
         → MatchResult result (λ tried. IfSome tried (IsAgreed inputs plan.now))
         (λ e. e ≡ OutOfMemory) }
 {
-    if covered(plan, 0) < placed.inputs.len() {
+    if end_of_leaves(plan, 0) < placed.inputs.len() {
         return Ok(None);
     }
     match place_agreeing_tree(alloc, arena, plan, placed) {
@@ -430,7 +430,7 @@ fn compared_tree<'a>(
 
 /// What a merge of inputs that have to agree gives, with one disagreement.
 #[derive(Drop)]
-pub enum Merged {
+pub enum MergeOutcome {
     /// The bytes of the union: each two inputs agree.
     Bytes(Vec<u8>),
     /// Two inputs that do not agree.
@@ -440,7 +440,7 @@ pub enum Merged {
 }
 
 /// As [`merge_or_disagreements`], in version 3 and with the first disagreement alone.
-pub fn merge_agreeing(alloc: Global, plan: &MergePlan, inputs: &[&[u8]]) -> Result<Merged>
+pub fn merge_agreeing(alloc: Global, plan: &MergePlan, inputs: &[&[u8]]) -> Result<MergeOutcome>
     ensures { MatchResult result
         (IsMerged (map (λ x. x.now) inputs.now) plan.now)
         (λ e. InputsRefusal (map (λ x. x.now) inputs.now) e
@@ -448,8 +448,8 @@ pub fn merge_agreeing(alloc: Global, plan: &MergePlan, inputs: &[&[u8]]) -> Resu
 {
     let merged = merge_or_disagreements(alloc, plan, inputs, FormatVersion::V3)?;
     match merged {
-        AgreeingMerge::Bytes(bytes) => Ok(Merged::Bytes(bytes)),
-        AgreeingMerge::Disagreements(found) => Ok(Merged::Disagreement(found[0])),
-        AgreeingMerge::Malformed(found) => Ok(Merged::Malformed(found)),
+        AgreeingMerge::Bytes(bytes) => Ok(MergeOutcome::Bytes(bytes)),
+        AgreeingMerge::Disagreements(found) => Ok(MergeOutcome::Disagreement(found[0])),
+        AgreeingMerge::Malformed(found) => Ok(MergeOutcome::Malformed(found)),
     }
 }

@@ -15,8 +15,8 @@ ghost use Rattle.xet_core_structures.specs.Trees.MergeTrees.{MergeRefused};
 ghost use Rattle.xet_core_structures.specs.Trees.RangeTrees.{IsRangeOf, ReadRefusal, RangeWrites, RangeRefusal, IsRangeMerge, IsHeldLayout};
 
 use super::MergePlan;
-use super::trees::parts::{Part, PlacedShard, place_shard, unite_parts};
-use super::trees::placed::{PlacedRecord, copied};
+use super::trees::parts::{PlacedShard, TreePart, place_shard, unite_parts};
+use super::trees::placed::{PlacedRecord, copy_of};
 use super::trees::versions::{fill_with_part_in, part_bytes_in};
 use bumpalo::Bump;
 use std::alloc::Global;
@@ -170,7 +170,7 @@ fn place_range<'a>(
     plan: &MergePlan,
     inputs: &[&'a [u8]],
     range: HashRange,
-) -> Result<Part<'a>>
+) -> Result<TreePart<'a>>
     ensures { MatchResult result
         (λ part. (bytes : List ℕ)
         × RangeWrites range (map (λ x. x.now) inputs.now) plan.now bytes × IsUnionPart bytes part)
@@ -192,7 +192,7 @@ fn place_range<'a>(
 }
 
 // The records of an input in a range, as a part of a tree.
-fn place_within<'a>(alloc: Global, bytes: &'a [u8], range: HashRange) -> Result<Part<'a>>
+fn place_within<'a>(alloc: Global, bytes: &'a [u8], range: HashRange) -> Result<TreePart<'a>>
     ensures { MatchResult result
         (λ part. (out : List ℕ) × IsRangeOf range bytes.now out × IsUnionPart out part)
         (ReadRefusal bytes.now) }
@@ -202,7 +202,7 @@ fn place_within<'a>(alloc: Global, bytes: &'a [u8], range: HashRange) -> Result<
     let shard = place_shard(alloc, bytes, &info)?;
     let files = records_within::<MDBFileInfo>(alloc, shard.files.as_slice(), range)?;
     let xorbs = records_within::<MDBXorbInfo>(alloc, shard.xorbs.as_slice(), range)?;
-    Ok(Part::United(PlacedShard {
+    Ok(TreePart::United(PlacedShard {
         key: shard.key,
         files,
         xorbs,
@@ -224,7 +224,7 @@ fn records_within<'a, R: SectionRecord>(
     let mut within = Vec::new(alloc);
     for record in placed {
         if range.contains(&R::hash(&record.header)) {
-            within.push(copied(record))?;
+            within.push(copy_of(record))?;
         }
     }
     Ok(within)

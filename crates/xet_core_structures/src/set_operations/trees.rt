@@ -2,7 +2,7 @@
 //!
 //! A tree of unions is written once, from inputs in memory. `place_records` reads a section as a
 //! list of `PlacedRecord`s, each a header and the bytes from its rows on, and `unite_placed` unites
-//! two lists. What a tree gives is a `Part`, an input or two such lists under a key, and the
+//! two lists. What a tree gives is a `TreePart`, an input or two such lists under a key, and the
 //! contract of `place_tree` says which bytes it stands for (`IsPart`): those that the tree writes.
 //! So all that is said of trees is about bytes. Inputs whose records are
 //! placed already (`inputs`) are leaves of `place_tree_of`. A mix of two files lies in neither input:

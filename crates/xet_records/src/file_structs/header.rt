@@ -264,7 +264,7 @@ impl FileDataSequenceHeader {
 
     /// The header of a mix of two records of one file: the flags of the parts that either
     /// announces, no others, and a zero reserved word.
-    pub fn mixed(&self, other: &Self) -> Self
+    pub fn mix_with(&self, other: &Self) -> Self
         ensures { result ≡ mixed_header self.now other.now }
     {
         let parts = self.parts().union(other.parts());

@@ -9,7 +9,7 @@
 //! the invariant `HasRead`, the records so far and the rows that are left. `deserialize` of both
 //! records is a call of `read_record`, and so is `read_record_at`, which reads the record at a row.
 //! Headers of xorbs and ranges of files come from one walk (`walk_section`) that keeps something of
-//! each record (`Kept`) and reads past the rows after its header. The definitions and lemmas are
+//! each record (`WalkItem`) and reads past the rows after its header. The definitions and lemmas are
 //! about any kind of records (`RecordKind`); `xet_records/proofs/RecordKinds.antt` proves what
 //! files and xorbs have in common (`KindLaws`), which the do-nothing call `laws` of the trait says.
 //! `proofs/Read/SectionUnique.antt` shows that bytes are a section in at most one way

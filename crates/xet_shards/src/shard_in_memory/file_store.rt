@@ -236,7 +236,7 @@ pub fn joined_rows(file_info: &MDBFileInfo, twin: &MDBFileInfo) -> u64
     requires same { IsSameFile file_info.now.metadata twin.now.metadata }
     ensures { result ≡ row_count (merged_file file_info.now twin.now) }
 {
-    1 + file_info.metadata.mixed(&twin.metadata).rows_after()
+    1 + file_info.metadata.mix_with(&twin.metadata).rows_after()
 }
 
 // Whether the first of two records of a file has each optional part that the second has.

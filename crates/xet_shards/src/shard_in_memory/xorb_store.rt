@@ -257,11 +257,11 @@ pub fn is_well_formed(xorb: &MDBXorbInfo) -> bool
     !metadata.is_bookend()
         && xorb.chunks.len() as u64 == u64::from(metadata.num_entries)
         && metadata.num_entries < u32::MAX
-        && bytes_of(xorb) <= u64::from(u32::MAX)
+        && sum_of_chunks(xorb) <= u64::from(u32::MAX)
 }
 
 // The bytes of a xorb's chunks.
-fn bytes_of(xorb: &MDBXorbInfo) -> u64
+fn sum_of_chunks(xorb: &MDBXorbInfo) -> u64
     requires { HasItsChunks xorb.now }
     ensures { result ≡ size_of_chunks xorb.now }
 {

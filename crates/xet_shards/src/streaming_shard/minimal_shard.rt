@@ -165,8 +165,8 @@ impl MDBMinimalShard {
         if kept.verification && !self.has_file_verification() {
             return 0;
         }
-        let files = bytes_of(self.files(), kept);
-        let records = files + bytes_of(self.xorbs(), kept);
+        let files = sum_of_views(self.files(), kept);
+        let records = files + sum_of_views(self.xorbs(), kept);
         MDBShardInfo::non_content_byte_size() + records
     }
 
@@ -195,7 +195,7 @@ impl PartialEq for MDBMinimalShard {
 }
 
 // A view of a record that a shard keeps.
-trait KeptView {
+trait WritableView {
     // the rows of these parts of its record
     ghost rows: { KeptParts → Self → ℕ };
 
@@ -207,7 +207,7 @@ trait KeptView {
         ensures { result ≡ 48 * rows kept self.now };
 }
 
-impl KeptView for MDBFileInfoView {
+impl WritableView for MDBFileInfoView {
     ghost rows = { λ kept view. row_count (as_kept kept view) };
 
     fn copy(&self) -> Result<Self> {
@@ -219,7 +219,7 @@ impl KeptView for MDBFileInfoView {
     }
 }
 
-impl KeptView for MDBXorbInfoView {
+impl WritableView for MDBXorbInfoView {
     ghost rows = { λ kept view. xorb_row_count view };
 
     fn copy(&self) -> Result<Self> {
@@ -231,7 +231,7 @@ impl KeptView for MDBXorbInfoView {
     }
 }
 
-fn copies<V: KeptView + Drop>(alloc: Global, views: &[V]) -> Result<Vec<V>>
+fn copies<V: WritableView + Drop>(alloc: Global, views: &[V]) -> Result<Vec<V>>
     ensures ok { IfOk result (λ copies. copies.items ≡ views.now) }
     ensures causes { IfErr result (λ e. e ≡ CoreError.OutOfMemory) }
 {
@@ -243,7 +243,7 @@ fn copies<V: KeptView + Drop>(alloc: Global, views: &[V]) -> Result<Vec<V>>
 }
 
 // The bytes of the records that views show, with the parts that are kept.
-fn bytes_of<V: KeptView>(views: &[V], kept: KeptParts) -> u64
+fn sum_of_views<V: WritableView>(views: &[V], kept: KeptParts) -> u64
     requires { sum_by (V.rows kept) views.now ≤ MAX_ROWS }
     ensures { result ≡ 48 * sum_by (V.rows kept) views.now }
 {

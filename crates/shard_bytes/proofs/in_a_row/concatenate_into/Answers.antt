@@ -14,8 +14,8 @@ pub returns-in-Ok : goal.returns-in-Ok
 returns-in-Ok c =
     concatenated c.args.version c.args.shards.now _ (λ M. (bytes : List ℕ) × M bytes × Fills bytes c.args.out.now c.shards_in_a_row_into.new.out c.in-Ok.size)
     (λ M N number (bytes, made, fills) IsCause.
-        let (numbered, is, filled) = c.put_version.ensures bytes c.args.out.now fills in
-        (numbered, number bytes numbered made is, filled))
+    let (numbered, is, filled) = c.put_version.ensures bytes c.args.out.now fills in
+    (numbered, number bytes numbered made is, filled))
     (λ key parts fit are. sym c.if-have_new_files.false ∙ c.have_new_files.ensures key parts fit are)
     c.in-Ok.ensures.causes
     (λ key parts fit are. c.in-Ok.ensures.parts key parts fit are)

@@ -8,9 +8,9 @@ returns c =
     rw (
       c.turned_back-b_row.ensures,
       c.turned_twice-c_row.ensures,
-      c.turned-d_row.ensures,
-      ← (rw (c.turned-b_diagonal.ensures, c.turned_twice-c_diagonal.ensures, c.turned_back-d_diagonal.ensures) at (c.mix.ensures 0 (omega arith))),
-      ← (rw (c.turned-b_diagonal.ensures, c.turned_twice-c_diagonal.ensures, c.turned_back-d_diagonal.ensures) at (c.mix.ensures 1 (omega arith))),
-      ← (rw (c.turned-b_diagonal.ensures, c.turned_twice-c_diagonal.ensures, c.turned_back-d_diagonal.ensures) at (c.mix.ensures 2 (omega arith))),
-      ← (rw (c.turned-b_diagonal.ensures, c.turned_twice-c_diagonal.ensures, c.turned_back-d_diagonal.ensures) at (c.mix.ensures 3 (omega arith))),
+      c.rotate_lanes-d_row.ensures,
+      ← (rw (c.rotate_lanes-b_diagonal.ensures, c.turned_twice-c_diagonal.ensures, c.turned_back-d_diagonal.ensures) at (c.mix.ensures 0 (omega arith))),
+      ← (rw (c.rotate_lanes-b_diagonal.ensures, c.turned_twice-c_diagonal.ensures, c.turned_back-d_diagonal.ensures) at (c.mix.ensures 1 (omega arith))),
+      ← (rw (c.rotate_lanes-b_diagonal.ensures, c.turned_twice-c_diagonal.ensures, c.turned_back-d_diagonal.ensures) at (c.mix.ensures 2 (omega arith))),
+      ← (rw (c.rotate_lanes-b_diagonal.ensures, c.turned_twice-c_diagonal.ensures, c.turned_back-d_diagonal.ensures) at (c.mix.ensures 3 (omega arith))),
     )

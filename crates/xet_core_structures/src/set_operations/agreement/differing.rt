@@ -11,7 +11,7 @@ ghost use Rattle.xet_core_structures.specs.Steps.Differing.{place_cmp, IsPlace, 
 use super::kinds::Agreement;
 use super::pairs::{are_copies, read_placed};
 use super::runs::{Place, run_end, sorted_places};
-use crate::set_operations::trees::placed::{PlacedRecord, copied};
+use crate::set_operations::trees::placed::{PlacedRecord, copy_of};
 use std::alloc::Global;
 use xet_base::error::Result;
 use xet_base::merklehash::MerkleHash;
@@ -254,5 +254,5 @@ fn placed_at<'a, H: Copy>(lists: &[Vec<PlacedRecord<'a, H>>], place: Place) -> P
         → slice_get (map (λ l. l.items) lists.now) place.input ≡ Some l
         → slice_get l place.index ≡ Some result }
 {
-    copied(&lists[place.input].as_slice()[place.index])
+    copy_of(&lists[place.input].as_slice()[place.index])
 }

@@ -15,7 +15,7 @@ use super::kinds::Agreement;
 use super::pairs::agree_in_place;
 use crate::set_operations::MergePlan;
 use crate::set_operations::trees::inputs::PlacedInputs;
-use crate::set_operations::trees::parts::{Part, list_both, placed_leaf, unite_lists};
+use crate::set_operations::trees::parts::{TreePart, list_both, placed_leaf, unite_lists};
 use crate::set_operations::trees::placed::{PlacedRecord, PlacedUnion};
 use crate::set_operations::two_shards::record_operation::OfUnion;
 use bumpalo::Bump;
@@ -34,7 +34,7 @@ pub fn place_agreeing_tree<'a>(
     arena: &'a Bump,
     plan: &MergePlan,
     placed: &'a PlacedInputs<'a>,
-) -> Result<Part<'a>>
+) -> Result<TreePart<'a>>
     requires { (inputs : List (List ℕ)) × ArePlaced inputs placed.now }
     ensures { (inputs : List (List ℕ)) → ArePlaced inputs placed.now → IfOk result
         (λ part. (bytes : List ℕ) × WritesAgreeing inputs plan.now bytes
@@ -54,20 +54,20 @@ pub fn place_agreeing_tree<'a>(
 fn unite_agreeing<'a>(
     alloc: Global,
     arena: &'a Bump,
-    left: Part<'a>,
-    right: Part<'a>,
-) -> Result<Part<'a>>
+    left: TreePart<'a>,
+    right: TreePart<'a>,
+) -> Result<TreePart<'a>>
     ensures { (x y : List ℕ) → IsPart x left.entry → IsPart y right.entry → IfOk result
         (λ part. (bytes : List ℕ) × UnitesBytes x y bytes × BytesAgree x y
         × IsUnionPart bytes part) }
 {
     let (first, second) = list_both(alloc, left, right)?;
     let shard = unite_lists::<OfAgreeing, OfAgreeing>(alloc, arena, &first, &second)?;
-    Ok(Part::United(shard))
+    Ok(TreePart::United(shard))
 }
 
 /// Up to which number all inputs are at leaves of a tree, if those up to another are.
-pub fn covered(plan: &MergePlan, from: usize) -> usize
+pub fn end_of_leaves(plan: &MergePlan, from: usize) -> usize
     ensures after { from ≤ result }
     ensures each { (i : ℕ) → from ≤ i → i < result → Contains (leaves plan.now) i }
 {
@@ -79,8 +79,8 @@ pub fn covered(plan: &MergePlan, from: usize) -> usize
             from
         }
         MergePlan::Both(left, right) => {
-            let between = covered(left, from);
-            covered(right, between)
+            let between = end_of_leaves(left, from);
+            end_of_leaves(right, between)
         }
     }
 }

@@ -50,7 +50,7 @@ pub struct PlacedLists<'a> {
 /// What a tree gives: an input, whose records may be placed already, or a union of which no byte is
 /// written yet.
 #[derive(Drop)]
-pub enum Part<'a> {
+pub enum TreePart<'a> {
     Input(&'a [u8]),
     Placed(&'a [u8], PlacedLists<'a>),
     United(PlacedShard<'a>),
@@ -58,7 +58,7 @@ pub enum Part<'a> {
 
 /// The same, with the header and the footer of an input whose records are not placed yet.
 #[derive(Drop)]
-pub enum Opened<'a> {
+pub enum OpenPart<'a> {
     Input(&'a [u8], MDBShardInfo),
     Placed(PlacedLists<'a>),
     United(PlacedShard<'a>),
@@ -66,18 +66,18 @@ pub enum Opened<'a> {
 
 /// The records of a part: its own, or those of an input that was placed before.
 #[derive(Drop)]
-pub enum Listed<'a> {
+pub enum PartRecords<'a> {
     Own(PlacedShard<'a>),
     Placed(PlacedLists<'a>),
 }
 
-impl<'a> Listed<'a> {
+impl<'a> PartRecords<'a> {
     fn key(&self) -> HMACKey
         ensures { result ≡ (shard_in self.now).key }
     {
         match self {
-            Listed::Own(shard) => shard.key,
-            Listed::Placed(lists) => lists.key,
+            PartRecords::Own(shard) => shard.key,
+            PartRecords::Placed(lists) => lists.key,
         }
     }
 
@@ -85,8 +85,8 @@ impl<'a> Listed<'a> {
         ensures { result.now ≡ (shard_in self.now).files.items }
     {
         match self {
-            Listed::Own(shard) => shard.files.as_slice(),
-            Listed::Placed(lists) => lists.files.as_slice(),
+            PartRecords::Own(shard) => shard.files.as_slice(),
+            PartRecords::Placed(lists) => lists.files.as_slice(),
         }
     }
 
@@ -94,8 +94,8 @@ impl<'a> Listed<'a> {
         ensures { result.now ≡ (shard_in self.now).xorbs.items }
     {
         match self {
-            Listed::Own(shard) => shard.xorbs.as_slice(),
-            Listed::Placed(lists) => lists.xorbs.as_slice(),
+            PartRecords::Own(shard) => shard.xorbs.as_slice(),
+            PartRecords::Placed(lists) => lists.xorbs.as_slice(),
         }
     }
 }
@@ -106,7 +106,7 @@ pub fn place_tree<'a>(
     arena: &'a Bump,
     plan: &MergePlan,
     inputs: &[&'a [u8]],
-) -> Result<Part<'a>>
+) -> Result<TreePart<'a>>
     ensures { MatchResult result
         (λ part. (bytes : List ℕ) × TreeWrites (map (λ x. x.now) inputs.now) plan.now bytes
         × IsPartOf plan.now bytes part)
@@ -117,7 +117,7 @@ pub fn place_tree<'a>(
             if *index >= inputs.len() {
                 return Err(CoreError::InvalidArguments);
             }
-            Ok(Part::Input(inputs[*index]))
+            Ok(TreePart::Input(inputs[*index]))
         }
         MergePlan::Both(left, right) => {
             let one = place_tree(alloc, arena, left, inputs)?;
@@ -133,7 +133,7 @@ pub fn place_tree_of<'a>(
     arena: &'a Bump,
     plan: &MergePlan,
     placed: &'a PlacedInputs<'a>,
-) -> Result<Part<'a>>
+) -> Result<TreePart<'a>>
     requires { (inputs : List (List ℕ)) × ArePlaced inputs placed.now }
     ensures { (inputs : List (List ℕ)) → ArePlaced inputs placed.now → MatchResult result
         (λ part. (bytes : List ℕ) × TreeWrites inputs plan.now bytes
@@ -151,7 +151,7 @@ pub fn place_tree_of<'a>(
 }
 
 /// The input at an index.
-pub fn placed_leaf<'a>(placed: &'a PlacedInputs<'a>, index: usize) -> Result<Part<'a>>
+pub fn placed_leaf<'a>(placed: &'a PlacedInputs<'a>, index: usize) -> Result<TreePart<'a>>
     requires { (inputs : List (List ℕ)) × ArePlaced inputs placed.now }
     ensures { (inputs : List (List ℕ)) → ArePlaced inputs placed.now → MatchResult result
         (λ part. (bytes : List ℕ) × (slice_get inputs index ≡ Some bytes)
@@ -166,31 +166,31 @@ pub fn placed_leaf<'a>(placed: &'a PlacedInputs<'a>, index: usize) -> Result<Par
         files: &placed.files[index],
         xorbs: &placed.xorbs[index],
     };
-    Ok(Part::Placed(placed.inputs[index], lists))
+    Ok(TreePart::Placed(placed.inputs[index], lists))
 }
 
 /// The union of two parts.
 pub fn unite_parts<'a>(
     alloc: Global,
     arena: &'a Bump,
-    left: Part<'a>,
-    right: Part<'a>,
-) -> Result<Part<'a>>
+    left: TreePart<'a>,
+    right: TreePart<'a>,
+) -> Result<TreePart<'a>>
     ensures { (x y : List ℕ) → IsPart x left.entry → IsPart y right.entry → MatchResult result
         (λ part. (bytes : List ℕ) × UnitesBytes x y bytes × IsUnionPart bytes part)
         (BytesRefusal x y) }
 {
     let (first, second) = list_both(alloc, left, right)?;
     let shard = unite_lists::<OfUnion, OfUnion>(alloc, arena, &first, &second)?;
-    Ok(Part::United(shard))
+    Ok(TreePart::United(shard))
 }
 
 /// The records of two parts under one key.
 pub fn list_both<'a>(
     alloc: Global,
-    left: Part<'a>,
-    right: Part<'a>,
-) -> Result<(Listed<'a>, Listed<'a>)>
+    left: TreePart<'a>,
+    right: TreePart<'a>,
+) -> Result<(PartRecords<'a>, PartRecords<'a>)>
     ensures { (x y : List ℕ) → IsPart x left.entry → IsPart y right.entry → MatchResult result
         (λ both. AreListed x y (shard_in both.0) (shard_in both.1)) (BytesRefusal x y) }
 {
@@ -207,31 +207,31 @@ pub fn list_both<'a>(
 }
 
 // A part, and the header and the footer if it is an input.
-fn open<'a>(alloc: Global, part: Part<'a>) -> Result<Opened<'a>>
+fn open<'a>(alloc: Global, part: TreePart<'a>) -> Result<OpenPart<'a>>
     ensures { (bytes : List ℕ) → IsPart bytes part.entry → MatchResult result
         (λ opened. (info : MDBShardInfo) × HasHeaderAndFooter bytes info × IsOpened bytes info opened)
         (LoadRefusal bytes) }
 {
     match part {
-        Part::Input(bytes) => {
+        TreePart::Input(bytes) => {
             let mut source = MemorySource::new(bytes);
             let info = MDBShardInfo::load_from_reader(alloc, &mut source)?;
-            Ok(Opened::Input(bytes, info))
+            Ok(OpenPart::Input(bytes, info))
         }
-        Part::Placed(_, lists) => Ok(Opened::Placed(lists)),
-        Part::United(shard) => Ok(Opened::United(shard)),
+        TreePart::Placed(_, lists) => Ok(OpenPart::Placed(lists)),
+        TreePart::United(shard) => Ok(OpenPart::United(shard)),
     }
 }
 
 // The key of the chunk hashes.
-fn key(opened: &Opened<'_>) -> HMACKey
+fn key(opened: &OpenPart<'_>) -> HMACKey
     ensures { (bytes : List ℕ) (info : MDBShardInfo) → IsOpened bytes info opened.now
         → result ≡ key_of info }
 {
     match opened {
-        Opened::Input(_, info) => info.metadata.chunk_hash_hmac_key,
-        Opened::Placed(lists) => lists.key,
-        Opened::United(shard) => shard.key,
+        OpenPart::Input(_, info) => info.metadata.chunk_hash_hmac_key,
+        OpenPart::Placed(lists) => lists.key,
+        OpenPart::United(shard) => shard.key,
     }
 }
 
@@ -243,15 +243,15 @@ fn are_equal(first: HMACKey, second: HMACKey) -> bool
 }
 
 // The records of a part.
-fn lists<'a>(alloc: Global, opened: Opened<'a>) -> Result<Listed<'a>>
+fn lists<'a>(alloc: Global, opened: OpenPart<'a>) -> Result<PartRecords<'a>>
     ensures { (bytes : List ℕ) (info : MDBShardInfo) → IsOpened bytes info opened.entry
         → MatchResult result (λ listed. PlacesShard bytes info (shard_in listed))
         (SectionsRefusal bytes info) }
 {
     match opened {
-        Opened::Input(bytes, info) => Ok(Listed::Own(place_shard(alloc, bytes, &info)?)),
-        Opened::Placed(lists) => Ok(Listed::Placed(lists)),
-        Opened::United(shard) => Ok(Listed::Own(shard)),
+        OpenPart::Input(bytes, info) => Ok(PartRecords::Own(place_shard(alloc, bytes, &info)?)),
+        OpenPart::Placed(lists) => Ok(PartRecords::Placed(lists)),
+        OpenPart::United(shard) => Ok(PartRecords::Own(shard)),
     }
 }
 
@@ -286,8 +286,8 @@ pub fn place_shard<'a>(
 pub fn unite_lists<'a, F: PlacedUnion<MDBFileInfo>, X: PlacedUnion<MDBXorbInfo>>(
     alloc: Global,
     arena: &'a Bump,
-    first: &Listed<'a>,
-    second: &Listed<'a>,
+    first: &PartRecords<'a>,
+    second: &PartRecords<'a>,
 ) -> Result<PlacedShard<'a>>
     ensures { (one other : Records) → MayBeUnited (shard_in first.now) one
         → MayBeUnited (shard_in second.now) other → MatchResult result
@@ -305,15 +305,15 @@ pub fn unite_lists<'a, F: PlacedUnion<MDBFileInfo>, X: PlacedUnion<MDBXorbInfo>>
 }
 
 /// The bytes of a part of a tree.
-pub fn part_bytes(alloc: Global, part: Part<'_>) -> Result<Vec<u8>>
+pub fn part_bytes(alloc: Global, part: TreePart<'_>) -> Result<Vec<u8>>
     requires { (bytes : List ℕ) × IsPart bytes part }
     ensures { (bytes : List ℕ) → IsPart bytes part.entry → MatchResult result
         (λ written. written.items ≡ bytes) (λ e. e ≡ OutOfMemory) }
 {
     match part {
-        Part::Input(bytes) => Ok(Vec::from_slice(alloc, bytes)?),
-        Part::Placed(bytes, _) => Ok(Vec::from_slice(alloc, bytes)?),
-        Part::United(shard) => shard_bytes(alloc, &shard),
+        TreePart::Input(bytes) => Ok(Vec::from_slice(alloc, bytes)?),
+        TreePart::Placed(bytes, _) => Ok(Vec::from_slice(alloc, bytes)?),
+        TreePart::United(shard) => shard_bytes(alloc, &shard),
     }
 }
 
@@ -333,15 +333,15 @@ fn shard_bytes(alloc: Global, shard: &PlacedShard<'_>) -> Result<Vec<u8>>
 
 /// Writes the bytes of a part of a tree to the front of a slice, if they fit, and returns their
 /// number.
-pub fn fill_with_part(alloc: Global, part: Part<'_>, out: &mut [u8]) -> Result<usize>
+pub fn fill_with_part(alloc: Global, part: TreePart<'_>, out: &mut [u8]) -> Result<usize>
     requires { (bytes : List ℕ) × IsPart bytes part }
     ensures { (bytes : List ℕ) → IsPart bytes part.entry
         → FillsWith (λ made. made ≡ bytes) (λ e. e ≡ OutOfMemory) out.old out.new result }
 {
     match part {
-        Part::Input(bytes) => Ok(fill_with(out, bytes)),
-        Part::Placed(bytes, _) => Ok(fill_with(out, bytes)),
-        Part::United(shard) => fill_with_shard(alloc, &shard, out),
+        TreePart::Input(bytes) => Ok(fill_with(out, bytes)),
+        TreePart::Placed(bytes, _) => Ok(fill_with(out, bytes)),
+        TreePart::United(shard) => fill_with_shard(alloc, &shard, out),
     }
 }
 

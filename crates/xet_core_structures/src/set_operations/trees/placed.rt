@@ -116,8 +116,8 @@ impl PlacedUnion<MDBFileInfo> for OfUnion {
         second: &PlacedRecord<'a, FileDataSequenceHeader>,
     ) -> Result<Option<PlacedRecord<'a, FileDataSequenceHeader>>> {
         match FileDataSequenceHeader::compare_flag_superset(&first.header, &second.header) {
-            SupersetResult::Equal | SupersetResult::SuperA => Ok(Some(copied(first))),
-            SupersetResult::SuperB => Ok(Some(copied(second))),
+            SupersetResult::Equal | SupersetResult::SuperA => Ok(Some(copy_of(first))),
+            SupersetResult::SuperB => Ok(Some(copy_of(second))),
             SupersetResult::Neither => {
                 if first.header.num_entries != second.header.num_entries {
                     return Ok(None);
@@ -149,7 +149,7 @@ fn place_mix<'a>(
         → Places file_records second.now s → Places file_records placed (mixed_file r s)))
         (λ e. e ≡ OutOfMemory) }
 {
-    let header = first.header.mixed(&second.header);
+    let header = first.header.mix_with(&second.header);
     let bytes = mixed_rows(alloc, first, second)?;
     let rows = arena.try_alloc_slice_copy(bytes.as_slice())?;
     Ok(PlacedRecord { header, rows })
@@ -194,7 +194,7 @@ impl PlacedUnion<MDBXorbInfo> for OfUnion {
         first: &PlacedRecord<'a, XorbChunkSequenceHeader>,
         _second: &PlacedRecord<'a, XorbChunkSequenceHeader>,
     ) -> Result<Option<PlacedRecord<'a, XorbChunkSequenceHeader>>> {
-        Ok(Some(copied(first)))
+        Ok(Some(copy_of(first)))
     }
 
     ghost makes_nothing = { refl };
@@ -234,7 +234,7 @@ pub fn unite_placed<'a, R: SectionRecord, U: PlacedUnion<R>>(
     let mut at_2 = 0;
     loop {
         match next_turn::<R, U>(alloc, arena, first, at_1, second, at_2)? {
-            MergeStep::End => return fitting::<R::Header>(alloc, made, count),
+            MergeStep::End => return if_rows_fit::<R::Header>(alloc, made, count),
             MergeStep::Keep(record, next_1, next_2) => {
                 count = add_rows(count, 1 + R::rows_after(&record.header));
                 made.push(record)?;
@@ -263,16 +263,16 @@ fn next_turn<'a, R: SectionRecord, U: PlacedUnion<R>>(
             return Ok(MergeStep::End);
         }
         let other = &second[at_2];
-        return Ok(MergeStep::Keep(copied(other), at_1, at_2 + 1));
+        return Ok(MergeStep::Keep(copy_of(other), at_1, at_2 + 1));
     }
     let one = &first[at_1];
     if at_2 >= second.len() {
-        return Ok(MergeStep::Keep(copied(one), at_1 + 1, at_2));
+        return Ok(MergeStep::Keep(copy_of(one), at_1 + 1, at_2));
     }
     let other = &second[at_2];
     match R::hash(&one.header).cmp(&R::hash(&other.header)) {
-        Ordering::Less => Ok(MergeStep::Keep(copied(one), at_1 + 1, at_2)),
-        Ordering::Greater => Ok(MergeStep::Keep(copied(other), at_1, at_2 + 1)),
+        Ordering::Less => Ok(MergeStep::Keep(copy_of(one), at_1 + 1, at_2)),
+        Ordering::Greater => Ok(MergeStep::Keep(copy_of(other), at_1, at_2 + 1)),
         Ordering::Equal => match U::make(alloc, arena, one, other)? {
             Some(made) => Ok(MergeStep::Keep(made, at_1 + 1, at_2 + 1)),
             None => Ok(MergeStep::Nothing),
@@ -281,7 +281,7 @@ fn next_turn<'a, R: SectionRecord, U: PlacedUnion<R>>(
 }
 
 /// A copy of a placed record.
-pub fn copied<'a, H: Copy>(placed: &PlacedRecord<'a, H>) -> PlacedRecord<'a, H>
+pub fn copy_of<'a, H: Copy>(placed: &PlacedRecord<'a, H>) -> PlacedRecord<'a, H>
     ensures { result ≡ placed.now }
 {
     PlacedRecord {
@@ -301,7 +301,7 @@ fn add_rows(rows: u64, more: u64) -> u64
 }
 
 // A list, if it does not have too many rows for a section.
-fn fitting<'a, H: Copy>(
+fn if_rows_fit<'a, H: Copy>(
     alloc: Global,
     made: Vec<PlacedRecord<'a, H>>,
     rows: u64,

@@ -10,7 +10,7 @@ ghost use Rattle.xet_core_structures.specs.Trees.Filling.{FillsWith};
 ghost use Rattle.xet_core_structures.specs.Steps.InVersions.{AreNumbered, IsPartIn, IsTooNew, IsNotWritten, GetsNumber};
 ghost use Rattle.xet_core_structures.specs.Steps.Parts.{IsPart};
 
-use super::parts::{Part, fill_with_part, part_bytes};
+use super::parts::{TreePart, fill_with_part, part_bytes};
 use super::placed::PlacedRecord;
 use std::alloc::Global;
 use xet_base::error::{CoreError, Result};
@@ -24,7 +24,7 @@ const VERSION_OFFSET: usize = 32;
 /// The bytes of a part of a tree in a version. Those of an input are in the version that they have.
 ///
 /// `InvalidArguments` if a union has an auxiliary row, and the version is 2, which has none.
-pub fn part_bytes_in(alloc: Global, part: Part<'_>, version: FormatVersion) -> Result<Vec<u8>>
+pub fn part_bytes_in(alloc: Global, part: TreePart<'_>, version: FormatVersion) -> Result<Vec<u8>>
     requires { (bytes : List ℕ) × IsPart bytes part }
     ensures { (bytes : List ℕ) → IsPart bytes part.entry → MatchResult result
         (λ written. IsPartIn version part.entry bytes written.items)
@@ -40,7 +40,7 @@ pub fn part_bytes_in(alloc: Global, part: Part<'_>, version: FormatVersion) -> R
 /// returns their number. The errors are the same.
 pub fn fill_with_part_in(
     alloc: Global,
-    part: Part<'_>,
+    part: TreePart<'_>,
     version: FormatVersion,
     out: &mut [u8],
 ) -> Result<usize>
@@ -58,13 +58,13 @@ pub fn fill_with_part_in(
 
 // Whether the bytes of a part get the number of version 2, to be in a version.
 // `InvalidArguments` if they would, and a file has an auxiliary row.
-fn gets_number_2(part: &Part<'_>, version: FormatVersion) -> Result<bool>
+fn gets_number_2(part: &TreePart<'_>, version: FormatVersion) -> Result<bool>
     ensures { (bytes : List ℕ) → IsPart bytes part.now → MatchResult result
         (GetsNumber version part.now bytes)
         (λ e. (e ≡ InvalidArguments) × IsTooNew version part.now bytes) }
 {
     match (version, part) {
-        (FormatVersion::V2, Part::United(shard)) => {
+        (FormatVersion::V2, TreePart::United(shard)) => {
             if have_aux_rows(shard.files.as_slice()) {
                 return Err(CoreError::InvalidArguments);
             }

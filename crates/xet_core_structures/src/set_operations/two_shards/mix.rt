@@ -18,7 +18,7 @@ use xet_records::file_copier::copy_segments;
 use xet_records::file_structs::{
     FileDataSequenceEntry, FileDataSequenceHeader, HashRow, MDBFileInfo, OptionalPart,
 };
-use xet_records::row_copier::{CopyFailure, CopyResult, copy_rows, write_row};
+use xet_records::row_copier::{CopyFailure, CopyResult, copy_rows, write_copied_row};
 use xet_records::row_reader::skip_rows;
 use xet_records::rows::Row;
 use xet_shards::shard_writer::{WrittenFiles, WrittenSection};
@@ -43,12 +43,12 @@ pub fn mix<S: ShardSource, T: ShardSource, W: Write>(
         (streams (S.meaning r1.new) (T.meaning r2.new) (W.contents out.new)) written.old.table.rows
         (HasWritten written.old) (HasWritten written.new) result }
 {
-    let header = first.mixed(&second);
+    let header = first.mix_with(&second);
     let rows = 1 + header.rows_after();
     if !written.has_room(rows) {
         return refuse::<MDBFileInfo, S, T>(alloc, Some(first), r1, Some(second), r2);
     }
-    write_row(&header, out)?;
+    write_copied_row(&header, out)?;
     let size = mix_rows::<S, T, W>(&first, r1, &second, r2, out)?;
     match written.add(first.file_hash.word0, rows, size) {
         Ok(()) => Ok(()),

@@ -27,7 +27,7 @@ pub(in crate::shard_format) fn read_header_at<S: ShardSource>(
         (RowFails offset row (S.meaning source.old) (S.meaning source.new)) }
 {
     seek_to_row(alloc, source, offset, u64::from(row))?;
-    read_row(source)
+    read_source_row(source)
 }
 
 /// Reads the run of hashes from the chunk at an index on of the xorb with this header, which is at
@@ -86,7 +86,7 @@ fn read_run<S: ShardSource>(
         if length == left {
             return Ok((length, bytes));
         }
-        let chunk: XorbChunkSequenceEntry = read_row(source)?;
+        let chunk: XorbChunkSequenceEntry = read_source_row(source)?;
         if info.keyed_chunk_hash(query_hash) != chunk.chunk_hash {
             return Ok((length, bytes));
         }
@@ -116,7 +116,7 @@ fn seek_to_row<S: ShardSource>(alloc: Global, source: &mut S, offset: u64, row: 
 
 // Reads a row at the source's position. Does not allocate. `UnexpectedEof` if fewer than 48 bytes
 // are left.
-fn read_row<T: Row, S: ShardSource>(source: &mut S) -> Result<T>
+fn read_source_row<T: Row, S: ShardSource>(source: &mut S) -> Result<T>
     ensures { MatchResult result
         (ReadsRow T.row_bytes T.Fits T.as_read
         (ReadsBytes (S.meaning source.old) (S.meaning source.new)))

@@ -8,7 +8,7 @@ ghost use Rattle.xet_shards.specs.Content.Shard.{Shard};
 ghost use Rattle.xet_shards.specs.Write.WrittenShard.{IsBytesOf};
 ghost use Rattle.xet_shards.specs.Read.FileRanges.{file_ranges, ranges_after, ranges_at, ReadsFileRanges, FileRangesFail};
 
-use super::section_walk::{Kept, walk_section};
+use super::section_walk::{WalkItem, walk_section};
 use crate::shard_format::ends::info::{MDBShardInfo, read_header};
 use std::alloc::Global;
 use xet_base::error::{CoreError, Result};
@@ -62,7 +62,7 @@ fn read_header_and_ranges<S: ShardSource>(alloc: Global, source: &mut S) -> Resu
     walk_section::<MDBFileInfo, FileRanges, S>(alloc, source, header.format_version())
 }
 
-impl Kept<MDBFileInfo> for FileRanges {
+impl WalkItem<MDBFileInfo> for FileRanges {
     ghost keep = { ranges_at };
 
     fn of_record(

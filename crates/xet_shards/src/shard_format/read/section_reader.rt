@@ -7,7 +7,7 @@ ghost use Rattle.xet_shards.specs.Read.SectionReading.{ReadsSection, SectionFail
 ghost use Rattle.xet_shards.specs.Lookup.Lookup.{ReadsInfo, ReadInfoFails};
 ghost use Rattle.xet_shards.specs.Read.XorbHeaders.{header_at, ReadsXorbHeaders};
 
-use super::section_walk::{Kept, walk_section};
+use super::section_walk::{WalkItem, walk_section};
 use std::alloc::Global;
 use xet_base::error::{CoreError, Result};
 use xet_base::input::OfSource;
@@ -77,7 +77,7 @@ pub(in crate::shard_format) fn read_xorb_headers<S: ShardSource>(
     walk_section::<MDBXorbInfo, (XorbChunkSequenceHeader, u64), S>(alloc, source, FormatVersion::V3)
 }
 
-impl Kept<MDBXorbInfo> for (XorbChunkSequenceHeader, u64) {
+impl WalkItem<MDBXorbInfo> for (XorbChunkSequenceHeader, u64) {
     ghost keep = { header_at };
 
     fn of_record(offset: u64, header: &XorbChunkSequenceHeader, _rest: ()) -> Self {

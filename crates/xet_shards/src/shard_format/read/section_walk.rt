@@ -14,23 +14,23 @@ use xet_base::source::ShardSource;
 use xet_records::record_reader::{FormatVersion, SectionRecord, read_header};
 
 /// What a walk keeps of a record.
-pub(in crate::shard_format) trait Kept<R: SectionRecord> {
+pub(in crate::shard_format) trait WalkItem<R: SectionRecord> {
     ghost keep: { ℕ → R → Self };
 
     /// What is kept of the record at an offset, from its header and what reading past the rows
     /// after it keeps.
-    fn of_record(offset: u64, header: &R::Header, rest: R::Kept) -> Self
+    fn of_record(offset: u64, header: &R::Header, rest: R::SkipValue) -> Self
         requires { offset + 48 * (1 + R.kind.rows_after header.now) < 2 ^ 64 }
         ensures { (r : R) → R.kind.header_of r ≡ header.now → R.kept r ≡ rest
             → result ≡ keep offset r };
 }
 
 /// Walks through the section from the source's position on.
-pub(in crate::shard_format) fn walk_section<R: SectionRecord, T: Kept<R> + Drop, S: ShardSource>(
-    alloc: Global,
-    source: &mut S,
-    version: FormatVersion,
-) -> Result<Vec<T>>
+pub(in crate::shard_format) fn walk_section<
+    R: SectionRecord,
+    T: WalkItem<R> + Drop,
+    S: ShardSource,
+>(alloc: Global, source: &mut S, version: FormatVersion) -> Result<Vec<T>>
     ensures { MatchResult result
         (λ found. KeepsSection (in_version R.kind version) T.keep (S.meaning source.old)
         (S.meaning source.new) found.items)
@@ -46,7 +46,7 @@ pub(in crate::shard_format) fn walk_section<R: SectionRecord, T: Kept<R> + Drop,
 }
 
 // Reads past the next record of a section and keeps something of it, or `None` at the bookend.
-fn keep_next<R: SectionRecord, T: Kept<R> + Drop, S: ShardSource>(
+fn keep_next<R: SectionRecord, T: WalkItem<R> + Drop, S: ShardSource>(
     alloc: Global,
     source: &mut S,
     version: FormatVersion,

@@ -15,7 +15,7 @@ use xet_base::error::{CoreError, Result};
 use xet_base::input::ByteInput;
 use xet_records::file_copier::copy_file_rows;
 use xet_records::file_structs::{FileDataSequenceHeader, MDBFileInfo};
-use xet_records::row_copier::{CopyFailure, CopyResult, write_row};
+use xet_records::row_copier::{CopyFailure, CopyResult, write_copied_row};
 
 impl WrittenFiles {
     /// Adds the next file, whose record is written elsewhere, by the first word of its hash, the
@@ -73,7 +73,7 @@ impl WrittenSection for WrittenFiles {
         writer: &mut W,
         header: FileDataSequenceHeader,
     ) -> CopyResult<()> {
-        write_row(&header, writer)?;
+        write_copied_row(&header, writer)?;
         let size = copy_file_rows::<M, I, W>(input, writer, header)?;
         let rows = 1 + header.rows_after();
         match self.add(header.file_hash.word0, rows, size) {

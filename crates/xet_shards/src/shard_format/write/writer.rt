@@ -226,12 +226,12 @@ fn footer_of(
     let row_size = ROW_SIZE as u64;
     let xorb_info_offset = HEADER_SIZE + row_size * files.table.rows + row_size;
     let file_lookup_offset = xorb_info_offset + row_size * xorbs.table.rows + row_size;
-    let file_starts = rows_in(options.file_table, files.table.records);
+    let file_starts = rows_if_included(options.file_table, files.table.records);
     let xorb_lookup_offset = file_lookup_offset + 12 * file_starts;
-    let xorb_starts = rows_in(options.xorb_table, xorbs.table.records);
+    let xorb_starts = rows_if_included(options.xorb_table, xorbs.table.records);
     let chunk_lookup_offset = xorb_lookup_offset + 12 * xorb_starts;
     // Each row of the xorb section that is no header is a chunk.
-    let chunks = rows_in(options.chunk_table, xorbs.table.rows - xorbs.table.records);
+    let chunks = rows_if_included(options.chunk_table, xorbs.table.rows - xorbs.table.records);
     let footer = MDBShardFileFooter {
         file_info_offset: HEADER_SIZE,
         xorb_info_offset,
@@ -255,7 +255,7 @@ fn footer_of(
 }
 
 // The rows of a table if it is in, else 0.
-fn rows_in(is_in: bool, rows: u64) -> u64
+fn rows_if_included(is_in: bool, rows: u64) -> u64
     ensures { result ≡ (if is_in then rows else 0) }
 {
     if is_in { rows } else { 0 }

@@ -20,7 +20,7 @@ use std::io::Write;
 use xet_base::error::{CoreError, Result};
 use xet_base::fields::{put_u32, put_u64};
 use xet_base::input::ByteInput;
-use xet_records::row_copier::{CopyFailure, CopyResult, copy_row, write_row};
+use xet_records::row_copier::{CopyFailure, CopyResult, copy_row, write_copied_row};
 use xet_records::xorb_structs::{MDBXorbInfo, XorbChunkSequenceEntry, XorbChunkSequenceHeader};
 
 /// A row of the chunk table: the first word of a chunk's hash, the row at which its xorb starts,
@@ -134,7 +134,7 @@ impl WrittenSection for WrittenXorbs {
         writer: &mut W,
         header: XorbChunkSequenceHeader,
     ) -> CopyResult<()> {
-        write_row(&header, writer)?;
+        write_copied_row(&header, writer)?;
         let row = match self.add(&header) {
             Ok(row) => row,
             Err(error) => return Err(CopyFailure::Output(error)),

@@ -25,12 +25,12 @@ returns c =
     let ascends = subst WordsAscend c.as_slice.ensures.value (c.words_ascend.ensures.0 up) in
     let reads = c.in_ok-found.ensures.ok in
     let reads_written = c.in_ok-written.ensures.ok in
-    let sorts : IsSortedOf c.in_ok-found.found.items c.sorted-sorted.result.items = c.sorted-sorted.ensures in
+    let sorts : IsSortedOf c.in_ok-found.found.items c.sort_rows-sorted.result.items = c.sort_rows-sorted.ensures in
     let written = c.args.written.now in
     let found = c.args.found.now in
     let rows = c.in_ok-found.found.items in
     let others = c.in_ok-written.written.items in
-    let sorted = c.sorted-sorted.result.items in (
+    let sorted = c.sort_rows-sorted.result.items in (
       λ yes. reordered written found c.requires rows c.if-found-written.false reads others sorted reads_written sorts ascends
           (sym c.as_slice-2.ensures.value ∙ c.are_equal.ensures.0 yes ∙ c.as_slice-3.ensures.value),
       λ is. c.are_equal.ensures.1 (c.as_slice-2.ensures.value ∙ sorted_same written found c.requires rows c.if-found-written.false reads others sorted reads_written sorts is ∙ sym c.as_slice-3.ensures.value),

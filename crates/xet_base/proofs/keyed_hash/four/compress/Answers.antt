@@ -9,12 +9,12 @@ rounds v w m n states words = λ i. mix_diagonals (mix_columns (states i) (words
 pub returns : goal.returns
 unfolding state_after message_after
 returns c j h =
-    let second = c.permuted-second.ensures j h in
-    let third = c.permuted-third.ensures j h ∙ ap next_message second in
-    let fourth = c.permuted-fourth.ensures j h ∙ ap next_message third in
-    let fifth = c.permuted-fifth.ensures j h ∙ ap next_message fourth in
-    let sixth = c.permuted-sixth.ensures j h ∙ ap next_message fifth in
-    let seventh = c.permuted-seventh.ensures j h ∙ ap next_message sixth in
+    let second = c.permute-second.ensures j h in
+    let third = c.permute-third.ensures j h ∙ ap next_message second in
+    let fourth = c.permute-fourth.ensures j h ∙ ap next_message third in
+    let fifth = c.permute-fifth.ensures j h ∙ ap next_message fourth in
+    let sixth = c.permute-sixth.ensures j h ∙ ap next_message fifth in
+    let seventh = c.permute-seventh.ensures j h ∙ ap next_message sixth in
     let one = c.round-states.ensures j h in
     let two = c.round-states-2.ensures j h ∙ rounds _ _ _ _ one second in
     let three = c.round-states-3.ensures j h ∙ rounds _ _ _ _ two third in

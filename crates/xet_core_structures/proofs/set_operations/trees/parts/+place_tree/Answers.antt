@@ -3,7 +3,7 @@ use Rattle.std.specs.Borrow.{Bor}
 use Rattle.std.specs.Prelude.{MatchResult}
 use Rattle.xet_core_structures.specs.Trees.MergeTrees.{TreeWrites, TreeRefusal}
 use Rattle.xet_core_structures.specs.Steps.Parts.{IsPartOf, IsUnionPart}
-use Rattle.xet_core_structures.specs.declared.set_operations.trees.parts.Part.TheVariants.{Input}
+use Rattle.xet_core_structures.specs.declared.set_operations.trees.parts.TreePart.TheVariants.{Input}
 use Rattle.xet_core_structures.proofs.Trees.Parts.{both_parts, part_of_tree}
 use Rattle.xet_core_structures.proofs.Trees.RangeTrees.{at_input}
 use Rattle.xet_core_structures.proofs.set_operations.trees.parts.+place_tree.Goals as goal

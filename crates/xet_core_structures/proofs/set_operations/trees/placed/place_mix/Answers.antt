@@ -4,7 +4,7 @@ use Rattle.xet_core_structures.proofs.set_operations.trees.placed.place_mix.Goal
 
 pub returns : goal.returns
 returns c = (
-  c.mixed-header.ensures,
-  λ r s one other. mix_placed c.args.first.now c.args.second.now c.requires.hash c.requires.count _ c.mixed-header.ensures r s one other
+  c.mix_with-header.ensures,
+  λ r s one other. mix_placed c.args.first.now c.args.second.now c.requires.hash c.requires.count _ c.mix_with-header.ensures r s one other
       (c.in_ok-rows.ensures ∙ c.as_slice.ensures.value ∙ c.in_ok-bytes.ensures r s one other),
 )

@@ -12,7 +12,7 @@ pub returns-in-End : goal.returns-in-End
 returns-in-End g c = λ xs ys first second.
     let turn = subst (IsMergeStep g.R.SectionRecord.kind g.U.PlacedUnion.makes c.args.first.now c.loop-made.at_1 c.args.second.now c.loop-made.at_2) c.in-End.is c.in_ok-next_turn.ensures in
     united g.R.SectionRecord.kind c.laws.ensures g.U.PlacedUnion.makes xs ys (drop c.loop-made.at_1 c.args.first.now) (drop c.loop-made.at_2 c.args.second.now) c.loop-made.made.items c.loop-made.count (c.loop-made.invariant xs ys first second)
-    turn.0 turn.1 (λ made. made.items) c.loop-made.made refl c.fitting.result c.fitting.ensures
+    turn.0 turn.1 (λ made. made.items) c.loop-made.made refl c.if_rows_fit.result c.if_rows_fit.ensures
 
 pub loop-made-preserved : goal.loop-made-preserved
 loop-made-preserved g c = λ xs ys first second.

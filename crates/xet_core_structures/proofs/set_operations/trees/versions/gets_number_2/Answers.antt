@@ -2,7 +2,7 @@ use Rattle.std.proofs.Common.{true, refl, sym, ap, ◌∙◌, subst}
 use Rattle.std.specs.List.{list_any}
 use Rattle.xet_records.specs.declared.record_reader.FormatVersion.{FormatVersion}
 use Rattle.xet_records.specs.FileRecord.{has_aux_ext}
-use Rattle.xet_core_structures.specs.declared.set_operations.trees.parts.Part.{Part}
+use Rattle.xet_core_structures.specs.declared.set_operations.trees.parts.TreePart.{TreePart}
 use Rattle.xet_core_structures.specs.Steps.InVersions.{IsTooNew, GetsNumber}
 use Rattle.xet_core_structures.specs.Steps.Parts.{IsPart}
 use Rattle.xet_core_structures.proofs.Trees.InVersions.{union_numbered, union_too_new}
@@ -12,10 +12,10 @@ pub returns-then-have_aux_rows : goal.returns-then-have_aux_rows
 returns-then-have_aux_rows c = λ bytes is.
     let case = c.in-V2-United in
     let found = sym (c.have_aux_rows.ensures ∙ ap (list_any (λ p. has_aux_ext p.header.file_flags)) c.as_slice.ensures.value) ∙ c.if-have_aux_rows.true in
-    (refl, subst (λ (q : FormatVersion × Part). IsTooNew q.0 q.1 bytes) (λ i. (sym case.is-0 i, sym case.is-1 i)) (union_too_new bytes case.shard (subst (IsPart bytes) case.is-1 is) found))
+    (refl, subst (λ (q : FormatVersion × TreePart). IsTooNew q.0 q.1 bytes) (λ i. (sym case.is-0 i, sym case.is-1 i)) (union_too_new bytes case.shard (subst (IsPart bytes) case.is-1 is) found))
 
 pub returns-else-have_aux_rows : goal.returns-else-have_aux_rows
 returns-else-have_aux_rows c = λ bytes is.
     let case = c.in-V2-United in
     let found = sym (c.have_aux_rows.ensures ∙ ap (list_any (λ p. has_aux_ext p.header.file_flags)) c.as_slice.ensures.value) ∙ c.if-have_aux_rows.false in
-    subst (λ (q : FormatVersion × Part). GetsNumber q.0 q.1 bytes true) (λ i. (sym case.is-0 i, sym case.is-1 i)) (union_numbered bytes case.shard (subst (IsPart bytes) case.is-1 is) found)
+    subst (λ (q : FormatVersion × TreePart). GetsNumber q.0 q.1 bytes true) (λ i. (sym case.is-0 i, sym case.is-1 i)) (union_numbered bytes case.shard (subst (IsPart bytes) case.is-1 is) found)

@@ -60,7 +60,7 @@ returns g c =
     let next = rows_after_header g.R.SectionRecord.kind c.laws.ensures c.args.version _ _ _ _ _ c.in-Some.header r (ReadsBytes-trans start mid now) begun c.requires read in
     let same : K.header_of r ≡ c.in-Some.header = ap K.header_of (sym read.returned) ∙ c.laws.ensures.same_header read.stored ∙ read.same_header in (
       r,
-      c.of_record.ensures r same skipped.1 ∙ ap (λ n. g.T.Kept.keep n r) c.in_ok-offset.ensures.0,
+      c.of_record.ensures r same skipped.1 ∙ ap (λ n. g.T.WalkItem.keep n r) c.in_ok-offset.ensures.0,
       subst (λ s. ReadsNext K (meaning c.args.source.now) s c.args.rows_left.now c.read_header.new.rows_left r) (sym c.in_ok-position.ensures.1)
           (subst (λ s. ReadsNext K s now c.args.rows_left.now c.read_header.new.rows_left r) c.in_ok-offset.ensures.1 next),
     )

@@ -1,5 +1,0 @@
-use Rattle.std.proofs.Common.{◌≡◌, ◌*◌, take, sum_by}
-use Rattle.xet_shards.proofs.streaming_shard.minimal_shard.bytes_of.Given as goal
-
-abbrev pub invariant-loop-view : goal.invariant-loop-view
-invariant-loop-view g l = l.bytes ≡ 48 * sum_by (g.V.KeptView.rows l.kept) (take l.view-index l.views)
