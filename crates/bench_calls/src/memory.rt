@@ -45,7 +45,7 @@ pub fn serialize(alloc: Global, shard: &[u8], times: u64) -> Result<Vec<u8>>
     for _ in 1..times {
         let _again = shard.to_bytes(alloc)?;
     }
-    bytes_of(alloc, &shard)
+    shard_to_bytes(alloc, &shard)
 }
 
 /// Unites two shards that are in memory. The answer is the bytes of the union.
@@ -57,7 +57,7 @@ pub fn unite(alloc: Global, first: &[u8], second: &[u8], times: u64) -> Result<V
     for _ in 1..times {
         let _again = first.union(alloc, &second)?;
     }
-    bytes_of(alloc, &first.union(alloc, &second)?)
+    shard_to_bytes(alloc, &first.union(alloc, &second)?)
 }
 
 /// Makes a shard of the second's records that the first does not have. The answer is its bytes.
@@ -69,7 +69,7 @@ pub fn subtract(alloc: Global, first: &[u8], second: &[u8], times: u64) -> Resul
     for _ in 1..times {
         let _again = first.difference(alloc, &second)?;
     }
-    bytes_of(alloc, &first.difference(alloc, &second)?)
+    shard_to_bytes(alloc, &first.difference(alloc, &second)?)
 }
 
 /// Copies a shard that is in memory. The answer is the bytes of the copy.
@@ -80,7 +80,7 @@ pub fn copy(alloc: Global, shard: &[u8], times: u64) -> Result<Vec<u8>>
     for _ in 1..times {
         let _again = shard.try_clone(alloc)?;
     }
-    bytes_of(alloc, &shard.try_clone(alloc)?)
+    shard_to_bytes(alloc, &shard.try_clone(alloc)?)
 }
 
 /// Queries each run of `QUERY_LENGTH` hashes. The answer is the number of chunks in the runs that
@@ -106,7 +106,7 @@ fn count_chunks(shard: &MDBInMemoryShard, hashes: &[MerkleHash]) -> u64 {
     chunks
 }
 
-fn bytes_of(alloc: Global, shard: &MDBInMemoryShard) -> Result<Vec<u8>>
+fn shard_to_bytes(alloc: Global, shard: &MDBInMemoryShard) -> Result<Vec<u8>>
     ensures { IfOk result (λ bytes. AreBytesOfSome bytes.items) }
 {
     shard.to_bytes(alloc)

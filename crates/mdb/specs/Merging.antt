@@ -50,9 +50,9 @@ SaysNotMerged version inputs = SaysCause
     (λ e. InputsRefusal inputs e ⊎ RefusedIn version (MergesBytes inputs) (RefusesMerge inputs) e)
 
 -- why inputs have no merge in a version
-abbrev pub RefusesUnion : Strictness → FormatVersion → List (Bor (List ℕ)) → List (List ℕ) → Failure
+abbrev pub UnionFails : Strictness → FormatVersion → List (Bor (List ℕ)) → List (List ℕ) → Failure
     → Type 0
-RefusesUnion Lenient version files inputs failure = SaysNotMerged version inputs failure
-RefusesUnion Strict version files inputs failure =
+UnionFails Lenient version files inputs failure = SaysNotMerged version inputs failure
+UnionFails Strict version files inputs failure =
     SaysMalformed files inputs failure ⊎ SaysDisagree inputs failure
     ⊎ SaysNotMerged version inputs failure

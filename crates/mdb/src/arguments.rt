@@ -3,8 +3,8 @@
 use crate::files::STANDARD_STREAM;
 use crate::gc::DEFAULT_MEMORY;
 use crate::request::{
-    Collection, Compaction, HashList, Making, Merge, NewExpiry, Printing, Removal, Reporting,
-    Request, Sort, Sources, Strictness, Target,
+    Collection, Compaction, HashList, MakeCommand, Merge, NewExpiry, OverviewOptions, PrintOptions,
+    Removal, Request, Sort, Sources, Strictness, Target,
 };
 use crate::{command_line, id};
 use clap::error::ErrorKind;
@@ -12,7 +12,7 @@ use clap::{ArgMatches, Error};
 use mdb_report::inquiry::{Checks, Inquiry};
 use mdb_report::line::Style;
 use mdb_report::moment::seconds_of;
-use mdb_report::size::bytes_of;
+use mdb_report::size::parse_size;
 use shard_bytes::combine::Operation;
 use shard_bytes::export::{Export, ExportParts};
 use shard_bytes::minimal::{KeptXorbs, Subset};
@@ -23,7 +23,7 @@ use xet_records::record_reader::FormatVersion;
 
 /// Why words are no request.
 #[derive(Drop)]
-enum Refusal<'a> {
+enum RequestFault<'a> {
     OutOfMemory,
     /// The argument with this id lacks a value that it has to have.
     Missing(&'static str),
@@ -37,15 +37,15 @@ enum Refusal<'a> {
     InputTwice,
 }
 
-impl From<AllocError> for Refusal<'_> {
+impl From<AllocError> for RequestFault<'_> {
     fn from(_error: AllocError) -> Self {
-        Refusal::OutOfMemory
+        RequestFault::OutOfMemory
     }
 }
 
-impl<T: Drop> From<AllocFailed<T>> for Refusal<'_> {
+impl<T: Drop> From<AllocFailed<T>> for RequestFault<'_> {
     fn from(_error: AllocFailed<T>) -> Self {
-        Refusal::OutOfMemory
+        RequestFault::OutOfMemory
     }
 }
 
@@ -61,7 +61,7 @@ pub fn request_of<'a>(
     let matches = command.try_get_matches_from_mut(words)?;
     match request_in(alloc, &matches, now) {
         Ok(request) => Ok(request),
-        Err(refusal) => Err(error_of(alloc, &matches, &refusal)?),
+        Err(fault) => Err(error_of(alloc, &matches, &fault)?),
     }
 }
 
@@ -69,9 +69,9 @@ pub fn request_of<'a>(
 fn error_of(
     alloc: Global,
     matches: &ArgMatches<'_>,
-    refusal: &Refusal<'_>,
+    fault: &RequestFault<'_>,
 ) -> Result<Error, Error> {
-    let message = message_of(alloc, refusal)?;
+    let message = message_of(alloc, fault)?;
     let name = match matches.subcommand() {
         Some((name, _)) => name,
         None => "",
@@ -80,22 +80,22 @@ fn error_of(
     Ok(command.error(ErrorKind::ValueValidation, message.as_str())?)
 }
 
-fn message_of(alloc: Global, refusal: &Refusal<'_>) -> Result<String, AllocError> {
-    match refusal {
-        Refusal::OutOfMemory => String::from_str(alloc, "out of memory"),
-        Refusal::Missing(id) => format!(in alloc; "{id} is missing"),
-        Refusal::NoHash(word) => {
+fn message_of(alloc: Global, fault: &RequestFault<'_>) -> Result<String, AllocError> {
+    match fault {
+        RequestFault::OutOfMemory => String::from_str(alloc, "out of memory"),
+        RequestFault::Missing(id) => format!(in alloc; "{id} is missing"),
+        RequestFault::NoHash(word) => {
             format!(in alloc; "'{word}' is no hash: it has 64 hexadecimal digits")
         }
-        Refusal::NoTime(word) => {
+        RequestFault::NoTime(word) => {
             format!(in alloc;
                 "'{word}' is no time: it is seconds since 1970, or as 2024-01-31T12:00:00Z"
             )
         }
-        Refusal::NoSize(word) => {
+        RequestFault::NoSize(word) => {
             format!(in alloc; "'{word}' is no size: it is a number of bytes, or as 64K, 256M, 2G")
         }
-        Refusal::InputTwice => String::from_str(alloc, "standard input can be read only once"),
+        RequestFault::InputTwice => String::from_str(alloc, "standard input can be read only once"),
     }
 }
 
@@ -103,12 +103,12 @@ fn request_in<'a>(
     alloc: Global,
     matches: &ArgMatches<'a>,
     now: Option<u64>,
-) -> Result<Request<'a>, Refusal<'a>> {
+) -> Result<Request<'a>, RequestFault<'a>> {
     let Some((name, matches)) = matches.subcommand() else {
-        return Err(Refusal::Missing("a command"));
+        return Err(RequestFault::Missing("a command"));
     };
     if is_input_named_twice(matches) {
-        return Err(Refusal::InputTwice);
+        return Err(RequestFault::InputTwice);
     }
     if name == "merge" {
         let sources = sources_in(alloc, matches)?;
@@ -127,8 +127,8 @@ fn request_in<'a>(
 fn reporting_in<'a>(
     matches: &ArgMatches<'a>,
     now: Option<u64>,
-) -> Result<Reporting<'a>, Refusal<'a>> {
-    Ok(Reporting {
+) -> Result<OverviewOptions<'a>, RequestFault<'a>> {
+    Ok(OverviewOptions {
         output: text_of(matches, id::OUTPUT)?,
         memory: size_in(matches, id::MEMORY)?.unwrap_or(DEFAULT_MEMORY),
         now: time_in(matches, id::NOW)?.or(now),
@@ -157,7 +157,7 @@ fn inspection_in<'a>(
     name: &str,
     matches: &ArgMatches<'a>,
     now: Option<u64>,
-) -> Result<Request<'a>, Refusal<'a>> {
+) -> Result<Request<'a>, RequestFault<'a>> {
     let printing = printing_in(matches, now)?;
     match name {
         "gc" => {
@@ -187,8 +187,11 @@ fn inspection_in<'a>(
     }
 }
 
-fn printing_in<'a>(matches: &ArgMatches<'a>, now: Option<u64>) -> Result<Printing, Refusal<'a>> {
-    Ok(Printing {
+fn printing_in<'a>(
+    matches: &ArgMatches<'a>,
+    now: Option<u64>,
+) -> Result<PrintOptions, RequestFault<'a>> {
+    Ok(PrintOptions {
         style: if matches.get_flag(id::JSON) {
             Style::Json
         } else {
@@ -210,14 +213,14 @@ fn printing_in<'a>(matches: &ArgMatches<'a>, now: Option<u64>) -> Result<Printin
 fn lookup_in<'a>(
     alloc: Global,
     matches: &ArgMatches<'a>,
-) -> Result<(Sources<'a>, Vec<MerkleHash>), Refusal<'a>> {
+) -> Result<(Sources<'a>, Vec<MerkleHash>), RequestFault<'a>> {
     let mut sources = sources_in(alloc, matches)?;
     if matches.contains_id(id::HASHES) || sources.hashes.is_some() {
         let hashes = given_hashes(alloc, matches, id::HASHES)?;
         return Ok((sources, hashes));
     }
     if sources.list.is_some() || sources.words.len() < 2 {
-        return Err(Refusal::Missing(id::HASHES));
+        return Err(RequestFault::Missing(id::HASHES));
     }
     let hashes = hashes_of(alloc, &sources.words.as_slice()[1..])?;
     sources.words.truncate(1);
@@ -229,7 +232,7 @@ fn given_hashes<'a>(
     alloc: Global,
     matches: &ArgMatches<'a>,
     id: &'static str,
-) -> Result<Vec<MerkleHash>, Refusal<'a>> {
+) -> Result<Vec<MerkleHash>, RequestFault<'a>> {
     if !matches.contains_id(id) {
         return Ok(Vec::new(alloc));
     }
@@ -250,7 +253,10 @@ fn end_in(matches: &ArgMatches<'_>) -> u8 {
     if matches.get_flag(id::NULL) { 0 } else { b'\n' }
 }
 
-fn sources_in<'a>(alloc: Global, matches: &ArgMatches<'a>) -> Result<Sources<'a>, Refusal<'a>> {
+fn sources_in<'a>(
+    alloc: Global,
+    matches: &ArgMatches<'a>,
+) -> Result<Sources<'a>, RequestFault<'a>> {
     let words = if matches.contains_id(id::FILE) {
         texts_of(alloc, matches, id::FILE)?
     } else {
@@ -265,7 +271,7 @@ fn sources_in<'a>(alloc: Global, matches: &ArgMatches<'a>) -> Result<Sources<'a>
 }
 
 // The inquiry of a command that is not a lookup.
-fn inquiry_in<'a>(name: &str, matches: &ArgMatches<'a>) -> Result<Inquiry, Refusal<'a>> {
+fn inquiry_in<'a>(name: &str, matches: &ArgMatches<'a>) -> Result<Inquiry, RequestFault<'a>> {
     let long = matches.get_flag(id::LONG);
     match name {
         "info" if matches.get_flag(id::BRIEF) => Ok(Inquiry::Brief),
@@ -278,17 +284,17 @@ fn inquiry_in<'a>(name: &str, matches: &ArgMatches<'a>) -> Result<Inquiry, Refus
         })),
         "name" => match hash_key_in(matches)? {
             Some(key) => Ok(Inquiry::Name { key }),
-            None => Err(Refusal::Missing(id::HASH_KEY)),
+            None => Err(RequestFault::Missing(id::HASH_KEY)),
         },
         "files" => Ok(Inquiry::Files { long }),
         "xorbs" => Ok(Inquiry::Xorbs { long }),
         "chunks" => Ok(Inquiry::Chunks { long }),
         "eligible" => Ok(Inquiry::Eligible),
-        _ => Err(Refusal::Missing("a command")),
+        _ => Err(RequestFault::Missing("a command")),
     }
 }
 
-fn hash_key_in<'a>(matches: &ArgMatches<'a>) -> Result<Option<MerkleHash>, Refusal<'a>> {
+fn hash_key_in<'a>(matches: &ArgMatches<'a>) -> Result<Option<MerkleHash>, RequestFault<'a>> {
     match matches.get_str(id::HASH_KEY) {
         Some(text) => Ok(Some(hash_of(text)?)),
         None => Ok(None),
@@ -301,12 +307,12 @@ fn making_in<'a>(
     name: &str,
     matches: &ArgMatches<'a>,
     now: Option<u64>,
-) -> Result<Option<Making<'a>>, Refusal<'a>> {
+) -> Result<Option<MakeCommand<'a>>, RequestFault<'a>> {
     let making = match name {
         "union" => pair_in(Operation::Union, matches)?,
         "diff" => pair_in(Operation::Difference, matches)?,
-        "export" => Making::Export(text_of(matches, id::FILE)?, export_in(matches, now)?),
-        "minimal" => Making::Minimal(
+        "export" => MakeCommand::Export(text_of(matches, id::FILE)?, export_in(matches, now)?),
+        "minimal" => MakeCommand::Minimal(
             text_of(matches, id::FILE)?,
             now_in(matches, now)?,
             KeptParts {
@@ -314,23 +320,26 @@ fn making_in<'a>(
                 aux_ext: !matches.get_flag(id::NO_AUX),
             },
         ),
-        "subset" => Making::Subset(
+        "subset" => MakeCommand::Subset(
             text_of(matches, id::FILE)?,
             subset_in(alloc, matches, now)?,
             hash_list_in(matches),
             expiry_in(matches)?,
         ),
-        "drop" => Making::Drop(removal_in(alloc, matches)?),
-        "make" => Making::Records(text_of(matches, id::FILE)?, time_in(matches, id::EXPIRY)?),
+        "drop" => MakeCommand::Drop(removal_in(alloc, matches)?),
+        "make" => MakeCommand::Records(text_of(matches, id::FILE)?, time_in(matches, id::EXPIRY)?),
         _ => return Ok(None),
     };
     Ok(Some(making))
 }
 
-fn removal_in<'a>(alloc: Global, matches: &ArgMatches<'a>) -> Result<Removal<'a>, Refusal<'a>> {
+fn removal_in<'a>(
+    alloc: Global,
+    matches: &ArgMatches<'a>,
+) -> Result<Removal<'a>, RequestFault<'a>> {
     let list = hash_list_in(matches);
     if list.is_none() && !matches.contains_id(id::HASHES) {
-        return Err(Refusal::Missing(id::HASHES));
+        return Err(RequestFault::Missing(id::HASHES));
     }
     Ok(Removal {
         file: text_of(matches, id::FILE)?,
@@ -340,17 +349,20 @@ fn removal_in<'a>(alloc: Global, matches: &ArgMatches<'a>) -> Result<Removal<'a>
     })
 }
 
-fn pair_in<'a>(operation: Operation, matches: &ArgMatches<'a>) -> Result<Making<'a>, Refusal<'a>> {
+fn pair_in<'a>(
+    operation: Operation,
+    matches: &ArgMatches<'a>,
+) -> Result<MakeCommand<'a>, RequestFault<'a>> {
     let first = text_of(matches, id::FIRST)?;
     let second = text_of(matches, id::SECOND)?;
-    Ok(Making::Combine(operation, first, second))
+    Ok(MakeCommand::Combine(operation, first, second))
 }
 
-fn merge_in<'a>(matches: &ArgMatches<'a>, now: Option<u64>) -> Result<Merge<'a>, Refusal<'a>> {
+fn merge_in<'a>(matches: &ArgMatches<'a>, now: Option<u64>) -> Result<Merge<'a>, RequestFault<'a>> {
     let drops_expired = matches.get_flag(id::DROP_EXPIRED);
     let now = time_in(matches, id::NOW)?.or(now);
     if drops_expired && now.is_none() {
-        return Err(Refusal::Missing(id::NOW));
+        return Err(RequestFault::Missing(id::NOW));
     }
     Ok(Merge {
         target: target_in(matches)?,
@@ -367,7 +379,7 @@ fn merge_in<'a>(matches: &ArgMatches<'a>, now: Option<u64>) -> Result<Merge<'a>,
 }
 
 // How shards are merged in groups, if a folder for the merges is given.
-fn compaction_in<'a>(matches: &ArgMatches<'a>) -> Result<Option<Compaction>, Refusal<'a>> {
+fn compaction_in<'a>(matches: &ArgMatches<'a>) -> Result<Option<Compaction>, RequestFault<'a>> {
     if !matches.contains_id(id::GROUPS) {
         return Ok(None);
     }
@@ -377,22 +389,25 @@ fn compaction_in<'a>(matches: &ArgMatches<'a>) -> Result<Option<Compaction>, Ref
             hash_key,
             remove_inputs: matches.get_flag(id::REMOVE_INPUTS),
         })),
-        (None, _) => Err(Refusal::Missing(id::MAX_SIZE)),
-        (_, None) => Err(Refusal::Missing(id::HASH_KEY)),
+        (None, _) => Err(RequestFault::Missing(id::MAX_SIZE)),
+        (_, None) => Err(RequestFault::Missing(id::HASH_KEY)),
     }
 }
 
-fn size_in<'a>(matches: &ArgMatches<'a>, id: &'static str) -> Result<Option<u64>, Refusal<'a>> {
+fn size_in<'a>(
+    matches: &ArgMatches<'a>,
+    id: &'static str,
+) -> Result<Option<u64>, RequestFault<'a>> {
     match matches.get_str(id) {
-        Some(text) => match bytes_of(text) {
+        Some(text) => match parse_size(text) {
             Some(bytes) => Ok(Some(bytes)),
-            None => Err(Refusal::NoSize(text)),
+            None => Err(RequestFault::NoSize(text)),
         },
         None => Ok(None),
     }
 }
 
-fn target_in<'a>(matches: &ArgMatches<'a>) -> Result<Target<'a>, Refusal<'a>> {
+fn target_in<'a>(matches: &ArgMatches<'a>) -> Result<Target<'a>, RequestFault<'a>> {
     let version = match matches.get_str(id::VERSION) {
         Some("2") => FormatVersion::V2,
         _ => FormatVersion::V3,
@@ -404,7 +419,7 @@ fn target_in<'a>(matches: &ArgMatches<'a>) -> Result<Target<'a>, Refusal<'a>> {
 }
 
 // The path to write to: of a merge by keys a folder.
-fn output_in<'a>(matches: &ArgMatches<'a>) -> Result<&'a str, Refusal<'a>> {
+fn output_in<'a>(matches: &ArgMatches<'a>) -> Result<&'a str, RequestFault<'a>> {
     match (matches.get_str(id::FOLDER), matches.get_str(id::GROUPS)) {
         (Some(folder), _) | (None, Some(folder)) => Ok(folder),
         (None, None) => text_of(matches, id::OUTPUT),
@@ -421,7 +436,7 @@ fn strictness_in(matches: &ArgMatches<'_>) -> Strictness {
     }
 }
 
-fn export_in<'a>(matches: &ArgMatches<'a>, now: Option<u64>) -> Result<Export, Refusal<'a>> {
+fn export_in<'a>(matches: &ArgMatches<'a>, now: Option<u64>) -> Result<Export, RequestFault<'a>> {
     Ok(Export {
         key: hash_of(text_of(matches, id::KEY)?)?,
         now: now_in(matches, now)?,
@@ -439,7 +454,7 @@ fn subset_in<'a>(
     alloc: Global,
     matches: &ArgMatches<'a>,
     now: Option<u64>,
-) -> Result<Subset, Refusal<'a>> {
+) -> Result<Subset, RequestFault<'a>> {
     let kept = if matches.contains_id(id::XORBS) {
         let texts = texts_of(alloc, matches, id::XORBS)?;
         KeptXorbs::Listed(hashes_of(alloc, texts.as_slice())?)
@@ -453,22 +468,22 @@ fn subset_in<'a>(
     })
 }
 
-fn text_of<'a>(matches: &ArgMatches<'a>, id: &'static str) -> Result<&'a str, Refusal<'a>> {
-    matches.get_str(id).ok_or(Refusal::Missing(id))
+fn text_of<'a>(matches: &ArgMatches<'a>, id: &'static str) -> Result<&'a str, RequestFault<'a>> {
+    matches.get_str(id).ok_or(RequestFault::Missing(id))
 }
 
 // The time of creation, which is now if it is left out.
-fn now_in<'a>(matches: &ArgMatches<'a>, now: Option<u64>) -> Result<u64, Refusal<'a>> {
+fn now_in<'a>(matches: &ArgMatches<'a>, now: Option<u64>) -> Result<u64, RequestFault<'a>> {
     match time_in(matches, id::NOW)? {
         Some(time) => Ok(time),
-        None => now.ok_or(Refusal::Missing(id::NOW)),
+        None => now.ok_or(RequestFault::Missing(id::NOW)),
     }
 }
 
 // The word of an expiry for the earliest one.
 const EARLIEST: &str = "min";
 
-fn expiry_in<'a>(matches: &ArgMatches<'a>) -> Result<NewExpiry, Refusal<'a>> {
+fn expiry_in<'a>(matches: &ArgMatches<'a>) -> Result<NewExpiry, RequestFault<'a>> {
     if matches.get_str(id::EXPIRY) == Some(EARLIEST) {
         return Ok(NewExpiry::Earliest);
     }
@@ -478,32 +493,35 @@ fn expiry_in<'a>(matches: &ArgMatches<'a>) -> Result<NewExpiry, Refusal<'a>> {
     }
 }
 
-fn time_in<'a>(matches: &ArgMatches<'a>, id: &'static str) -> Result<Option<u64>, Refusal<'a>> {
+fn time_in<'a>(
+    matches: &ArgMatches<'a>,
+    id: &'static str,
+) -> Result<Option<u64>, RequestFault<'a>> {
     match matches.get_str(id) {
         Some(text) => match seconds_of(text) {
             Some(seconds) => Ok(Some(seconds)),
-            None => Err(Refusal::NoTime(text)),
+            None => Err(RequestFault::NoTime(text)),
         },
         None => Ok(None),
     }
 }
 
-fn number_of<'a>(matches: &ArgMatches<'a>, id: &'static str) -> Result<u64, Refusal<'a>> {
-    matches.get_one::<u64>(id).ok_or(Refusal::Missing(id))
+fn number_of<'a>(matches: &ArgMatches<'a>, id: &'static str) -> Result<u64, RequestFault<'a>> {
+    matches.get_one::<u64>(id).ok_or(RequestFault::Missing(id))
 }
 
 fn texts_of<'a>(
     alloc: Global,
     matches: &ArgMatches<'a>,
     id: &'static str,
-) -> Result<Vec<&'a str>, Refusal<'a>> {
+) -> Result<Vec<&'a str>, RequestFault<'a>> {
     match matches.get_strs(id) {
         Some(texts) => Ok(Vec::from_slice(alloc, texts)?),
-        None => Err(Refusal::Missing(id)),
+        None => Err(RequestFault::Missing(id)),
     }
 }
 
-fn hashes_of<'a>(alloc: Global, texts: &[&'a str]) -> Result<Vec<MerkleHash>, Refusal<'a>> {
+fn hashes_of<'a>(alloc: Global, texts: &[&'a str]) -> Result<Vec<MerkleHash>, RequestFault<'a>> {
     let mut hashes = Vec::new(alloc);
     for text in texts {
         hashes.push(hash_of(text)?)?;
@@ -511,6 +529,6 @@ fn hashes_of<'a>(alloc: Global, texts: &[&'a str]) -> Result<Vec<MerkleHash>, Re
     Ok(hashes)
 }
 
-fn hash_of<'a>(text: &'a str) -> Result<MerkleHash, Refusal<'a>> {
-    MerkleHash::from_hex(text).or(Err(Refusal::NoHash(text)))
+fn hash_of<'a>(text: &'a str) -> Result<MerkleHash, RequestFault<'a>> {
+    MerkleHash::from_hex(text).or(Err(RequestFault::NoHash(text)))
 }

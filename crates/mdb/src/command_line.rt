@@ -76,12 +76,12 @@ fn arg_of<'a>(alloc: Global, argument: &Argument) -> Result<Arg<'a>, AllocError>
         Takes::NothingWithGroups => arg.action(ArgAction::SetTrue).requires_arg(id::GROUPS),
         Takes::Sort => arg.value_parser(SORTS).requires_arg(id::BRIEF),
         Takes::NothingWithoutCosts => arg.action(ArgAction::SetTrue).conflicts_with(id::COSTS),
-        takes => Ok(taking(arg, takes)),
+        takes => Ok(with_takes(arg, takes)),
     }
 }
 
 // An argument whose kind does not depend on other arguments.
-fn taking<'a>(arg: Arg<'a>, takes: Takes) -> Arg<'a> {
+fn with_takes<'a>(arg: Arg<'a>, takes: Takes) -> Arg<'a> {
     match takes {
         Takes::Nothing => arg.action(ArgAction::SetTrue),
         Takes::NeededValue => arg.required(true),

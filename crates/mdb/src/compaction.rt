@@ -2,19 +2,19 @@
 //! bytes.
 
 use crate::beside::remove_leftovers;
-use crate::blame::on_all;
 use crate::failure::Failure;
 use crate::files::{Contents, read_to_end, sync_folder};
-use crate::input_removal::{ReadInput, Seen, remove_inputs};
+use crate::input_failure::failure_on_all;
+use crate::input_removal::{HashedFile, ReadInput, remove_inputs};
 use crate::inputs::path_in;
 use crate::make::put;
-use crate::merge::{contents_of_all, merged};
+use crate::merge::{contents_of_all, merge_with_expiry};
 use crate::progress::{Progress, Stage};
 use crate::request::{Compaction, Merge};
 use crate::rounds::shard_file::ends_of;
 use crate::stamp::FileId;
 use mdb_report::fault::{Fault, fault_of};
-use mdb_report::shown::Shown;
+use mdb_report::shown::ShownText;
 use shard_bytes::load::load_bytes;
 use std::alloc::{AllocError, Global};
 use std::fs::OpenFile;
@@ -56,7 +56,7 @@ pub fn merge_groups<
         let shards = group.files.as_slice();
         let result = write_group(rt, shards, merge, compaction, &mut inputs, progress)?;
         if results.push(result).is_err() {
-            return Err(on_all(files, Fault::OutOfMemory));
+            return Err(failure_on_all(files, Fault::OutOfMemory));
         }
     }
     if !compaction.remove_inputs {
@@ -91,7 +91,7 @@ fn groups_of<'a, R: Files + AllocGlobal>(
             }
         };
         if add_to_group(alloc, &mut groups, max_size, file, stamp.size, key).is_err() {
-            return Err(on_all(files, Fault::OutOfMemory));
+            return Err(failure_on_all(files, Fault::OutOfMemory));
         }
     }
     Ok(groups)
@@ -148,10 +148,10 @@ fn write_group<
         .map(|contents| contents.bytes.as_slice())
         .collect(rt.alloc());
     let Ok(shards) = shards else {
-        return Err(on_all(files, Fault::OutOfMemory));
+        return Err(failure_on_all(files, Fault::OutOfMemory));
     };
     progress.show(rt, Stage::Merging(files.len()));
-    let bytes = merged(rt, files, shards.as_slice(), merge, progress)?;
+    let bytes = merge_with_expiry(rt, files, shards.as_slice(), merge, progress)?;
     if compaction.remove_inputs {
         note_inputs(files, contents.as_slice(), compaction.hash_key, inputs)?;
     }
@@ -169,7 +169,7 @@ fn note_inputs<'a>(
         let Some(stamp) = contents.stamp else {
             return Err(Failure::on_file(file, Fault::NoParts));
         };
-        let seen = Seen {
+        let seen = HashedFile {
             stamp,
             hash: keyed_hash(hash_key, contents.bytes.as_slice()),
         };
@@ -202,7 +202,7 @@ fn put_by_hash<'a, R: Files + Print + Eprint + RandomSource + AllocGlobal + Clon
         Ok(None) => return Err(Failure::on_file(folder, Fault::OtherBytes(hash))),
         Err(error) => return Err(Failure::on_file(folder, Fault::from(error))),
     };
-    match rt.println(Shown(path)) {
+    match rt.println(ShownText(path)) {
         Ok(()) => Ok(id),
         Err(error) => Err(Failure::on_output(Fault::from(error))),
     }

@@ -7,15 +7,15 @@ ghost use Rattle.xet_core_structures.specs.WrittenShard.{IsBytesWithoutExpiry};
 ghost use Rattle.mdb.specs.Expiries.{expiry_in, earlier_of, HasCome, IsEarliest, IsNewExpiry};
 ghost use Rattle.mdb.specs.Writing.{HasExpiry, RefusesExpiry};
 
-use crate::blame::on_all;
 use crate::failure::Failure;
 use crate::files::{STANDARD_STREAM, read_ends};
 use crate::infos::infos_of;
+use crate::input_failure::failure_on_all;
 use crate::progress::Progress;
 use crate::request::NewExpiry;
 use mdb_report::fault::Fault;
 use mdb_report::moment::Moment;
-use mdb_report::shown::Shown;
+use mdb_report::shown::ShownText;
 use shard_bytes::expiry::with_expiry;
 use shard_bytes::load::load_bytes;
 use std::alloc::Global;
@@ -89,7 +89,11 @@ pub fn new_expiry<'a>(
 
 /// The bytes of a shard that was written, with an expiry if one is wanted. It fails only if it is out
 /// of memory.
-pub fn expiring(alloc: Global, bytes: Vec<u8>, expiry: Option<u64>) -> Result<Vec<u8>, CoreError>
+pub fn with_expiry_if_any(
+    alloc: Global,
+    bytes: Vec<u8>,
+    expiry: Option<u64>,
+) -> Result<Vec<u8>, CoreError>
     ensures any_bytes { MatchResult result (λ out. HasExpiry expiry bytes.items out.items)
         (RefusesExpiry expiry bytes.items) }
     ensures of_shard { (s : Shard) → IsBytesWithoutExpiry s bytes.items
@@ -114,11 +118,11 @@ pub fn without_expired<'a, R: Files + Eprint + AllocGlobal>(
     for file in files {
         if has_come(expiry_at(rt, file), now) {
             if verbose {
-                let file = Shown(file);
+                let file = ShownText(file);
                 let _ = rt.eprintln(format_args!("{file}: left out, it has expired"));
             }
         } else if remaining.push(*file).is_err() {
-            return Err(on_all(files, Fault::OutOfMemory));
+            return Err(failure_on_all(files, Fault::OutOfMemory));
         }
     }
     Ok(remaining)
@@ -148,7 +152,7 @@ pub fn report_expired<R: Eprint + AllocGlobal>(
         return;
     }
     if let Ok(moment) = Moment::of_seconds(rt.alloc(), expiry) {
-        let file = Shown(file);
+        let file = ShownText(file);
         progress.clear(rt);
         let _ = rt.eprintln(format_args!("{file}: it has expired, at {moment}"));
     }

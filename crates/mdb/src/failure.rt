@@ -4,7 +4,7 @@ ghost use Rattle.std.specs.Prelude.{◌≡◌};
 
 use crate::files::STANDARD_STREAM;
 use mdb_report::fault::Fault;
-use mdb_report::shown::Shown;
+use mdb_report::shown::ShownText;
 use std::fmt;
 use std::io::ErrorKind;
 
@@ -87,9 +87,18 @@ impl<'a> Failure<'a> {
 impl fmt::Display for Subject<'_> {
     fn fmt<W: fmt::Write>(&self, f: &mut fmt::Formatter<W>) -> fmt::Result {
         match self {
-            Subject::File(file) => write!(f, "{}", Shown(file)),
-            Subject::Pair(first, second) => write!(f, "{} and {}", Shown(first), Shown(second)),
-            Subject::Files(first, count) => write!(f, "{count} files, {} the first", Shown(first)),
+            Subject::File(file) => write!(f, "{}", ShownText(file)),
+            Subject::Pair(first, second) => write!(
+                f,
+                "{} and {}",
+                ShownText(first),
+                ShownText(second)
+            ),
+            Subject::Files(first, count) => write!(
+                f,
+                "{count} files, {} the first",
+                ShownText(first)
+            ),
             Subject::StandardOutput => write!(f, "standard output"),
             Subject::CommandLine => write!(f, "the command line"),
         }

@@ -9,7 +9,7 @@ use crate::inputs::Inputs;
 use crate::progress::{Progress, Stage};
 use crate::request::Collection;
 use crate::rounds::shard_file::{ShardFile, ends_of};
-use crate::run::{Status, failed};
+use crate::run::{Status, report_failure};
 use crate::terminals::Terminals;
 use mdb_report::fault::{Fault, fault_of, section_fault};
 use mdb_report::section::Section;
@@ -52,7 +52,7 @@ pub fn collect_garbage<R: Files + Input + Clock + Print + Eprint + AllocGlobal>(
     }
     let mut output = match BufWriter::new(rt.alloc(), io::writer(rt)) {
         Ok(output) => output,
-        Err(error) => return failed(rt, &Failure::on_output(Fault::from(error))),
+        Err(error) => return report_failure(rt, &Failure::on_output(Fault::from(error))),
     };
     let mut progress = Progress::new(rt, terminals.error && !collection.quiet);
     let printed = print_garbage(rt, inputs, collection, &mut progress, &mut output);
@@ -68,7 +68,7 @@ pub fn collect_garbage<R: Files + Input + Clock + Print + Eprint + AllocGlobal>(
         Ok(status) => status,
         // Nobody reads what is found.
         Err(failure) if failure.is_closed_pipe() => Status::Found,
-        Err(failure) => failed(rt, &failure),
+        Err(failure) => report_failure(rt, &failure),
     }
 }
 

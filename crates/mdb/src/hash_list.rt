@@ -2,7 +2,7 @@
 
 use crate::failure::Failure;
 use crate::files::read;
-use crate::request::{HashList, Making, Request};
+use crate::request::{HashList, MakeCommand, Request};
 use mdb_report::fault::Fault;
 use mdb_report::inquiry::Inquiry;
 use shard_bytes::minimal::KeptXorbs;
@@ -19,8 +19,8 @@ pub fn add_listed<'a, R: Files + Input + AllocGlobal>(
     };
     match request {
         Request::Inspect(_, inquiry, _) => add_to_inquiry(rt, list, inquiry),
-        Request::Make(Making::Drop(removal), _) => add_from(rt, list, &mut removal.hashes),
-        Request::Make(Making::Subset(_, subset, _, _), _) => {
+        Request::Make(MakeCommand::Drop(removal), _) => add_from(rt, list, &mut removal.hashes),
+        Request::Make(MakeCommand::Subset(_, subset, _, _), _) => {
             let mut listed = Vec::new(rt.alloc());
             add_from(rt, list, &mut listed)?;
             if let KeptXorbs::Listed(hashes) = &mut subset.kept {
@@ -40,8 +40,8 @@ pub fn add_listed<'a, R: Files + Input + AllocGlobal>(
 fn list_of<'a>(request: &Request<'a>) -> Option<HashList<'a>> {
     match request {
         Request::Inspect(sources, _, _) => sources.hashes,
-        Request::Make(Making::Drop(removal), _) => removal.list,
-        Request::Make(Making::Subset(_, _, list, _), _) => *list,
+        Request::Make(MakeCommand::Drop(removal), _) => removal.list,
+        Request::Make(MakeCommand::Subset(_, _, list, _), _) => *list,
         _ => None,
     }
 }

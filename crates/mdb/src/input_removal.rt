@@ -17,18 +17,18 @@ use xet_core_structures::merklehash::{HMACKey, MerkleHash, keyed_hash};
 #[derive(Clone, Copy)]
 pub struct ReadInput<'a> {
     pub path: &'a str,
-    pub seen: Seen,
+    pub seen: HashedFile,
 }
 
 /// A file, and the hash of its bytes.
 #[derive(Clone, Copy, Debug, PartialEq, Eq)]
-pub struct Seen {
+pub struct HashedFile {
     pub stamp: Stamp,
     pub hash: MerkleHash,
 }
 
 /// Whether an input may be removed: it still is what was read, and none of the results.
-pub fn may_remove(read: &Seen, now: &Seen, results: &[FileId]) -> bool
+pub fn may_remove(read: &HashedFile, now: &HashedFile, results: &[FileId]) -> bool
     ensures { IsTrue result ↔ MayRemove read.now now.now results.now }
 {
     now == read && !results.contains(&now.stamp.id)
@@ -83,10 +83,10 @@ fn remove_input<R: Files + AllocGlobal>(
 }
 
 // The file at a path, and the hash of its bytes.
-fn seen_at<R: Files + AllocGlobal>(rt: &R, path: &str, key: HMACKey) -> io::Result<Seen> {
+fn seen_at<R: Files + AllocGlobal>(rt: &R, path: &str, key: HMACKey) -> io::Result<HashedFile> {
     let mut file = fs::open(rt, path)?;
     let bytes = read_to_end(rt.alloc(), &mut file)?;
-    Ok(Seen {
+    Ok(HashedFile {
         stamp: Stamp::of(&file.metadata()?),
         hash: keyed_hash(key, bytes.as_slice()),
     })

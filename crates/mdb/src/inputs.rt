@@ -3,8 +3,8 @@
 use crate::failure::Failure;
 use crate::files::{STANDARD_STREAM, read};
 use crate::request::Sources;
-use crate::run::failed;
-use crate::words::escaped;
+use crate::run::report_failure;
+use crate::words::escape_word;
 use mdb_report::fault::Fault;
 use std::alloc::{AllocError, AllocFailed, Global};
 use std::io::Read;
@@ -113,7 +113,7 @@ impl Inputs {
                     }
                 }
                 Err(_) => {
-                    let name = escaped(alloc, name)?;
+                    let name = escape_word(alloc, name)?;
                     unreadable.push(path_in(alloc, folder, name.as_str())?)?;
                 }
             }
@@ -146,7 +146,7 @@ impl Inputs {
             match str::from_utf8(line) {
                 Ok("") => {}
                 Ok(path) => self.add(rt, path)?,
-                Err(_) => self.report(rt, escaped(rt.alloc(), line)?.as_str(), Fault::NoText)?,
+                Err(_) => self.report(rt, escape_word(rt.alloc(), line)?.as_str(), Fault::NoText)?,
             }
         }
         Ok(())
@@ -160,7 +160,7 @@ impl Inputs {
         fault: Fault,
     ) -> Result<(), OutOfMemory> {
         let failure = Failure::on_file(path, fault);
-        let _ = failed(rt, &failure);
+        let _ = report_failure(rt, &failure);
         self.failed = true;
         self.failures.push(format!(in rt.alloc(); "{failure}")?)?;
         Ok(())

@@ -6,11 +6,11 @@ use crate::files::{Contents, open_sized, read_ends, read_shard};
 use crate::inputs::Inputs;
 use crate::make::contents_of;
 use crate::progress::{Progress, Stage};
-use crate::request::Printing;
-use crate::run::{Status, failed};
+use crate::request::PrintOptions;
+use crate::run::{Status, report_failure};
 use crate::terminals::Terminals;
 use mdb_report::fault::{Fault, fault_of, section_fault};
-use mdb_report::inquiry::{Answer, Checks, Inquiry, Trouble, print_answer, print_end};
+use mdb_report::inquiry::{Answer, Checks, Inquiry, InquiryFault, print_answer, print_end};
 use mdb_report::line::{Layout, Origin};
 use mdb_report::paged_inquiry::print_paged_answer;
 use mdb_report::tally::Tally;
@@ -27,12 +27,12 @@ pub fn inspect<R: Files + Input + Clock + Print + Eprint + AllocGlobal>(
     rt: &R,
     inputs: &Inputs,
     inquiry: &Inquiry,
-    printing: Printing,
+    printing: PrintOptions,
     terminals: Terminals,
 ) -> Status {
     let mut output = match BufWriter::new(rt.alloc(), io::writer(rt)) {
         Ok(output) => output,
-        Err(error) => return failed(rt, &Failure::on_output(Fault::from(error))),
+        Err(error) => return report_failure(rt, &Failure::on_output(Fault::from(error))),
     };
     let mut tally = Tally::new(rt.alloc());
     let mut progress = Progress::new(rt, terminals.error && !printing.quiet);
@@ -61,7 +61,7 @@ pub fn inspect<R: Files + Input + Clock + Print + Eprint + AllocGlobal>(
     match end.and_then(|()| output.flush()) {
         Ok(()) => status,
         Err(error) if error.kind() == ErrorKind::BrokenPipe => status,
-        Err(error) => failed(rt, &Failure::on_output(Fault::from(error))),
+        Err(error) => report_failure(rt, &Failure::on_output(Fault::from(error))),
     }
 }
 
@@ -70,7 +70,7 @@ fn inspect_all<R: Files + Input + Clock + Eprint + AllocGlobal, W: Write>(
     rt: &R,
     inputs: &Inputs,
     inquiry: &Inquiry,
-    printing: Printing,
+    printing: PrintOptions,
     tally: &mut Tally,
     progress: &mut Progress,
     output: &mut W,
@@ -99,13 +99,13 @@ fn inspect_all<R: Files + Input + Clock + Eprint + AllocGlobal, W: Write>(
         match inspect_file(rt, file, inquiry, layout, now, tally, progress, output) {
             Ok(Answer::FoundNothing) => continue,
             Ok(Answer::Printed) => {}
-            Ok(Answer::FoundProblems) => status = status.and_found(),
+            Ok(Answer::HasFindings) => status = status.and_found(),
             // The reader of the output has closed it.
             Err(failure) if failure.is_closed_pipe() => return Err(status),
             Err(failure) if failure.subject == Subject::StandardOutput => {
-                return Err(failed(rt, &failure));
+                return Err(report_failure(rt, &failure));
             }
-            Err(failure) => status = failed(rt, &failure),
+            Err(failure) => status = report_failure(rt, &failure),
         }
         nothing = false;
     }
@@ -148,12 +148,17 @@ fn inspect_file<'a, R: Files + Input + Eprint + AllocGlobal, W: Write>(
             let contents = contents_of(rt, file)?;
             inspect_contents(alloc, file, &contents, inquiry, layout, tally, output)
         }
-        Err(Trouble::Ends(error)) => Err(explained(alloc, file, read_ends(rt, file), error)),
-        Err(Trouble::Shard(error)) => {
+        Err(InquiryFault::Ends(error)) => Err(failure_of_error(
+            alloc,
+            file,
+            read_ends(rt, file),
+            error,
+        )),
+        Err(InquiryFault::Shard(error)) => {
             let bytes = read_shard(rt, file).map(|contents| contents.bytes);
-            Err(explained(alloc, file, bytes, error))
+            Err(failure_of_error(alloc, file, bytes, error))
         }
-        Err(trouble) => Err(failure_of(alloc, file, &[], trouble)),
+        Err(inquiry_fault) => Err(failure_of(alloc, file, &[], inquiry_fault)),
     }
 }
 
@@ -186,12 +191,12 @@ fn inspect_contents<'a, W: Write>(
     let inquiry = unhashed.as_ref().unwrap_or(inquiry);
     match print_answer(alloc, inquiry, file, bytes, layout, tally, output) {
         Ok(answer) => Ok(answer),
-        Err(trouble) => Err(failure_of(alloc, file, bytes, trouble)),
+        Err(inquiry_fault) => Err(failure_of(alloc, file, bytes, inquiry_fault)),
     }
 }
 
 // The failure behind an error, from what was read of the file to explain it.
-fn explained<'a>(
+fn failure_of_error<'a>(
     alloc: Global,
     file: &'a str,
     bytes: io::Result<Vec<u8>>,
@@ -203,15 +208,20 @@ fn explained<'a>(
     }
 }
 
-// The failure behind a trouble with a file of these bytes.
-fn failure_of<'a>(alloc: Global, file: &'a str, bytes: &[u8], trouble: Trouble) -> Failure<'a> {
-    let fault = match trouble {
-        Trouble::Shard(error) | Trouble::Ends(error) => fault_of(alloc, bytes, error),
-        Trouble::Section(section, error) => section_fault(section, error),
-        Trouble::NoTable(table) => Fault::NoTable(table),
-        Trouble::Input(error) => Fault::from(error),
-        Trouble::TooManyRounds => Fault::TooManyRounds,
-        Trouble::Output(error) => return Failure::on_output(Fault::from(error)),
+// The failure behind a fault of an inquiry about a file of these bytes.
+fn failure_of<'a>(
+    alloc: Global,
+    file: &'a str,
+    bytes: &[u8],
+    inquiry_fault: InquiryFault,
+) -> Failure<'a> {
+    let fault = match inquiry_fault {
+        InquiryFault::Shard(error) | InquiryFault::Ends(error) => fault_of(alloc, bytes, error),
+        InquiryFault::Section(section, error) => section_fault(section, error),
+        InquiryFault::NoTable(table) => Fault::NoTable(table),
+        InquiryFault::Input(error) => Fault::from(error),
+        InquiryFault::TooManyRounds => Fault::TooManyRounds,
+        InquiryFault::Output(error) => return Failure::on_output(Fault::from(error)),
     };
     Failure::on_file(file, fault)
 }

@@ -4,7 +4,6 @@
 
 mod arguments;
 mod beside;
-mod blame;
 mod by_key;
 mod command_line;
 mod command_table;
@@ -19,6 +18,7 @@ mod hash_list;
 mod help;
 mod id;
 mod infos;
+mod input_failure;
 mod input_removal;
 mod inputs;
 mod inspect;

@@ -4,13 +4,13 @@ ghost use Rattle.std.specs.Prelude.{MatchResult};
 ghost use Rattle.mdb.specs.Writing.{IsInVersion, RefusesVersion};
 
 use crate::beside::leftovers;
-use crate::blame::blamed_in;
-use crate::expiry::{expiring, new_expiry};
+use crate::expiry::{new_expiry, with_expiry_if_any};
 use crate::failure::Failure;
 use crate::files::{Contents, STANDARD_STREAM, read_shard, write};
+use crate::input_failure::blamed_in;
 use crate::record_lines::shard_of_lines;
 use crate::record_removal::remove_records;
-use crate::request::{Making, NewExpiry, Target};
+use crate::request::{MakeCommand, NewExpiry, Target};
 use mdb_report::fault::{Fault, export_fault, fault_of, minimal_fault, version_2_fault};
 use shard_bytes::combine::{Operation, combine_bytes_in};
 use shard_bytes::export::{Export, export_bytes};
@@ -28,14 +28,14 @@ use xet_records::record_reader::FormatVersion;
 /// ended have left there. Standard output is a terminal or not.
 pub fn make<'a, R: Files + Input + Print + Eprint + RandomSource + AllocGlobal + Clone + Drop>(
     rt: &R,
-    making: &Making<'a>,
+    making: &MakeCommand<'a>,
     target: Target<'a>,
     terminal: bool,
 ) -> Result<(), Failure<'a>> {
     if terminal && target.path == STANDARD_STREAM {
         return Err(Failure::on_output(Fault::Terminal));
     }
-    let bytes = made(rt, making, target)?;
+    let bytes = make_bytes(rt, making, target)?;
     put(rt, target.path, bytes.as_slice())
 }
 
@@ -92,20 +92,20 @@ pub fn report_leftovers<R: Files + Eprint + AllocGlobal + Clone + Drop>(rt: &R, 
 }
 
 // The bytes of the shard that a command makes, in the version of a target.
-fn made<'a, R: Files + Input + Eprint + AllocGlobal>(
+fn make_bytes<'a, R: Files + Input + Eprint + AllocGlobal>(
     rt: &R,
-    making: &Making<'a>,
+    making: &MakeCommand<'a>,
     target: Target<'a>,
 ) -> Result<Vec<u8>, Failure<'a>> {
     let bytes = match making {
-        Making::Combine(operation, first, second) => {
-            return combined(rt, *operation, first, second, target);
+        MakeCommand::Combine(operation, first, second) => {
+            return combine_files(rt, *operation, first, second, target);
         }
-        Making::Drop(removal) => return remove_records(rt, removal, target),
-        Making::Records(list, expiry) => return shard_of_lines(rt, list, *expiry, target),
-        Making::Export(file, export) => exported(rt, file, export)?,
-        Making::Minimal(file, now, kept) => minimal(rt, file, *now, *kept)?,
-        Making::Subset(file, kept, _, expiry) => subset(rt, file, kept, *expiry)?,
+        MakeCommand::Drop(removal) => return remove_records(rt, removal, target),
+        MakeCommand::Records(list, expiry) => return shard_of_lines(rt, list, *expiry, target),
+        MakeCommand::Export(file, export) => export_file(rt, file, export)?,
+        MakeCommand::Minimal(file, now, kept) => minimal(rt, file, *now, *kept)?,
+        MakeCommand::Subset(file, kept, _, expiry) => subset(rt, file, kept, *expiry)?,
     };
     in_version(rt.alloc(), bytes, target)
 }
@@ -122,20 +122,20 @@ pub fn contents_of<'a, R: Files + Input + AllocGlobal>(
 }
 
 /// The bytes of it.
-pub fn bytes_of<'a, R: Files + Input + AllocGlobal>(
+pub fn bytes_in_file<'a, R: Files + Input + AllocGlobal>(
     rt: &R,
     file: &'a str,
 ) -> Result<Vec<u8>, Failure<'a>> {
     Ok(contents_of(rt, file)?.bytes)
 }
 
-fn exported<'a, R: Files + Input + AllocGlobal>(
+fn export_file<'a, R: Files + Input + AllocGlobal>(
     rt: &R,
     file: &'a str,
     export: &Export,
 ) -> Result<Vec<u8>, Failure<'a>> {
     let alloc = rt.alloc();
-    let bytes = bytes_of(rt, file)?;
+    let bytes = bytes_in_file(rt, file)?;
     match export_bytes(alloc, bytes.as_slice(), export) {
         Ok(exported) => Ok(exported),
         Err(error) => {
@@ -152,7 +152,7 @@ fn minimal<'a, R: Files + Input + AllocGlobal>(
     kept: KeptParts,
 ) -> Result<Vec<u8>, Failure<'a>> {
     let alloc = rt.alloc();
-    let bytes = bytes_of(rt, file)?;
+    let bytes = bytes_in_file(rt, file)?;
     match minimal_bytes(alloc, bytes.as_slice(), now, kept) {
         Ok(minimal) => Ok(minimal),
         Err(error) => {
@@ -169,9 +169,9 @@ fn subset<'a, R: Files + Input + Eprint + AllocGlobal>(
     expiry: NewExpiry,
 ) -> Result<Vec<u8>, Failure<'a>> {
     let alloc = rt.alloc();
-    let bytes = bytes_of(rt, file)?;
+    let bytes = bytes_in_file(rt, file)?;
     if let KeptXorbs::Listed(hashes) = &kept.kept {
-        has_xorbs(rt, file, bytes.as_slice(), hashes.as_slice())?;
+        report_missing_xorb(rt, file, bytes.as_slice(), hashes.as_slice())?;
     }
     let bytes = bytes.as_slice();
     let subset = match subset_bytes(alloc, bytes, kept) {
@@ -179,14 +179,14 @@ fn subset<'a, R: Files + Input + Eprint + AllocGlobal>(
         Err(error) => return Err(Failure::on_file(file, fault_of(alloc, bytes, error))),
     };
     let expiry = new_expiry(alloc, expiry, &[file], &[bytes])?;
-    match expiring(alloc, subset, expiry) {
+    match with_expiry_if_any(alloc, subset, expiry) {
         Ok(subset) => Ok(subset),
         Err(_) => Err(Failure::on_file(file, Fault::OutOfMemory)),
     }
 }
 
 // Reports each listed hash that no xorb of the shard has, and fails if there is one.
-fn has_xorbs<'a, R: Eprint + AllocGlobal>(
+fn report_missing_xorb<'a, R: Eprint + AllocGlobal>(
     rt: &R,
     file: &'a str,
     bytes: &[u8],
@@ -206,7 +206,7 @@ fn has_xorbs<'a, R: Eprint + AllocGlobal>(
     Err(Failure::on_file(file, Fault::NoXorb(*last)))
 }
 
-fn combined<'a, R: Files + Input + AllocGlobal>(
+fn combine_files<'a, R: Files + Input + AllocGlobal>(
     rt: &R,
     operation: Operation,
     first: &'a str,
@@ -214,8 +214,8 @@ fn combined<'a, R: Files + Input + AllocGlobal>(
     target: Target<'a>,
 ) -> Result<Vec<u8>, Failure<'a>> {
     let alloc = rt.alloc();
-    let one = bytes_of(rt, first)?;
-    let other = bytes_of(rt, second)?;
+    let one = bytes_in_file(rt, first)?;
+    let other = bytes_in_file(rt, second)?;
     let inputs = [one.as_slice(), other.as_slice()];
     match combine_bytes_in(alloc, operation, inputs[0], inputs[1], target.version) {
         Ok(bytes) => Ok(bytes),

@@ -4,26 +4,27 @@ ghost use Rattle.std.specs.Prelude.{◌≡◌, List, ℕ, Option, zip, map, IfOk
 ghost use Rattle.shard_bytes.specs.Merging.{MergesBytes};
 ghost use Rattle.xet_core_structures.specs.Trees.InVersions.{MadeIn};
 ghost use Rattle.mdb.specs.Expiries.{IsNewExpiry};
-ghost use Rattle.mdb.specs.Merging.{UnitesTo, RefusesUnion, SaysNotMerged};
+ghost use Rattle.mdb.specs.Merging.{UnitesTo, UnionFails, SaysNotMerged};
 ghost use Rattle.mdb.specs.Writing.{HasExpiry};
 
-use crate::blame::{
-    blamed_in, disagreement, disagreement_under, lacks_files, malformed, malformed_in, on_all,
-};
 use crate::by_key::{distinct_keys, path_under, values_under};
 use crate::compaction::merge_groups;
-use crate::expiry::{expiring, new_expiry, report_expired_in, without_expired};
+use crate::expiry::{new_expiry, report_expired_in, with_expiry_if_any, without_expired};
 use crate::failure::Failure;
 use crate::files::{Contents, STANDARD_STREAM, is_worth_reading, open_sized, read_ends};
 use crate::free_memory::free_memory;
 use crate::infos::{infos_of, keys_in};
+use crate::input_failure::{
+    blamed_in, disagreement, disagreement_under, failure_on_all, failure_on_malformed, lacks_files,
+    malformed_failure,
+};
 use crate::make::{contents_of, put};
 use crate::progress::{Progress, Stage};
 use crate::request::{Merge, Strictness, Target};
 use crate::rounds::merge_in_rounds;
 use crate::terminals::Terminals;
 use mdb_report::fault::Fault;
-use mdb_report::shown::Shown;
+use mdb_report::shown::ShownText;
 use shard_bytes::agree::{AgreeingMerge, merge_agreeing_bytes};
 use shard_bytes::merge::merge_bytes;
 use std::alloc::{AllocError, Global};
@@ -80,7 +81,7 @@ fn merge_in_memory<
     R: Files + Input + Clock + Print + Eprint + RandomSource + AllocGlobal + Clone + Drop,
 >(rt: &R, files: &[&'a str], merge: Merge<'a>, progress: &mut Progress) -> Result<(), Failure<'a>> {
     if exceed_memory(rt, files) {
-        return Err(on_all(files, Fault::NoRoomAtOnce));
+        return Err(failure_on_all(files, Fault::NoRoomAtOnce));
     }
     match read_and_merge(rt, files, merge, progress) {
         Err(
@@ -159,12 +160,12 @@ fn merge_contents<'a, R: Files + Print + Eprint + RandomSource + AllocGlobal + C
         .map(|contents| contents.bytes.as_slice())
         .collect(rt.alloc());
     let Ok(inputs) = inputs else {
-        return Err(on_all(files, Fault::OutOfMemory));
+        return Err(failure_on_all(files, Fault::OutOfMemory));
     };
     if merge.by_key {
         return merge_by_key(rt, files, inputs.as_slice(), merge, progress);
     }
-    let bytes = merged(rt, files, inputs.as_slice(), merge, progress)?;
+    let bytes = merge_with_expiry(rt, files, inputs.as_slice(), merge, progress)?;
     put(rt, merge.target.path, bytes.as_slice())
 }
 
@@ -205,10 +206,10 @@ fn merge_by_key<'a, R: Files + Print + Eprint + RandomSource + AllocGlobal + Clo
     let alloc = rt.alloc();
     let infos = infos_of(alloc, files, inputs)?;
     let Ok(keys) = keys_in(alloc, infos.as_slice()) else {
-        return Err(on_all(files, Fault::OutOfMemory));
+        return Err(failure_on_all(files, Fault::OutOfMemory));
     };
     let Ok(distinct) = distinct_keys(alloc, keys.as_slice()) else {
-        return Err(on_all(files, Fault::OutOfMemory));
+        return Err(failure_on_all(files, Fault::OutOfMemory));
     };
     for key in &distinct {
         write_under(rt, files, inputs, keys.as_slice(), key, merge, progress)?;
@@ -233,9 +234,9 @@ fn write_under<'a, R: Files + Print + Eprint + RandomSource + AllocGlobal + Clon
         values_under(alloc, inputs, keys, key),
         path_under(alloc, folder, key),
     ) else {
-        return Err(on_all(files, Fault::OutOfMemory));
+        return Err(failure_on_all(files, Fault::OutOfMemory));
     };
-    let bytes = merged(
+    let bytes = merge_with_expiry(
         rt,
         files_under.as_slice(),
         inputs_under.as_slice(),
@@ -249,7 +250,7 @@ fn write_under<'a, R: Files + Print + Eprint + RandomSource + AllocGlobal + Clon
 }
 
 /// The union of the inputs, with an expiry if one is wanted, in the version of the target.
-pub fn merged<'a, R: Eprint + AllocGlobal>(
+pub fn merge_with_expiry<'a, R: Eprint + AllocGlobal>(
     rt: &R,
     files: &[&'a str],
     inputs: &[&[u8]],
@@ -262,18 +263,18 @@ pub fn merged<'a, R: Eprint + AllocGlobal>(
         × IsNewExpiry merge.entry.expiry (zip files.now inputs.now) expiry
         × HasExpiry expiry union written.items) }
 {
-    let bytes = united(rt, files, inputs, merge.strictness, merge.target, progress)?;
+    let bytes = unite_inputs(rt, files, inputs, merge.strictness, merge.target, progress)?;
     progress.clear(rt);
     let expiry = new_expiry(rt.alloc(), merge.expiry, files, inputs)?;
-    match expiring(rt.alloc(), bytes, expiry) {
+    match with_expiry_if_any(rt.alloc(), bytes, expiry) {
         Ok(bytes) => Ok(bytes),
-        Err(_) => Err(on_all(files, Fault::OutOfMemory)),
+        Err(_) => Err(failure_on_all(files, Fault::OutOfMemory)),
     }
 }
 
 // The union of the inputs in the version of a target. A record that no shard may have, and records
 // that differ, are a failure, even if there is no union, or reported.
-fn united<'a, R: Eprint + AllocGlobal>(
+fn unite_inputs<'a, R: Eprint + AllocGlobal>(
     rt: &R,
     files: &[&'a str],
     inputs: &[&[u8]],
@@ -284,16 +285,16 @@ fn united<'a, R: Eprint + AllocGlobal>(
     ensures { MatchResult result
         (λ bytes. UnitesTo strictness target.entry.version (map (λ x. x.now) inputs.now)
         bytes.items)
-        (RefusesUnion strictness target.entry.version files.now (map (λ x. x.now) inputs.now)) }
+        (UnionFails strictness target.entry.version files.now (map (λ x. x.now) inputs.now)) }
 {
     match strictness {
-        Strictness::Strict => united_agreeing(rt.alloc(), files, inputs, target),
-        Strictness::Lenient => united_leniently(rt, files, inputs, target, progress),
+        Strictness::Strict => unite_agreeing(rt.alloc(), files, inputs, target),
+        Strictness::Lenient => unite_leniently(rt, files, inputs, target, progress),
     }
 }
 
 // The union of inputs that hold well-formed shards and agree.
-fn united_agreeing<'a>(
+fn unite_agreeing<'a>(
     alloc: Global,
     files: &[&'a str],
     inputs: &[&[u8]],
@@ -302,7 +303,7 @@ fn united_agreeing<'a>(
     ensures { MatchResult result
         (λ bytes. UnitesTo Strictness.Strict target.entry.version (map (λ x. x.now) inputs.now)
         bytes.items)
-        (RefusesUnion Strictness.Strict target.entry.version files.now
+        (UnionFails Strictness.Strict target.entry.version files.now
         (map (λ x. x.now) inputs.now)) }
 {
     match merge_agreeing_bytes(alloc, inputs, target.version) {
@@ -310,13 +311,13 @@ fn united_agreeing<'a>(
         Ok(AgreeingMerge::Disagreements(found)) => {
             Err(disagreement_under(files, &found[0], found.len()))
         }
-        Ok(AgreeingMerge::Malformed(malformed)) => Err(malformed_in(files, &malformed)),
+        Ok(AgreeingMerge::Malformed(malformed)) => Err(failure_on_malformed(files, &malformed)),
         Err(error) => Err(blamed_in(alloc, files, inputs, target, error)),
     }
 }
 
 // The union of inputs, with a report of a record that no shard may have and of records that differ.
-fn united_leniently<'a, R: Eprint + AllocGlobal>(
+fn unite_leniently<'a, R: Eprint + AllocGlobal>(
     rt: &R,
     files: &[&'a str],
     inputs: &[&[u8]],
@@ -329,7 +330,7 @@ fn united_leniently<'a, R: Eprint + AllocGlobal>(
         (SaysNotMerged target.entry.version (map (λ x. x.now) inputs.now)) }
 {
     let alloc = rt.alloc();
-    let oddity = malformed(alloc, files, inputs)?;
+    let oddity = malformed_failure(alloc, files, inputs)?;
     let choice = disagreement(alloc, files, inputs)?;
     match merge_bytes(alloc, inputs, target.version) {
         Ok(bytes) => {
@@ -363,7 +364,7 @@ pub fn report_findings<R: Eprint>(
 
 /// Reports the size of a file.
 pub fn report_size<R: Eprint>(rt: &R, file: &str, bytes: u64) {
-    let file = Shown(file);
+    let file = ShownText(file);
     let _ = rt.eprintln(format_args!("{file}: {bytes} bytes"));
 }
 

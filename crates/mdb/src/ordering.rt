@@ -10,7 +10,7 @@ use std::rt::Files;
 
 /// A shard, and by what it is sorted; then by its path.
 #[derive(PartialEq, Eq, PartialOrd, Ord, Drop)]
-struct Ranked {
+struct RankedShard {
     rank: u64,
     path: String,
 }
@@ -33,11 +33,11 @@ pub fn inputs_in_order<R: Files + AllocGlobal>(
     let mut ranked = Vec::new(rt.alloc());
     for path in paths {
         let rank = rank_of(rt, path.as_str(), sort);
-        ranked.push(Ranked { rank, path })?;
+        ranked.push(RankedShard { rank, path })?;
     }
     in_order(&mut ranked);
     let mut paths = Vec::new(rt.alloc());
-    for Ranked { path, .. } in ranked {
+    for RankedShard { path, .. } in ranked {
         paths.push(path)?;
     }
     Ok(Inputs {
@@ -61,7 +61,7 @@ fn rank_of<R: Files + AllocGlobal>(rt: &R, path: &str, sort: Sort) -> u64 {
 }
 
 // The same shards, in ascending order.
-fn in_order(ranked: &mut Vec<Ranked>)
+fn in_order(ranked: &mut Vec<RankedShard>)
     ensures same { IsPermutation ranked.old.items ranked.new.items }
 {
     ranked.sort_unstable();

@@ -1,9 +1,9 @@
 //! The command that takes records out of a shard.
 
-use crate::blame::{blamed, blamed_in};
-use crate::expiry::{expiring, new_expiry};
+use crate::expiry::{new_expiry, with_expiry_if_any};
 use crate::failure::Failure;
-use crate::make::bytes_of;
+use crate::input_failure::{blamed_in, combine_failure};
+use crate::make::bytes_in_file;
 use crate::request::{Removal, Target};
 use crate::rounds::block::{put_bookend, put_footer};
 use mdb_report::fault::{Fault, fault_of};
@@ -29,7 +29,7 @@ pub fn remove_records<'a, R: Files + Input + Eprint + AllocGlobal>(
 ) -> Result<Vec<u8>, Failure<'a>> {
     let alloc = rt.alloc();
     let file = removal.file;
-    let bytes = bytes_of(rt, file)?;
+    let bytes = bytes_in_file(rt, file)?;
     let bytes = bytes.as_slice();
     let hashes = removal.hashes.as_slice();
     let info = match load_bytes(alloc, bytes) {
@@ -45,7 +45,7 @@ pub fn remove_records<'a, R: Files + Input + Eprint + AllocGlobal>(
         hashes,
         target.version,
     ) {
-        Ok(rest) => match expiring(alloc, rest, expiry) {
+        Ok(rest) => match with_expiry_if_any(alloc, rest, expiry) {
             Ok(rest) => Ok(rest),
             Err(_) => Err(Failure::on_file(file, Fault::OutOfMemory)),
         },
@@ -82,7 +82,7 @@ fn has_records<'a, R: Eprint + AllocGlobal>(
     let alloc = rt.alloc();
     let mut known = match record_hashes(alloc, bytes, info) {
         Ok(known) => known,
-        Err(error) => return Err(blamed(alloc, &[file], &[bytes], error)),
+        Err(error) => return Err(combine_failure(alloc, &[file], &[bytes], error)),
     };
     known.as_mut_slice().sort_unstable();
     let mut lacking = None;

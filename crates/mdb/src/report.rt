@@ -5,9 +5,9 @@ use crate::gc::section_at;
 use crate::inputs::Inputs;
 use crate::make::put;
 use crate::progress::{Progress, Stage};
-use crate::request::Reporting;
+use crate::request::OverviewOptions;
 use crate::rounds::shard_file::{ShardFile, ends_of};
-use crate::run::{Status, failed};
+use crate::run::{Status, report_failure};
 use crate::terminals::Terminals;
 use mdb_overview::overview::Overview;
 use mdb_overview::page::page_of;
@@ -29,7 +29,7 @@ const ITEM_SIZE: u64 = 192;
 
 /// A shard that was opened.
 #[derive(Drop)]
-struct Opened<'a> {
+struct OpenShard<'a> {
     file: ShardFile<'a>,
     brief: Brief<'a>,
 }
@@ -56,7 +56,7 @@ pub fn report<'a, R: Files + Clock + Print + Eprint + RandomSource + AllocGlobal
     rt: &R,
     inputs: &'a Inputs,
     sources: &[&'a str],
-    reporting: Reporting<'a>,
+    reporting: OverviewOptions<'a>,
     terminals: Terminals,
 ) -> Status {
     let mut progress = Progress::new(rt, terminals.error && !reporting.quiet);
@@ -66,7 +66,7 @@ pub fn report<'a, R: Files + Clock + Print + Eprint + RandomSource + AllocGlobal
         Ok(status) => status,
         // Nobody reads the page.
         Err(failure) if failure.is_closed_pipe() => Status::Failed,
-        Err(failure) => failed(rt, &failure),
+        Err(failure) => report_failure(rt, &failure),
     }
 }
 
@@ -74,7 +74,7 @@ fn write_page<'a, R: Files + Clock + Print + Eprint + RandomSource + AllocGlobal
     rt: &R,
     inputs: &'a Inputs,
     sources: &[&'a str],
-    reporting: Reporting<'a>,
+    reporting: OverviewOptions<'a>,
     progress: &mut Progress,
 ) -> Result<Status, Failure<'a>> {
     let alloc = rt.alloc();
@@ -114,7 +114,7 @@ fn leave_out<'a, R: Eprint + AllocGlobal>(
     overview: &mut Overview<'a>,
     failure: Failure<'a>,
 ) -> Result<(), Failure<'a>> {
-    let _ = failed(rt, &failure);
+    let _ = report_failure(rt, &failure);
     in_memory(overview.add_failure(rt.alloc(), &failure))
 }
 
@@ -122,7 +122,7 @@ fn open_all<'a, R: Files + Eprint + AllocGlobal>(
     rt: &R,
     inputs: &'a Inputs,
     overview: &mut Overview<'a>,
-) -> Result<Vec<Opened<'a>>, Failure<'a>> {
+) -> Result<Vec<OpenShard<'a>>, Failure<'a>> {
     let mut opened = Vec::new(rt.alloc());
     for path in &inputs.paths {
         match open_shard(rt, path.as_str()) {
@@ -136,7 +136,7 @@ fn open_all<'a, R: Files + Eprint + AllocGlobal>(
 fn open_shard<'a, R: Files + AllocGlobal>(
     rt: &R,
     path: &'a str,
-) -> Result<Opened<'a>, Failure<'a>> {
+) -> Result<OpenShard<'a>, Failure<'a>> {
     let alloc = rt.alloc();
     let (stamp, ends) = ends_of(rt, path)?;
     let info = match load_bytes(alloc, ends.as_slice()) {
@@ -145,14 +145,14 @@ fn open_shard<'a, R: Files + AllocGlobal>(
             return Err(Failure::on_file(path, fault_of(alloc, ends.as_slice(), error)));
         }
     };
-    Ok(Opened {
+    Ok(OpenShard {
         file: ShardFile::new(path, info, stamp),
         brief: in_memory(Brief::of_info(alloc, path, &info, stamp.size))?,
     })
 }
 
 // How many parts of the hashes are kept one after another, so that each takes about so much memory.
-fn parts_of(opened: &[Opened<'_>], memory: u64) -> u64 {
+fn parts_of(opened: &[OpenShard<'_>], memory: u64) -> u64 {
     let mut bytes: u64 = 0;
     for shard in opened {
         bytes = bytes.saturating_add(shard.brief.bytes);
@@ -168,7 +168,7 @@ fn parts_of(opened: &[Opened<'_>], memory: u64) -> u64 {
 // left.
 fn read_all<'a, R: Files + Clock + Eprint + AllocGlobal>(
     rt: &R,
-    opened: Vec<Opened<'a>>,
+    opened: Vec<OpenShard<'a>>,
     overview: &mut Overview<'a>,
     parts: u64,
     progress: &mut Progress,
@@ -179,7 +179,7 @@ fn read_all<'a, R: Files + Clock + Eprint + AllocGlobal>(
     let all = opened.len();
     for (read, shard) in opened.into_iter().enumerate() {
         progress.show_after_pause(rt, Stage::Reading { read, all });
-        let Opened { file, mut brief } = shard;
+        let OpenShard { file, mut brief } = shard;
         match xorbs_of(rt, &file, HashPart { rest: 0, parts }) {
             Ok(found) => {
                 brief.xorbs = Some(found.xorbs);

@@ -13,20 +13,20 @@ use xet_records::record_reader::FormatVersion;
 #[derive(Drop)]
 pub enum Request<'a> {
     /// To print answers about shards.
-    Inspect(Sources<'a>, Inquiry, Printing),
+    Inspect(Sources<'a>, Inquiry, PrintOptions),
     /// To print what does not fit together in shards.
     Collect(Sources<'a>, Collection),
     /// To write an overview of shards as a page.
-    Report(Sources<'a>, Reporting<'a>),
+    Report(Sources<'a>, OverviewOptions<'a>),
     /// To write a shard.
-    Make(Making<'a>, Target<'a>),
+    Make(MakeCommand<'a>, Target<'a>),
     /// To write a merge of shards.
     Merge(Sources<'a>, Merge<'a>),
 }
 
 /// How answers about shards are printed.
 #[derive(Clone, Copy, Debug, PartialEq, Eq)]
-pub struct Printing {
+pub struct PrintOptions {
     pub style: Style,
     /// The order of the shards; `None` if it is that in which they are named.
     pub sort: Option<Sort>,
@@ -58,7 +58,7 @@ pub struct Collection {
 
 /// How an overview of shards is made.
 #[derive(Clone, Copy, Debug, PartialEq, Eq)]
-pub struct Reporting<'a> {
+pub struct OverviewOptions<'a> {
     /// The path to write to, or `-` for standard output.
     pub output: &'a str,
     /// About how many bytes of memory are taken.
@@ -100,7 +100,7 @@ pub struct HashList<'a> {
 
 /// A command that writes a shard.
 #[derive(Drop)]
-pub enum Making<'a> {
+pub enum MakeCommand<'a> {
     Combine(Operation, &'a str, &'a str),
     Export(&'a str, Export),
     Minimal(&'a str, u64, KeptParts),

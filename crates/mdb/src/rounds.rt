@@ -19,11 +19,11 @@ mod runs;
 pub mod shard_file;
 
 use crate::beside::{NewFile, create_beside, create_private};
-use crate::blame::{obstacle_in_files, on_all};
 use crate::by_key::{distinct_keys, path_under, values_under};
 use crate::expiry::report_expired;
 use crate::failure::Failure;
 use crate::files::{Place, STANDARD_STREAM, is_worth_reading, place_at, rename_over};
+use crate::input_failure::{failure_in_files, failure_on_all};
 use crate::make::report_leftovers;
 use crate::merge::report_size;
 use crate::progress::{Progress, Stage};
@@ -46,33 +46,33 @@ const LEAST_MEMORY: u64 = 1 << 20;
 
 /// Why a round ends without a part of the merge.
 #[derive(Drop)]
-pub enum Stop<'a> {
+pub enum RoundFault<'a> {
     Failed(Failure<'a>),
     /// A shard can't be read to the end of a section.
     Refused(CoreError),
 }
 
-impl<'a> From<Failure<'a>> for Stop<'a> {
+impl<'a> From<Failure<'a>> for RoundFault<'a> {
     fn from(failure: Failure<'a>) -> Self {
-        Stop::Failed(failure)
+        RoundFault::Failed(failure)
     }
 }
 
-impl From<CoreError> for Stop<'_> {
+impl From<CoreError> for RoundFault<'_> {
     fn from(error: CoreError) -> Self {
-        Stop::Refused(error)
+        RoundFault::Refused(error)
     }
 }
 
-impl From<AllocError> for Stop<'_> {
+impl From<AllocError> for RoundFault<'_> {
     fn from(_error: AllocError) -> Self {
-        Stop::Refused(CoreError::OutOfMemory)
+        RoundFault::Refused(CoreError::OutOfMemory)
     }
 }
 
-impl<T: Drop> From<AllocFailed<T>> for Stop<'_> {
+impl<T: Drop> From<AllocFailed<T>> for RoundFault<'_> {
     fn from(_error: AllocFailed<T>) -> Self {
-        Stop::Refused(CoreError::OutOfMemory)
+        RoundFault::Refused(CoreError::OutOfMemory)
     }
 }
 
@@ -96,10 +96,10 @@ pub fn merge_in_rounds<
     }
     let alloc = rt.alloc();
     let Ok(keys) = keys_of(alloc, shards) else {
-        return Err(on_all(files, Fault::OutOfMemory));
+        return Err(failure_on_all(files, Fault::OutOfMemory));
     };
     let Ok(distinct) = distinct_keys(alloc, keys.as_slice()) else {
-        return Err(on_all(files, Fault::OutOfMemory));
+        return Err(failure_on_all(files, Fault::OutOfMemory));
     };
     for key in &distinct {
         let folder = merge.target.path;
@@ -135,7 +135,7 @@ fn open_all<'a, R: Files + Input + Clock + Eprint + AllocGlobal>(
 ) -> Result<Vec<ShardFile<'a>>, Failure<'a>> {
     let alloc = rt.alloc();
     let mut opened = Vec::new(alloc);
-    let mut refusal = None;
+    let mut first_failure = None;
     for (read, file) in files.iter().enumerate() {
         let all = files.len();
         progress.show_after_pause(rt, Stage::Reading { read, all });
@@ -147,20 +147,22 @@ fn open_all<'a, R: Files + Input + Clock + Eprint + AllocGlobal>(
             Ok(info) => {
                 report_expired(rt, file, &info, merge.now, progress);
                 if opened.push(ShardFile::new(file, info, stamp)).is_err() {
-                    return Err(on_all(files, Fault::OutOfMemory));
+                    return Err(failure_on_all(files, Fault::OutOfMemory));
                 }
             }
-            Err(error) if refusal.is_none() => {
+            Err(error) if first_failure.is_none() => {
                 let fault = fault_of(alloc, ends.as_slice(), error);
-                refusal = Some(Failure::on_file(file, fault));
+                first_failure = Some(Failure::on_file(file, fault));
             }
             Err(_) => {}
         }
     }
-    match refusal {
+    match first_failure {
         // A file before it may have a section that can't be read, which is reported first.
-        Some(refusal) if !merge.by_key => Err(obstacle_in_files(rt, files).unwrap_or(refusal)),
-        Some(refusal) => Err(refusal),
+        Some(first_failure) if !merge.by_key => Err(failure_in_files(rt, files).unwrap_or(
+            first_failure,
+        )),
+        Some(first_failure) => Err(first_failure),
         None => Ok(opened),
     }
 }

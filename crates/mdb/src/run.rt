@@ -19,7 +19,7 @@ use crate::terminals::Terminals;
 use crate::words::{Words, WordsError, read_words};
 use mdb_report::fault::Fault;
 use mdb_report::moment::seconds_now;
-use mdb_report::shown::Shown;
+use mdb_report::shown::ShownText;
 use std::alloc::AllocError;
 use std::random::RandomSource;
 use std::rt::{Clock, Env, Files};
@@ -71,8 +71,14 @@ pub fn run<
 {
     match read_words(rt) {
         Ok(words) => status_of_words(rt, &words, terminals).number(),
-        Err(WordsError::OutOfMemory) => failed(rt, &Failure::on_words(Fault::OutOfMemory)).number(),
-        Err(WordsError::TooLong) => failed(rt, &Failure::on_words(Fault::LongWord)).number(),
+        Err(WordsError::OutOfMemory) => report_failure(
+            rt,
+            &Failure::on_words(Fault::OutOfMemory),
+        ).number(),
+        Err(WordsError::TooLong) => report_failure(
+            rt,
+            &Failure::on_words(Fault::LongWord),
+        ).number(),
     }
 }
 
@@ -82,7 +88,7 @@ fn status_of_words<
     match request_of(rt.alloc(), words.texts.as_slice(), seconds_now(rt)) {
         Ok(mut request) => match add_listed(rt, &mut request) {
             Ok(()) => status_of(rt, &request, words.unreadable.as_slice(), terminals),
-            Err(failure) => failed(rt, &failure),
+            Err(failure) => report_failure(rt, &failure),
         },
         Err(error) => {
             if error.print(rt).is_err() {
@@ -111,26 +117,26 @@ fn status_of<R: Locks + Input + Clock + Print + Eprint + RandomSource + AllocGlo
             };
             match inputs {
                 Ok(inputs) => inspect(rt, &inputs, inquiry, *printing, terminals),
-                Err(_) => failed(rt, &Failure::on_words(Fault::OutOfMemory)),
+                Err(_) => report_failure(rt, &Failure::on_words(Fault::OutOfMemory)),
             }
         }
         Request::Collect(sources, collection) => match inputs_of(rt, sources, unreadable) {
             Ok(inputs) => collect_garbage(rt, &inputs, *collection, terminals),
-            Err(_) => failed(rt, &Failure::on_words(Fault::OutOfMemory)),
+            Err(_) => report_failure(rt, &Failure::on_words(Fault::OutOfMemory)),
         },
         Request::Report(sources, reporting) => match inputs_of(rt, sources, unreadable) {
             Ok(inputs) => report(rt, &inputs, sources.words.as_slice(), *reporting, terminals),
-            Err(_) => failed(rt, &Failure::on_words(Fault::OutOfMemory)),
+            Err(_) => report_failure(rt, &Failure::on_words(Fault::OutOfMemory)),
         },
         Request::Make(making, target) => {
             if let Some(word) = unreadable.first() {
-                return failed(rt, &Failure::on_file(word.as_str(), Fault::NoText));
+                return report_failure(rt, &Failure::on_file(word.as_str(), Fault::NoText));
             }
             status_of_making(rt, make(rt, making, *target, terminals.output))
         }
         Request::Merge(sources, merge) => {
             if let Some(word) = unreadable.first() {
-                return failed(rt, &Failure::on_file(word.as_str(), Fault::NoText));
+                return report_failure(rt, &Failure::on_file(word.as_str(), Fault::NoText));
             }
             status_of_merge(rt, sources, *merge, terminals)
         }
@@ -152,7 +158,7 @@ fn status_of_merge<
             status
         }
         Err(fault) => {
-            let folder = Shown(folder);
+            let folder = ShownText(folder);
             let _ = rt.eprintln(format_args!("{folder}: {fault}"));
             Status::Failed
         }
@@ -166,7 +172,7 @@ fn status_of_sources<
     match inputs_of(rt, sources, &[]) {
         Ok(inputs) if inputs.failed => Status::Failed,
         Ok(inputs) => status_of_files(rt, inputs.paths.as_slice(), merge, terminals),
-        Err(_) => failed(rt, &Failure::on_words(Fault::OutOfMemory)),
+        Err(_) => report_failure(rt, &Failure::on_words(Fault::OutOfMemory)),
     }
 }
 
@@ -180,7 +186,7 @@ fn status_of_files<
         .collect(rt.alloc());
     match files {
         Ok(files) => { status_of_making(rt, merge_files(rt, files.as_slice(), merge, terminals)) }
-        Err(_) => failed(rt, &Failure::on_words(Fault::OutOfMemory)),
+        Err(_) => report_failure(rt, &Failure::on_words(Fault::OutOfMemory)),
     }
 }
 
@@ -193,12 +199,12 @@ fn status_of_making<R: Eprint>(rt: &R, made: Result<(), Failure<'_>>) -> Status 
             let _ = rt.eprintln(&failure);
             Status::Found
         }
-        Err(failure) => failed(rt, &failure),
+        Err(failure) => report_failure(rt, &failure),
     }
 }
 
 /// Reports a failure on standard error.
-pub fn failed<R: Eprint>(rt: &R, failure: &Failure<'_>) -> Status
+pub fn report_failure<R: Eprint>(rt: &R, failure: &Failure<'_>) -> Status
     ensures { result ≡ Status.Failed }
 {
     let _ = rt.eprintln(failure);

@@ -58,8 +58,8 @@ impl Words {
         match str::from_utf8(word) {
             Ok(text) => self.texts.push(String::from_str(alloc, text)?)?,
             Err(_) => {
-                self.unreadable.push(escaped(alloc, word)?)?;
-                self.texts.push(escaped(alloc, word)?)?;
+                self.unreadable.push(escape_word(alloc, word)?)?;
+                self.texts.push(escape_word(alloc, word)?)?;
             }
         }
         Ok(())
@@ -67,7 +67,7 @@ impl Words {
 }
 
 /// The letters of a word, and the digits of its other bytes.
-pub fn escaped(alloc: Global, word: &[u8]) -> Result<String, AllocError> {
+pub fn escape_word(alloc: Global, word: &[u8]) -> Result<String, AllocError> {
     let mut text = String::new(alloc);
     for byte in word {
         if byte.is_ascii_graphic() {

@@ -5,7 +5,7 @@ ghost use Rattle.std.specs.List.{flat_map};
 ghost use Rattle.std.specs.Str.{chars};
 ghost use Rattle.mdb_overview.specs.Escapes.{escape};
 
-use mdb_report::shown::Shown;
+use mdb_report::shown::ShownText;
 use std::alloc::{AllocError, Global};
 
 /// The most characters of a label.
@@ -13,7 +13,7 @@ const LABEL_SIZE: usize = 26;
 
 /// A text with each character that means something in HTML replaced by what stands for it. It fails
 /// only if memory is lacking.
-pub fn escaped(alloc: Global, text: &str) -> Result<String, AllocError>
+pub fn escape_text(alloc: Global, text: &str) -> Result<String, AllocError>
     ensures { IfOk result (λ escaped. string_bytes escaped ≡ flat_map escape (chars text.now)) }
 {
     let mut escaped = String::new(alloc);
@@ -31,8 +31,8 @@ pub fn escaped(alloc: Global, text: &str) -> Result<String, AllocError>
 
 /// A name in HTML, with its control characters as `\u{..}`.
 pub(crate) fn escaped_name(alloc: Global, name: &str) -> Result<String, AllocError> {
-    let shown = format!(in alloc; "{}", Shown(name))?;
-    escaped(alloc, shown.as_str())
+    let shown = format!(in alloc; "{}", ShownText(name))?;
+    escape_text(alloc, shown.as_str())
 }
 
 /// The same of a path without its folder, and cut if it is long.

@@ -4,7 +4,7 @@ use std::fmt;
 
 /// A number, if it is known, with a comma before each three digits.
 #[derive(Clone, Copy)]
-pub(crate) struct Grouped(pub(crate) Option<u64>);
+pub(crate) struct GroupedNumber(pub(crate) Option<u64>);
 
 /// Of which the digits between commas are numbers.
 const UNITS: &[u64] = &[
@@ -17,7 +17,7 @@ const UNITS: &[u64] = &[
     1,
 ];
 
-impl fmt::Display for Grouped {
+impl fmt::Display for GroupedNumber {
     fn fmt<W: fmt::Write>(&self, f: &mut fmt::Formatter<W>) -> fmt::Result {
         let Some(number) = self.0 else {
             return write!(f, "unknown");
@@ -37,6 +37,6 @@ impl fmt::Display for Grouped {
 }
 
 /// The same of the length of a list.
-pub(crate) fn grouped_length<T>(list: &[T]) -> Grouped {
-    Grouped(Some(list.len() as u64))
+pub(crate) fn grouped_length<T>(list: &[T]) -> GroupedNumber {
+    GroupedNumber(Some(list.len() as u64))
 }

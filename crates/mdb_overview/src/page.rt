@@ -1,7 +1,7 @@
 //! The page of an overview.
 
-use crate::escape::{escaped, escaped_name};
-use crate::numbers::{Grouped, grouped_length};
+use crate::escape::{escape_text, escaped_name};
+use crate::numbers::{GroupedNumber, grouped_length};
 use crate::overview::{Overview, total_of};
 use crate::plots::{print_expiries, print_sharing, print_sizes};
 use crate::style::HEAD;
@@ -63,7 +63,7 @@ fn print_failures(alloc: Global, page: &mut String, failures: &[String]) -> Resu
     )?;
     let (shown, others) = failures.split_at(failures.len().min(MOST_FAILURES));
     for failure in shown {
-        write!(page, "<li>{}</li>\n", escaped(alloc, failure.as_str())?)?;
+        write!(page, "<li>{}</li>\n", escape_text(alloc, failure.as_str())?)?;
     }
     if !others.is_empty() {
         write!(page, "<li>and {} more</li>\n", grouped_length(others))?;
@@ -98,6 +98,6 @@ fn print_number(page: &mut String, name: &str, number: Option<u64>) -> Result<()
     write!(
         page,
         "<div><dt>{name}</dt><dd>{}</dd></div>\n",
-        Grouped(number)
+        GroupedNumber(number)
     )
 }

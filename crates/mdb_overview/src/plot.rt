@@ -1,6 +1,6 @@
 //! Plots of bars, as SVG.
 
-use crate::numbers::Grouped;
+use crate::numbers::GroupedNumber;
 use std::alloc::AllocError;
 
 /// Widths and heights, in pixels of the plot: of all, of the names, of a row, of the column heads, and
@@ -90,7 +90,7 @@ fn print_row(
     let end = LABELS - 10;
     write!(page, "<g{pale} role=\"img\"><title>{label}")?;
     for (column, name) in columns.iter().enumerate() {
-        write!(page, ", {name}: {}", Grouped(row.value(column)))?;
+        write!(page, ", {name}: {}", GroupedNumber(row.value(column)))?;
     }
     write!(
         page,
@@ -115,7 +115,7 @@ fn print_bar(
     let y = top.saturating_add(3);
     let behind = x.saturating_add(width).saturating_add(6);
     let base = top.saturating_add(15);
-    let value = Grouped(value);
+    let value = GroupedNumber(value);
     write!(
         page,
         "<rect x=\"{x}\" y=\"{y}\" width=\"{width}\" height=\"16\" rx=\"2\"/>"

@@ -3,7 +3,7 @@
 use crate::counts::{Span, spans_of};
 use crate::escape::escaped_label;
 use crate::expiries::{day_of, expiries_of};
-use crate::numbers::{Grouped, grouped_length};
+use crate::numbers::{GroupedNumber, grouped_length};
 use crate::overview::{Overview, total_of};
 use crate::plot::{PlotRow, print_plot};
 use mdb_report::moment::Moment;
@@ -32,7 +32,7 @@ pub(crate) fn print_sizes(
             pale: false,
         })?;
     }
-    let bytes = Grouped(Some(total_of(others).bytes));
+    let bytes = GroupedNumber(Some(total_of(others).bytes));
     let others = grouped_length(others);
     let about = format!(in alloc;
         "Each column has a scale of its own. Smaller shards, not shown: {others}, of {bytes} bytes."
@@ -52,8 +52,8 @@ pub(crate) fn print_sharing(
     for span in &spans_of(alloc, &overview.sharing.by_shards, MOST_NUMBERS)? {
         rows.push(row_of(span, numbers_label(alloc, span)?, span.last < 2))?;
     }
-    let hashes = Grouped(Some(overview.sharing.hashes));
-    let shared = Grouped(Some(overview.sharing.shared));
+    let hashes = GroupedNumber(Some(overview.sharing.hashes));
+    let shared = GroupedNumber(Some(overview.sharing.shared));
     let about = format!(in alloc;
         "Distinct chunk hashes: {hashes}. In more than one shard: {shared}. Under different keys one \
         chunk has different hashes."
@@ -87,8 +87,8 @@ pub(crate) fn print_expiries(
             pale: false,
         })?;
     }
-    let expired = Grouped(Some(expiries.expired));
-    let without = Grouped(Some(expiries.without));
+    let expired = GroupedNumber(Some(expiries.expired));
+    let without = GroupedNumber(Some(expiries.without));
     let about = format!(in alloc;
         "Expired by then: {expired}. Without an expiry: {without}. Days are in UTC; those that were \
         over are pale."
@@ -111,8 +111,8 @@ fn row_of(span: &Span, label: String, pale: bool) -> PlotRow {
 }
 
 fn numbers_label(alloc: Global, span: &Span) -> Result<String, AllocError> {
-    let first = Grouped(Some(span.first));
-    let last = Grouped(Some(span.last));
+    let first = GroupedNumber(Some(span.first));
+    let last = GroupedNumber(Some(span.last));
     match span.last {
         1 => format!(in alloc; "in 1 shard"),
         _ if span.first == span.last => format!(in alloc; "in {last} shards"),

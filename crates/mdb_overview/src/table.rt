@@ -2,7 +2,7 @@
 
 use crate::escape::escaped_name;
 use crate::expiries::has_expired;
-use crate::numbers::{Grouped, grouped_length};
+use crate::numbers::{GroupedNumber, grouped_length};
 use crate::overview::{Overview, total_of};
 use mdb_report::brief::{Brief, Total};
 use std::alloc::{AllocError, Global};
@@ -79,7 +79,7 @@ fn print_numbers(page: &mut String, total: &Total) -> Result<(), AllocError> {
         stored,
         materialized,
     ] {
-        write!(page, "<td>{}</td>", Grouped(number))?;
+        write!(page, "<td>{}</td>", GroupedNumber(number))?;
     }
     Ok(())
 }

@@ -1,6 +1,6 @@
 pub mod Bar
 pub mod PageBytes
-pub mod Problems
+pub mod FileFindings
 pub mod Reading
 pub mod RecordLines
 pub mod Fitting

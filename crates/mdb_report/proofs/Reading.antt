@@ -22,8 +22,8 @@ use Rattle.xet_records.specs.Reading.{ReadsNextRecord}
 use Rattle.xet_records.specs.RecordKind.{RecordKind, in_version}
 use Rattle.shard_bytes.specs.Outcomes.{HasOutcome}
 use Rattle.shard_bytes.proofs.Combining.{in_memory}
-use Rattle.mdb_report.specs.Records.{HoldsFiles, FilesRefusal}
-use Rattle.mdb_report.specs.Unfit.{HoldsXorbs, XorbsRefusal}
+use Rattle.mdb_report.specs.Records.{HoldsFiles, FilesNotRead}
+use Rattle.mdb_report.specs.Unfit.{HoldsXorbs, XorbsNotRead}
 use Rattle.xet_records.proofs.RecordKinds.{file_laws, xorb_laws, laws_in, stored_ever}
 use Rattle.xet_core_structures.proofs.Records.RecordsAsRead.{all_handed}
 
@@ -42,7 +42,7 @@ outcome_in_memory bytes info before after ends same is =
 
 -- what is read of a source in memory is what its bytes hold
 pub files_in_memory : {Z : Type 0} (bytes : List ℕ) (info : MDBShardInfo) (old new : MemorySource) (result : CoreResult (Vec MDBFileInfo Z)) → HasHeaderAndFooter bytes info → old.bytes.now ≡ bytes
-    → ReadsFiles info (in_memory old) (in_memory new) result → MatchResult result (λ files. HoldsFiles bytes files.items) (FilesRefusal bytes)
+    → ReadsFiles info (in_memory old) (in_memory new) result → MatchResult result (λ files. HoldsFiles bytes files.items) (FilesNotRead bytes)
 files_in_memory bytes info old new (Ok files) ends same reads =
     outcome_in_memory bytes info old new ends same reads
 files_in_memory bytes info old new (Err e) ends same fails =
@@ -97,6 +97,6 @@ read_xorbs_whole old new at (Ok xorbs) reads = λ k r below.
 read_xorbs_whole old new at (Err e) reads = tt
 
 pub xorbs_in_memory : {Z : Type 0} (bytes : List ℕ) (info : MDBShardInfo) (old new : MemorySource) (result : CoreResult (Vec MDBXorbInfo Z)) → HasHeaderAndFooter bytes info → old.bytes.now ≡ bytes
-    → ReadsXorbs info (in_memory old) (in_memory new) result → MatchResult result (λ xorbs. HoldsXorbs bytes xorbs.items) (XorbsRefusal bytes)
+    → ReadsXorbs info (in_memory old) (in_memory new) result → MatchResult result (λ xorbs. HoldsXorbs bytes xorbs.items) (XorbsNotRead bytes)
 xorbs_in_memory bytes info old new (Ok xorbs) ends same reads = outcome_in_memory bytes info old new ends same reads
 xorbs_in_memory bytes info old new (Err e) ends same fails = inr (inl (outcome_in_memory bytes info old new ends same fails))

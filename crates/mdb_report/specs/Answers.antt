@@ -12,11 +12,11 @@ use Rattle.mdb_report.specs.Summary.{ArePartsOf}
 use Rattle.mdb_report.specs.Unfit.{IsFit}
 
 -- the inquiry may find problems: a summary, also in a line, or a check
-abbrev pub FindsProblems : Inquiry → Type 0
-FindsProblems Summary = ⊤
-FindsProblems Brief = ⊤
-FindsProblems (Check checks) = ⊤
-FindsProblems _ = ⊥
+abbrev pub IsCheck : Inquiry → Type 0
+IsCheck Summary = ⊤
+IsCheck Brief = ⊤
+IsCheck (Check checks) = ⊤
+IsCheck _ = ⊥
 
 -- the inquiry looks something up: files or xorbs by their hashes, or a run of chunks
 abbrev pub LooksUp : Inquiry → Type 0

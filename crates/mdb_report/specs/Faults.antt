@@ -38,8 +38,8 @@ KeepsFrom Reordered = ⊥
 KeepsFrom _ = ⊤
 
 -- a finding is true of the bytes, and keeps them from being combined
-abbrev pub IsObstacle : List ℕ → Finding → Type 0
-IsObstacle bytes finding = IsFinding bytes finding × KeepsFrom finding
+abbrev pub IsBlocking : List ℕ → Finding → Type 0
+IsBlocking bytes finding = IsFinding bytes finding × KeepsFrom finding
 
 -- the chunk hashes of a shard's bytes are under a key
 abbrev pub IsUnderKey : List ℕ → Type 0

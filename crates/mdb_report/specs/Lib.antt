@@ -4,7 +4,7 @@ pub mod Faults
 pub mod Lookups
 pub mod Pages
 pub mod Parts
-pub mod Problems
+pub mod FileFindings
 pub mod Records
 pub mod Sections
 pub mod Summary

@@ -80,8 +80,8 @@ pub record ReportsFinding (info : MDBShardInfo) (hash : DataHash) (with_costs : 
 
 -- why there is no report of a lookup between two states of a source: the lookup is refused, or
 -- memory is lacking
-abbrev pub FindingFails : MDBShardInfo → DataHash → Source → Source → CoreError → Type 0
-FindingFails info hash before after e =
+abbrev pub FindFileFails : MDBShardInfo → DataHash → Source → Source → CoreError → Type 0
+FindFileFails info hash before after e =
     FindRecordFails (files_of info) (file_table info.metadata before) info.metadata.file_info_offset
     hash before after e
     ⊎ (e ≡ OutOfMemory)
@@ -106,5 +106,5 @@ pub record ReportsRun (info : MDBShardInfo) (hashes : List DataHash) (before aft
 
 -- why there is no report of a lookup: header and footer are not read, the lookup is refused, or
 -- memory is lacking
-abbrev pub LookupRefusal : List ℕ → DataHash → CoreError → Type 0
-LookupRefusal bytes hash e = RefusesFile bytes hash e ⊎ (e ≡ OutOfMemory)
+abbrev pub LookupFails : List ℕ → DataHash → CoreError → Type 0
+LookupFails bytes hash e = RefusesFile bytes hash e ⊎ (e ≡ OutOfMemory)

@@ -6,13 +6,13 @@ use Rattle.xet_core_structures.specs.declared.error.CoreError.{CoreError}
 use Rattle.xet_core_structures.specs.TwoShards.ByteResults.{LoadRefusal}
 use Rattle.xet_core_structures.specs.declared.merklehash.DataHash.{DataHash}
 use Rattle.xet_core_structures.specs.declared.shard_format.MDBShardInfo.{MDBShardInfo}
-use Rattle.mdb_report.specs.declared.inquiry.Trouble.{Trouble}
-use Rattle.mdb_report.specs.declared.inquiry.Trouble.TheVariants.{Shard, Ends, Input, TooManyRounds}
+use Rattle.mdb_report.specs.declared.inquiry.InquiryFault.{InquiryFault}
+use Rattle.mdb_report.specs.declared.inquiry.InquiryFault.TheVariants.{Shard, Ends, Input, TooManyRounds}
 use Rattle.mdb_report.specs.declared.lookup.FoundReport.{FoundReport}
 use Rattle.mdb_report.specs.declared.lookup.RunReport.{RunReport}
 use Rattle.mdb_report.specs.Lookups.{ReportsFinding, ReportsRun}
-use Rattle.mdb_report.specs.declared.paged_file.Stop.{Stop}
-use Rattle.mdb_report.specs.declared.paged_file.Stop.TheVariants.{Lacks, Failed}
+use Rattle.mdb_report.specs.declared.paged_file.CallFault.{CallFault}
+use Rattle.mdb_report.specs.declared.paged_file.CallFault.TheVariants.{Lacks, Failed}
 use Rattle.mdb_report.specs.declared.pages.Page.{Page}
 use Rattle.mdb_report.specs.declared.pages.Pages.{Pages}
 
@@ -56,25 +56,25 @@ source_of unread pages = record {
 
 -- why a call on the pages in memory has no answer: a page is lacking, or the call failed, for a
 -- cause that is none of theirs
-abbrev pub IsStop : (CoreError → Type 0) → Stop → Type 0
-IsStop Cause (Lacks number) = ⊤
-IsStop Cause (Failed e) = Cause e
+abbrev pub IsCallFault : (CoreError → Type 0) → CallFault → Type 0
+IsCallFault Cause (Lacks number) = ⊤
+IsCallFault Cause (Failed e) = Cause e
 
 -- why there is no answer from pages: a call on what they have failed, for a cause that is none of
 -- theirs; or the file was not read, or after all rounds a page is still lacking
-abbrev pub IsTroubleWith : (CoreError → Type 0) → Trouble → Type 0
-IsTroubleWith Cause (Shard e) = Cause e
-IsTroubleWith Cause (Input e) = ⊤
-IsTroubleWith Cause TooManyRounds = ⊤
-IsTroubleWith Cause _ = ⊥
+abbrev pub IsFaultWith : (CoreError → Type 0) → InquiryFault → Type 0
+IsFaultWith Cause (Shard e) = Cause e
+IsFaultWith Cause (Input e) = ⊤
+IsFaultWith Cause TooManyRounds = ⊤
+IsFaultWith Cause _ = ⊥
 
 -- why header and footer are not read from pages: the bytes have none; or the file was not read, or
 -- after all rounds a page is still lacking
-abbrev pub IsEndsTrouble : List ℕ → Trouble → Type 0
-IsEndsTrouble bytes (Ends e) = LoadRefusal bytes e
-IsEndsTrouble bytes (Input e) = ⊤
-IsEndsTrouble bytes TooManyRounds = ⊤
-IsEndsTrouble bytes _ = ⊥
+abbrev pub IsEndsFault : List ℕ → InquiryFault → Type 0
+IsEndsFault bytes (Ends e) = LoadRefusal bytes e
+IsEndsFault bytes (Input e) = ⊤
+IsEndsFault bytes TooManyRounds = ⊤
+IsEndsFault bytes _ = ⊥
 
 -- a call on pages failed, for a cause and not for a page that is lacking
 abbrev pub FailsInPages : (Source → Source → CoreError → Type 0) → (ℕ → ℕ) → Pages → CoreError

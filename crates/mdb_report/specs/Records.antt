@@ -75,8 +75,8 @@ ReportsFiles bytes with_rows reports =
     × AllZip (λ file report. ReportsFile file with_rows report) files reports
 
 -- header and footer are not read, or the file section isn't, or memory is lacking
-abbrev pub FilesRefusal : List ℕ → CoreError → Type 0
-FilesRefusal bytes e =
+abbrev pub FilesNotRead : List ℕ → CoreError → Type 0
+FilesNotRead bytes e =
     LoadRefusal bytes e
     ⊎ HasOutcome bytes
     (λ info before after. SectionFails (files_of info) before after

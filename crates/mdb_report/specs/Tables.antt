@@ -62,8 +62,8 @@ HasChunkTable bytes =
     ⊎ ((xorbs : List XorbAt) × HoldsXorbHeaders bytes xorbs × All HasNoChunks xorbs)
 
 -- why the headers of xorbs are not read: header and footer are not read, or the xorb section is not
-abbrev pub XorbsRefusal : List ℕ → CoreError → Type 0
-XorbsRefusal bytes e =
+abbrev pub XorbsNotRead : List ℕ → CoreError → Type 0
+XorbsNotRead bytes e =
     LoadRefusal bytes e
     ⊎ HasOutcome bytes
     (λ info before after. SectionFails xorb_records before after info.metadata.xorb_info_offset e)

@@ -21,8 +21,8 @@ HoldsXorbs bytes xorbs =
     info.metadata.xorb_info_offset xorbs)
 
 -- header and footer are not read, or the xorb section isn't, or memory is lacking
-abbrev pub XorbsRefusal : List ℕ → CoreError → Type 0
-XorbsRefusal bytes e =
+abbrev pub XorbsNotRead : List ℕ → CoreError → Type 0
+XorbsNotRead bytes e =
     LoadRefusal bytes e
     ⊎ HasOutcome bytes
     (λ info before after. SectionFails xorb_records before after

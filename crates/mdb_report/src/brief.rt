@@ -10,7 +10,7 @@ ghost use Rattle.mdb_report.specs.Brief.{SaysBriefly, IsCount, AddsTo, sum_if_kn
 use crate::hex::Hex;
 use crate::moment::Moment;
 use crate::parts::Parts;
-use crate::shown::Shown;
+use crate::shown::ShownText;
 use crate::summary::key_of;
 use serde::Serialize;
 use shard_bytes::load::load_bytes;
@@ -179,7 +179,7 @@ impl fmt::Display for Counts {
 
 impl fmt::Display for Brief<'_> {
     fn fmt<W: fmt::Write>(&self, f: &mut fmt::Formatter<W>) -> fmt::Result {
-        let shard = Shown(self.shard);
+        let shard = ShownText(self.shard);
         let version = self.version;
         let bytes = self.bytes;
         let stored = self.stored_bytes;

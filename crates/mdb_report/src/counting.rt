@@ -45,7 +45,7 @@ impl<S: ShardSource> CountingSource<S> {
     }
 
     /// The bytes read so far.
-    pub fn read(&self) -> u64
+    pub fn bytes_read(&self) -> u64
         ensures { result ≡ min (S.meaning self.now.source).read (2 ^ 64 - 1) }
     {
         self.read

@@ -2,9 +2,9 @@
 
 ghost use Rattle.std.specs.Prelude.{◌≡◌, ◌≢◌, ◌⊎◌, ◌↔◌, ℕ, All, Contains, IsTrue, MatchOption, MatchResult};
 ghost use Rattle.shard_bytes.specs.Checking.{IsFinding};
-ghost use Rattle.mdb_report.specs.Faults.{IsFaultOf, MayBeCause, KeepsFrom, IsObstacle, IsUnderKey, IsUnderNoKey};
+ghost use Rattle.mdb_report.specs.Faults.{IsFaultOf, MayBeCause, KeepsFrom, IsBlocking, IsUnderKey, IsUnderNoKey};
 
-use crate::problem::InWords;
+use crate::file_finding::InWords;
 use crate::record_line::LineFault;
 use crate::tables::Table;
 use shard_bytes::check::{Finding, Part, Section, check_bytes};
@@ -94,15 +94,19 @@ impl fmt::Display for Fault {
                     "eight or more files have hashes that begin with {word:016x}"
                 )
             }
-            Fault::Disagree(1, first) => write!(f, "a record differs, of {}", Named(*first)),
+            Fault::Disagree(1, first) => write!(f, "a record differs, of {}", NamedHash(*first)),
             Fault::Disagree(count, first) => {
-                write!(f, "{count} records differ, the first of {}", Named(*first))
+                write!(
+                    f,
+                    "{count} records differ, the first of {}",
+                    NamedHash(*first)
+                )
             }
             Fault::Malformed(hash) => {
                 write!(
                     f,
                     "it has a record that no shard may have, of {}",
-                    Named(*hash)
+                    NamedHash(*hash)
                 )
             }
             Fault::NoTable(table) => write!(f, "it has no {table}, which this needs"),
@@ -161,9 +165,9 @@ impl Fault {
 
 /// A hash, and whose it is.
 #[derive(Clone, Copy, Drop)]
-struct Named(RecordHash);
+struct NamedHash(RecordHash);
 
-impl fmt::Display for Named {
+impl fmt::Display for NamedHash {
     fn fmt<W: fmt::Write>(&self, f: &mut fmt::Formatter<W>) -> fmt::Result {
         match self.0 {
             RecordHash::File(hash) => write!(f, "file {hash}"),
@@ -266,29 +270,29 @@ fn may_be_cause(finding: &Finding) -> bool
 
 /// The first finding for which no union and no difference is made of a shard's bytes: their
 /// sections can't be read, or their hashes do not ascend. `None` if there is no such finding.
-pub fn first_obstacle(alloc: Global, bytes: &[u8]) -> Result<Option<Finding>, Fault>
+pub fn first_blocking_finding(alloc: Global, bytes: &[u8]) -> Result<Option<Finding>, Fault>
     ensures { MatchResult result
-        (λ found. MatchOption found ((f : Finding) → ¬ IsObstacle bytes.now f)
-        (IsObstacle bytes.now))
+        (λ found. MatchOption found ((f : Finding) → ¬ IsBlocking bytes.now f)
+        (IsBlocking bytes.now))
         (λ fault. fault ≡ Fault.OutOfMemory) }
 {
     match check_bytes(alloc, bytes) {
-        Ok(findings) => Ok(obstacle_in(findings.as_slice())),
+        Ok(findings) => Ok(blocking_finding(findings.as_slice())),
         Err(_) => Err(Fault::OutOfMemory),
     }
 }
 
 // The first finding that keeps a shard from being read.
-fn obstacle_in(findings: &[Finding]) -> Option<Finding>
+fn blocking_finding(findings: &[Finding]) -> Option<Finding>
     ensures { MatchOption result (All (λ f. ¬ KeepsFrom f) findings.now)
         (λ f. Contains findings.now f × KeepsFrom f) }
 {
-    let obstacle = findings.iter().find(
+    let blocking = findings.iter().find(
         |finding: &&Finding| -> bool
             ensures { IsTrue result ↔ KeepsFrom finding.now.now }
         { keeps_from(finding) },
     );
-    obstacle.copied()
+    blocking.copied()
 }
 
 // Whether a finding keeps a shard from being read. Other parts or another size do not, nor does what

@@ -1,17 +1,17 @@
 //! What a shard can be asked, and printing its answers.
 
 ghost use Rattle.std.specs.Prelude.{◌≡◌, ◌≢◌, ◌↔◌, [], All, is_some, IfOk, IsOk, IsTrue};
-ghost use Rattle.mdb_report.specs.Problems.{IsNoted};
+ghost use Rattle.mdb_report.specs.FileFindings.{IsFileNote};
 ghost use Rattle.mdb_report.specs.Parts.{PartsAscend};
-ghost use Rattle.mdb_report.specs.Answers.{FindsProblems, LooksUp, IsClean, IsSound, HasAscendingParts, SaysNoMore};
+ghost use Rattle.mdb_report.specs.Answers.{IsCheck, LooksUp, IsClean, IsSound, HasAscendingParts, SaysNoMore};
 ghost use Rattle.mdb_report.specs.Unfit.{IsFit};
 
 use crate::brief::Brief;
+use crate::file_finding::{FileFinding, FindingReport, findings_to_report};
 use crate::hex::{HashReport, Hex};
 use crate::line::{Layout, Style, print};
 use crate::lookup::{FoundReport, RunReport};
 use crate::name::print_name;
-use crate::problem::{Problem, ProblemReport, problems_asked};
 use crate::records::{ChunkReport, XorbReport, file_reports};
 use crate::summary::Summary;
 use crate::tables::{Table, lacks_chunk_table, lacks_file_table};
@@ -101,14 +101,14 @@ impl Inquiry {
 pub enum Answer {
     Printed,
     /// A check found something, or the offsets of a footer do not ascend.
-    FoundProblems,
+    HasFindings,
     /// A lookup found none of what it looked for.
     FoundNothing,
 }
 
 /// Why there is no answer.
 #[derive(Drop)]
-pub enum Trouble {
+pub enum InquiryFault {
     /// A call on the shard's bytes failed, or an allocation.
     Shard(CoreError),
     /// Header and footer could not be read.
@@ -125,21 +125,21 @@ pub enum Trouble {
     Output(io::Error),
 }
 
-impl From<CoreError> for Trouble {
-    fn from(error: CoreError) -> Trouble {
-        Trouble::Shard(error)
+impl From<CoreError> for InquiryFault {
+    fn from(error: CoreError) -> InquiryFault {
+        InquiryFault::Shard(error)
     }
 }
 
-impl From<AllocError> for Trouble {
-    fn from(_error: AllocError) -> Trouble {
-        Trouble::Shard(CoreError::OutOfMemory)
+impl From<AllocError> for InquiryFault {
+    fn from(_error: AllocError) -> InquiryFault {
+        InquiryFault::Shard(CoreError::OutOfMemory)
     }
 }
 
-impl From<io::Error> for Trouble {
-    fn from(error: io::Error) -> Trouble {
-        Trouble::Output(error)
+impl From<io::Error> for InquiryFault {
+    fn from(error: io::Error) -> InquiryFault {
+        InquiryFault::Output(error)
     }
 }
 
@@ -156,9 +156,9 @@ pub fn print_answer<W: Write>(
     layout: Layout<'_>,
     tally: &mut Tally,
     output: &mut W,
-) -> Result<Answer, Trouble>
+) -> Result<Answer, InquiryFault>
     ensures problems { IfOk result
-        (λ answer. answer ≡ Answer.FoundProblems → FindsProblems inquiry.now) }
+        (λ answer. answer ≡ Answer.HasFindings → IsCheck inquiry.now) }
     ensures nothing { IfOk result
         (λ answer. answer ≡ Answer.FoundNothing → LooksUp inquiry.now) }
     ensures clean { IfOk result
@@ -245,7 +245,7 @@ fn summarize<W: Write>(
     bytes: &[u8],
     style: Style,
     output: &mut W,
-) -> Result<Answer, Trouble>
+) -> Result<Answer, InquiryFault>
     ensures { IfOk result (λ answer. (answer ≢ Answer.FoundNothing)
         × (answer ≡ Answer.Printed → HasAscendingParts bytes.now)) }
 {
@@ -259,7 +259,7 @@ pub(crate) fn print_summary<W: Write>(
     summary: &Summary<'_>,
     style: Style,
     output: &mut W,
-) -> Result<Answer, Trouble>
+) -> Result<Answer, InquiryFault>
     ensures { IfOk result (λ answer. (answer ≢ Answer.FoundNothing)
         × (answer ≡ Answer.Printed → PartsAscend summary.now.parts)) }
 {
@@ -267,7 +267,7 @@ pub(crate) fn print_summary<W: Write>(
     if summary.parts.ascend() {
         Ok(Answer::Printed)
     } else {
-        Ok(Answer::FoundProblems)
+        Ok(Answer::HasFindings)
     }
 }
 
@@ -279,7 +279,7 @@ fn brief_of<W: Write>(
     style: Style,
     tally: &mut Tally,
     output: &mut W,
-) -> Result<Answer, Trouble>
+) -> Result<Answer, InquiryFault>
     ensures { IfOk result (λ answer. (answer ≢ Answer.FoundNothing)
         × (answer ≡ Answer.Printed → HasAscendingParts bytes.now)) }
 {
@@ -294,7 +294,7 @@ pub(crate) fn print_brief<W: Write>(
     style: Style,
     tally: &mut Tally,
     output: &mut W,
-) -> Result<Answer, Trouble>
+) -> Result<Answer, InquiryFault>
     ensures { IfOk result (λ answer. (answer ≢ Answer.FoundNothing)
         × (answer ≡ Answer.Printed → IsTrue brief.now.ascends)) }
 {
@@ -303,7 +303,7 @@ pub(crate) fn print_brief<W: Write>(
     if brief.ascends {
         Ok(Answer::Printed)
     } else {
-        Ok(Answer::FoundProblems)
+        Ok(Answer::HasFindings)
     }
 }
 
@@ -315,21 +315,21 @@ fn check<W: Write>(
     bytes: &[u8],
     style: Style,
     output: &mut W,
-) -> Result<Answer, Trouble>
+) -> Result<Answer, InquiryFault>
     ensures { IfOk result (λ answer. (answer ≢ Answer.FoundNothing)
         × (answer ≡ Answer.Printed → IsSound checks bytes.now)) }
 {
-    let problems = problems_asked(alloc, file, checks.named, checks.key, bytes)?;
+    let problems = findings_to_report(alloc, file, checks.named, checks.key, bytes)?;
     let info = load_bytes(alloc, bytes).ok();
     for problem in &problems {
-        let report = ProblemReport::of_problem(file, info.as_ref(), *problem);
+        let report = FindingReport::of_finding(file, info.as_ref(), *problem);
         print(alloc, &report, Layout::plain(style), output)?;
     }
     let fits = fits_if(alloc, checks.deep, file, bytes, style, output)?;
     if are_accepted(problems.as_slice(), checks.strict) && fits {
         Ok(Answer::Printed)
     } else {
-        Ok(Answer::FoundProblems)
+        Ok(Answer::HasFindings)
     }
 }
 
@@ -341,7 +341,7 @@ fn fits_if<W: Write>(
     bytes: &[u8],
     style: Style,
     output: &mut W,
-) -> Result<bool, Trouble>
+) -> Result<bool, InquiryFault>
     ensures { IfOk result (λ fits. IsTrue fits → IsTrue deep → IsFit bytes.now) }
 {
     if deep {
@@ -352,8 +352,8 @@ fn fits_if<W: Write>(
 }
 
 // Whether there is no problem, or, if the check is not strict, none but notes.
-fn are_accepted(problems: &[Problem], strict: bool) -> bool
-    ensures notes { IsTrue result → All IsNoted problems.now }
+fn are_accepted(problems: &[FileFinding], strict: bool) -> bool
+    ensures notes { IsTrue result → All IsFileNote problems.now }
     ensures none { IsTrue result → IsTrue strict → problems.now ≡ [] }
 {
     if strict {
@@ -364,12 +364,12 @@ fn are_accepted(problems: &[Problem], strict: bool) -> bool
 }
 
 // Whether these problems are notes.
-fn are_notes(problems: &[Problem]) -> bool
-    ensures { IsTrue result ↔ All IsNoted problems.now }
+fn are_notes(problems: &[FileFinding]) -> bool
+    ensures { IsTrue result ↔ All IsFileNote problems.now }
 {
     problems.iter().all(
-        |problem: &Problem| -> bool
-            ensures { IsTrue result ↔ IsNoted problem.now }
+        |problem: &FileFinding| -> bool
+            ensures { IsTrue result ↔ IsFileNote problem.now }
         { problem.is_note() },
     )
 }
@@ -383,11 +383,11 @@ fn find<W: Write>(
     layout: Layout<'_>,
     tally: &mut Tally,
     output: &mut W,
-) -> Result<Answer, Trouble>
-    ensures { IfOk result (λ answer. answer ≢ Answer.FoundProblems) }
+) -> Result<Answer, InquiryFault>
+    ensures { IfOk result (λ answer. answer ≢ Answer.HasFindings) }
 {
     if lacks_file_table(alloc, bytes)? {
-        return Err(Trouble::NoTable(Table::Files));
+        return Err(InquiryFault::NoTable(Table::Files));
     }
     let mut found = false;
     for hash in hashes {
@@ -409,7 +409,7 @@ pub(crate) fn print_lookup<W: Write>(
     layout: Layout<'_>,
     tally: &mut Tally,
     output: &mut W,
-) -> Result<bool, Trouble>
+) -> Result<bool, InquiryFault>
     ensures { IfOk result (λ found. found ≡ is_some report.now.found) }
 {
     let found = report.found.is_some();
@@ -430,11 +430,11 @@ fn query<W: Write>(
     layout: Layout<'_>,
     tally: &mut Tally,
     output: &mut W,
-) -> Result<Answer, Trouble>
-    ensures { IfOk result (λ answer. answer ≢ Answer.FoundProblems) }
+) -> Result<Answer, InquiryFault>
+    ensures { IfOk result (λ answer. answer ≢ Answer.HasFindings) }
 {
     if lacks_chunk_table(alloc, bytes)? {
-        return Err(Trouble::NoTable(Table::Chunks));
+        return Err(InquiryFault::NoTable(Table::Chunks));
     }
     let report = RunReport::of_query(alloc, bytes, hashes)?;
     print_run(alloc, &report, layout, tally, output)
@@ -447,8 +447,8 @@ pub(crate) fn print_run<W: Write>(
     layout: Layout<'_>,
     tally: &mut Tally,
     output: &mut W,
-) -> Result<Answer, Trouble>
-    ensures { IfOk result (λ answer. answer ≢ Answer.FoundProblems) }
+) -> Result<Answer, InquiryFault>
+    ensures { IfOk result (λ answer. answer ≢ Answer.HasFindings) }
 {
     if report.run.is_some() {
         tally.has_run = true;
@@ -467,7 +467,7 @@ fn print_files<W: Write>(
     long: bool,
     layout: Layout<'_>,
     output: &mut W,
-) -> Result<(), Trouble> {
+) -> Result<(), InquiryFault> {
     for file in &file_reports(alloc, bytes, long)? {
         print(alloc, file, layout, output)?;
     }
@@ -481,7 +481,7 @@ fn print_xorbs<W: Write>(
     bytes: &[u8],
     layout: Layout<'_>,
     output: &mut W,
-) -> Result<(), Trouble> {
+) -> Result<(), InquiryFault> {
     let info = load_bytes(alloc, bytes)?;
     let mut source = MemorySource::new(bytes);
     let xorbs = info.read_all_xorb_blocks_full(alloc, &mut source)?;
@@ -498,7 +498,7 @@ pub(crate) fn print_xorb<W: Write>(
     xorb: &MDBXorbInfo,
     layout: Layout<'_>,
     output: &mut W,
-) -> Result<(), Trouble> {
+) -> Result<(), InquiryFault> {
     match inquiry {
         Inquiry::Xorbs { long } => {
             let report = XorbReport::of_xorb(alloc, xorb, *long)?;

@@ -5,6 +5,7 @@
 pub mod brief;
 pub mod counting;
 pub mod fault;
+pub mod file_finding;
 pub mod flags;
 pub mod hex;
 pub mod inquiry;
@@ -17,7 +18,6 @@ pub mod paged_inquiry;
 pub mod paged_source;
 pub mod pages;
 pub mod parts;
-pub mod problem;
 pub mod record_line;
 pub mod records;
 pub mod section;

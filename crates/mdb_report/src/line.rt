@@ -3,7 +3,7 @@
 ghost use Rattle.std.specs.Prelude.{◌≡◌};
 ghost use Rattle.mdb_report.specs.declared.line.Origin.{Origin};
 
-use crate::shown::Shown;
+use crate::shown::ShownText;
 use serde::Serialize;
 use std::alloc::Global;
 use std::fmt::Display;
@@ -98,7 +98,7 @@ fn print_lines<T: Display, W: Write>(
     output: &mut W,
 ) -> io::Result<()> {
     let text = format!(in alloc; "{value}")?;
-    let shard = Shown(shard);
+    let shard = ShownText(shard);
     for line in text.as_str().lines() {
         writeln!(output, "{shard}: {line}")?;
     }

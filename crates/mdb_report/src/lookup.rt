@@ -5,7 +5,7 @@ ghost use Rattle.xet_core_structures.specs.FileRecord.{FitsItsHeader};
 ghost use Rattle.xet_core_structures.specs.RunReading.{QueryRefused};
 ghost use Rattle.shard_bytes.specs.Finding.{RefusesFile};
 ghost use Rattle.shard_bytes.specs.Query.{RefusesQuery};
-ghost use Rattle.mdb_report.specs.Lookups.{FindsAt, FindsIn, FindingFails, ReportsLookup, ReportsFinding, ReportsQuery, ReportsRun, LookupRefusal, run_of};
+ghost use Rattle.mdb_report.specs.Lookups.{FindsAt, FindsIn, FindFileFails, ReportsLookup, ReportsFinding, ReportsQuery, ReportsRun, LookupFails, run_of};
 
 use crate::counting::CountingSource;
 use crate::hex::Hex;
@@ -62,7 +62,7 @@ impl FoundReport {
         with_costs: bool,
     ) -> Result<FoundReport>
         ensures { MatchResult result (ReportsLookup bytes.now hash with_costs)
-            (LookupRefusal bytes.now hash) }
+            (LookupFails bytes.now hash) }
     {
         let (file, costs) = find_counted(alloc, bytes, &hash)?;
         let found = match file {
@@ -90,7 +90,7 @@ impl FoundReport {
     ) -> Result<FoundReport>
         ensures { MatchResult result (ReportsFinding info.now hash with_costs
             (S.meaning source.old.source) (S.meaning source.new.source))
-            (FindingFails info.now hash (S.meaning source.old.source)
+            (FindFileFails info.now hash (S.meaning source.old.source)
             (S.meaning source.new.source)) }
     {
         let (file, costs) = find_in(alloc, info, source, &hash)?;
@@ -115,16 +115,16 @@ fn find_in<S: ShardSource>(
 ) -> Result<(Option<MDBFileInfo>, Costs)>
     ensures finds { MatchResult result (λ found. FindsIn info.now hash.now
         (S.meaning source.old.source) (S.meaning source.new.source) found.0 found.1)
-        (FindingFails info.now hash.now (S.meaning source.old.source)
+        (FindFileFails info.now hash.now (S.meaning source.old.source)
         (S.meaning source.new.source)) }
     ensures fits { IfOk result (λ found. IfSome found.0 FitsItsHeader) }
 {
     let seeks = source.seeks();
-    let read = source.read();
+    let read = source.bytes_read();
     let found = info.get_file_reconstruction_info(alloc, source, hash)?;
     let costs = Costs {
         seeks: source.seeks().saturating_sub(seeks),
-        bytes_read: source.read().saturating_sub(read),
+        bytes_read: source.bytes_read().saturating_sub(read),
     };
     Ok((found, costs))
 }
@@ -142,11 +142,11 @@ fn find_counted(
     let mut source = CountingSource::new(MemorySource::new(bytes));
     let info = MDBShardInfo::load_from_reader(alloc, &mut source)?;
     let seeks = source.seeks();
-    let read = source.read();
+    let read = source.bytes_read();
     let found = info.get_file_reconstruction_info(alloc, &mut source, hash)?;
     let costs = Costs {
         seeks: source.seeks().saturating_sub(seeks),
-        bytes_read: source.read().saturating_sub(read),
+        bytes_read: source.bytes_read().saturating_sub(read),
     };
     Ok((found, costs))
 }

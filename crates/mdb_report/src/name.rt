@@ -1,6 +1,6 @@
 //! The names of shards' files by the hashes of their bytes.
 
-use crate::inquiry::Trouble;
+use crate::inquiry::InquiryFault;
 use crate::line::{Layout, print};
 use serde::Serialize;
 use std::alloc::Global;
@@ -28,7 +28,7 @@ pub(crate) fn print_name<W: Write>(
     key: HMACKey,
     layout: Layout<'_>,
     output: &mut W,
-) -> Result<(), Trouble> {
+) -> Result<(), InquiryFault> {
     let name = shard_file_name(alloc, &keyed_hash(key, bytes))?;
     let report = NameReport {
         name: name.as_str(),

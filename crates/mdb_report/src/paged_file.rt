@@ -5,12 +5,12 @@ ghost use Rattle.std.specs.Io.KnownBytes.{Keeps};
 ghost use Rattle.std.specs.declared.io.Error.{Error as DeviceError};
 ghost use Rattle.xet_core_structures.specs.Ends.{HasHeaderAndFooter};
 ghost use Rattle.xet_core_structures.specs.RunReading.{QueryRefused};
-ghost use Rattle.mdb_report.specs.Lookups.{FindingFails};
+ghost use Rattle.mdb_report.specs.Lookups.{FindFileFails};
 ghost use Rattle.xet_core_structures.specs.TwoShards.ByteResults.{LoadRefusal};
-ghost use Rattle.mdb_report.specs.Pages.{bytes_in, has_page, FindsInPages, QueriesPages, IsEndsTrouble, IsStop, IsTroubleWith, FailsInPages};
+ghost use Rattle.mdb_report.specs.Pages.{bytes_in, has_page, FindsInPages, QueriesPages, IsEndsFault, IsCallFault, IsFaultWith, FailsInPages};
 
 use crate::counting::CountingSource;
-use crate::inquiry::Trouble;
+use crate::inquiry::InquiryFault;
 use crate::lookup::{FoundReport, RunReport};
 use crate::paged_source::{PagedSource, Unread};
 use crate::pages::{PAGE_SIZE, Page, Pages};
@@ -35,7 +35,7 @@ const MOST_PAGES_LOG: u32 = 16;
 
 /// Why a call on the pages in memory has no answer.
 #[derive(Drop)]
-enum Stop {
+enum CallFault {
     /// It lacks the page with this number.
     Lacks(usize),
     /// It failed on the bytes that are there.
@@ -64,46 +64,46 @@ impl<F: Read + Seek + Drop> PagedFile<F> {
         })
     }
 
-    /// The header and the footer of the shard in the file. `Trouble::Ends` if the bytes have none,
-    /// `Trouble::Input` if the file is not read, `Trouble::TooManyRounds` if a page is still
+    /// The header and the footer of the shard in the file. `InquiryFault::Ends` if the bytes have none,
+    /// `InquiryFault::Input` if the file is not read, `InquiryFault::TooManyRounds` if a page is still
     /// lacking after all the rounds.
-    pub fn load(&mut self, alloc: Global) -> Result<MDBShardInfo, Trouble>
+    pub fn load(&mut self, alloc: Global) -> Result<MDBShardInfo, InquiryFault>
         ghost unread: { ℕ → ℕ }
         ensures { MatchResult result (HasHeaderAndFooter (bytes_in unread self.new.pages))
-            (IsEndsTrouble (bytes_in unread self.new.pages)) }
+            (IsEndsFault (bytes_in unread self.new.pages)) }
     {
         for round in 0..ROUNDS {
             match load_in_pages::<Brand>(alloc, &self.pages) {
                 Ok(info) => return Ok(info),
-                Err(Stop::Failed(error)) => return Err(Trouble::Ends(error)),
-                Err(Stop::Lacks(number)) => self.read_from(alloc, number, round)?,
+                Err(CallFault::Failed(error)) => return Err(InquiryFault::Ends(error)),
+                Err(CallFault::Lacks(number)) => self.read_from(alloc, number, round)?,
             }
         }
-        Err(Trouble::TooManyRounds)
+        Err(InquiryFault::TooManyRounds)
     }
 
-    /// Looks up a file in the shard, which has this header and footer. `Trouble::Shard` with an
-    /// error of the lookup, of the pages that are in memory then; `Trouble::Input` if the file is
-    /// not read, `Trouble::TooManyRounds` if a page is still lacking after all the rounds.
+    /// Looks up a file in the shard, which has this header and footer. `InquiryFault::Shard` with an
+    /// error of the lookup, of the pages that are in memory then; `InquiryFault::Input` if the file is
+    /// not read, `InquiryFault::TooManyRounds` if a page is still lacking after all the rounds.
     pub fn find(
         &mut self,
         alloc: Global,
         info: &MDBShardInfo,
         hash: MerkleHash,
         costs: bool,
-    ) -> Result<FoundReport, Trouble>
+    ) -> Result<FoundReport, InquiryFault>
         ghost unread: { ℕ → ℕ }
         ensures { MatchResult result (FindsInPages info.now hash costs unread self.new.pages)
-            (IsTroubleWith (FailsInPages (FindingFails info.now hash) unread self.new.pages)) }
+            (IsFaultWith (FailsInPages (FindFileFails info.now hash) unread self.new.pages)) }
     {
         for round in 0..ROUNDS {
             match find_in_pages::<Brand>(alloc, &self.pages, info, hash, costs) {
                 Ok(report) => return Ok(report),
-                Err(Stop::Failed(error)) => return Err(Trouble::Shard(error)),
-                Err(Stop::Lacks(number)) => self.read_from(alloc, number, round)?,
+                Err(CallFault::Failed(error)) => return Err(InquiryFault::Shard(error)),
+                Err(CallFault::Lacks(number)) => self.read_from(alloc, number, round)?,
             }
         }
-        Err(Trouble::TooManyRounds)
+        Err(InquiryFault::TooManyRounds)
     }
 
     /// Looks up a xorb in the shard, which has this header and footer. The errors are those of
@@ -113,7 +113,7 @@ impl<F: Read + Seek + Drop> PagedFile<F> {
         alloc: Global,
         info: &MDBShardInfo,
         hash: MerkleHash,
-    ) -> Result<FoundXorb, Trouble>
+    ) -> Result<FoundXorb, InquiryFault>
         ensures { IfOk result (λ report. report.hash.0 ≡ hash) }
     {
         for round in 0..ROUNDS {
@@ -122,12 +122,12 @@ impl<F: Read + Seek + Drop> PagedFile<F> {
                 Ok(report) => return Ok(report),
                 Err(error) => error,
             };
-            match source.missing() {
+            match source.missing_page() {
                 Some(number) => self.read_from(alloc, number, round)?,
-                None => return Err(Trouble::Shard(error)),
+                None => return Err(InquiryFault::Shard(error)),
             }
         }
-        Err(Trouble::TooManyRounds)
+        Err(InquiryFault::TooManyRounds)
     }
 
     /// Looks for a run of chunks in the shard, which has this header and footer. The errors are
@@ -137,40 +137,40 @@ impl<F: Read + Seek + Drop> PagedFile<F> {
         alloc: Global,
         info: &MDBShardInfo,
         hashes: &[MerkleHash],
-    ) -> Result<RunReport, Trouble>
+    ) -> Result<RunReport, InquiryFault>
         ghost unread: { ℕ → ℕ }
         ensures { MatchResult result (QueriesPages info.now hashes.now unread self.new.pages)
-            (IsTroubleWith
+            (IsFaultWith
             (FailsInPages (QueryRefused info.now.metadata hashes.now) unread self.new.pages)) }
     {
         for round in 0..ROUNDS {
             match query_in_pages::<Brand>(alloc, &self.pages, info, hashes) {
                 Ok(report) => return Ok(report),
-                Err(Stop::Failed(error)) => return Err(Trouble::Shard(error)),
-                Err(Stop::Lacks(number)) => self.read_from(alloc, number, round)?,
+                Err(CallFault::Failed(error)) => return Err(InquiryFault::Shard(error)),
+                Err(CallFault::Lacks(number)) => self.read_from(alloc, number, round)?,
             }
         }
-        Err(Trouble::TooManyRounds)
+        Err(InquiryFault::TooManyRounds)
     }
 
-    /// The file from an offset on, to be read to its end. `Trouble::Input` if it cannot be sought.
-    pub fn reader_at(self, offset: u64) -> Result<F, Trouble>
+    /// The file from an offset on, to be read to its end. `InquiryFault::Input` if it cannot be sought.
+    pub fn reader_at(self, offset: u64) -> Result<F, InquiryFault>
         ensures bytes { IfOk result (λ file. Keeps (F.stream_bytes self.file) (F.stream_bytes file)) }
         ensures moved { IfOk result (λ file. IfSome (F.stream_position self.file)
             (λ _. F.stream_position file ≡ Some offset)) }
-        ensures causes { IfErr result (λ trouble. (e : DeviceError) × (trouble ≡ Trouble.Input e)) }
+        ensures causes { IfErr result (λ fault. (e : DeviceError) × (fault ≡ InquiryFault.Input e)) }
     {
         let PagedFile { mut file, .. } = self;
         match file.seek(SeekFrom::Start(offset)) {
             Ok(_) => Ok(file),
-            Err(error) => Err(Trouble::Input(error)),
+            Err(error) => Err(InquiryFault::Input(error)),
         }
     }
 
     // Reads pages from one on that a call lacked: one in each of the first rounds, and later twice
     // as many as in the round before, so that few rounds suffice for a long record.
-    fn read_from(&mut self, alloc: Global, first: usize, round: u32) -> Result<(), Trouble>
-        ensures { IfErr result (λ trouble. (e : DeviceError) × (trouble ≡ Trouble.Input e)) }
+    fn read_from(&mut self, alloc: Global, first: usize, round: u32) -> Result<(), InquiryFault>
+        ensures { IfErr result (λ fault. (e : DeviceError) × (fault ≡ InquiryFault.Input e)) }
     {
         let doubled = round.saturating_sub(SINGLE_ROUNDS).min(MOST_PAGES_LOG);
         let count = 1usize << doubled;
@@ -178,7 +178,7 @@ impl<F: Read + Seek + Drop> PagedFile<F> {
             if !self.pages.has(number) {
                 match self.read_page(alloc, number) {
                     Ok(()) => {}
-                    Err(error) => return Err(Trouble::Input(error)),
+                    Err(error) => return Err(InquiryFault::Input(error)),
                 }
             }
         }
@@ -204,18 +204,18 @@ impl<F: Read + Seek + Drop> PagedFile<F> {
 }
 
 // Header and footer, from the pages in memory.
-fn load_in_pages<U: Unread>(alloc: Global, pages: &Pages) -> Result<MDBShardInfo, Stop>
+fn load_in_pages<U: Unread>(alloc: Global, pages: &Pages) -> Result<MDBShardInfo, CallFault>
     ensures { MatchResult result (HasHeaderAndFooter (bytes_in U.bytes pages.now))
-        (IsStop (LoadRefusal (bytes_in U.bytes pages.now))) }
+        (IsCallFault (LoadRefusal (bytes_in U.bytes pages.now))) }
 {
     let mut source = PagedSource::<U>::new(pages);
     let error = match MDBShardInfo::load_from_reader(alloc, &mut source) {
         Ok(info) => return Ok(info),
         Err(error) => error,
     };
-    match source.missing() {
-        Some(number) => Err(Stop::Lacks(number)),
-        None => Err(Stop::Failed(error)),
+    match source.missing_page() {
+        Some(number) => Err(CallFault::Lacks(number)),
+        None => Err(CallFault::Failed(error)),
     }
 }
 
@@ -226,18 +226,18 @@ fn find_in_pages<U: Unread>(
     info: &MDBShardInfo,
     hash: MerkleHash,
     costs: bool,
-) -> Result<FoundReport, Stop>
+) -> Result<FoundReport, CallFault>
     ensures { MatchResult result (FindsInPages info.now hash costs U.bytes pages.now)
-        (IsStop (FailsInPages (FindingFails info.now hash) U.bytes pages.now)) }
+        (IsCallFault (FailsInPages (FindFileFails info.now hash) U.bytes pages.now)) }
 {
     let mut source = CountingSource::new(PagedSource::<U>::new(pages));
     let error = match FoundReport::in_source(alloc, info, &mut source, hash, costs) {
         Ok(report) => return Ok(report),
         Err(error) => error,
     };
-    match source.inner().missing() {
-        Some(number) => Err(Stop::Lacks(number)),
-        None => Err(Stop::Failed(error)),
+    match source.inner().missing_page() {
+        Some(number) => Err(CallFault::Lacks(number)),
+        None => Err(CallFault::Failed(error)),
     }
 }
 
@@ -247,17 +247,17 @@ fn query_in_pages<U: Unread>(
     pages: &Pages,
     info: &MDBShardInfo,
     hashes: &[MerkleHash],
-) -> Result<RunReport, Stop>
+) -> Result<RunReport, CallFault>
     ensures { MatchResult result (QueriesPages info.now hashes.now U.bytes pages.now)
-        (IsStop (FailsInPages (QueryRefused info.now.metadata hashes.now) U.bytes pages.now)) }
+        (IsCallFault (FailsInPages (QueryRefused info.now.metadata hashes.now) U.bytes pages.now)) }
 {
     let mut source = PagedSource::<U>::new(pages);
     let error = match RunReport::in_source(alloc, info, &mut source, hashes) {
         Ok(report) => return Ok(report),
         Err(error) => error,
     };
-    match source.missing() {
-        Some(number) => Err(Stop::Lacks(number)),
-        None => Err(Stop::Failed(error)),
+    match source.missing_page() {
+        Some(number) => Err(CallFault::Lacks(number)),
+        None => Err(CallFault::Failed(error)),
     }
 }

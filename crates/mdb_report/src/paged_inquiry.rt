@@ -1,11 +1,11 @@
 //! Answering about a shard in a regular file, of which only the needed pages are read.
 
 ghost use Rattle.std.specs.Prelude.{◌≡◌, ◌≢◌, IfOk, IfSome};
-ghost use Rattle.mdb_report.specs.Answers.{FindsProblems, LooksUp};
+ghost use Rattle.mdb_report.specs.Answers.{IsCheck, LooksUp};
 
 use crate::brief::Brief;
 use crate::inquiry::{
-    Answer, Inquiry, Trouble, print_brief, print_lookup, print_run, print_summary, print_xorb,
+    Answer, Inquiry, InquiryFault, print_brief, print_lookup, print_run, print_summary, print_xorb,
 };
 use crate::line::{Layout, print};
 use crate::paged_file::PagedFile;
@@ -35,9 +35,9 @@ pub fn print_paged_answer<F: Read + Seek + Drop, W: Write>(
     layout: Layout<'_>,
     tally: &mut Tally,
     output: &mut W,
-) -> Result<Option<Answer>, Trouble>
+) -> Result<Option<Answer>, InquiryFault>
     ensures problems { IfOk result
-        (λ found. IfSome found (λ answer. answer ≡ Answer.FoundProblems → FindsProblems inquiry.now)) }
+        (λ found. IfSome found (λ answer. answer ≡ Answer.HasFindings → IsCheck inquiry.now)) }
     ensures nothing { IfOk result
         (λ found. IfSome found (λ answer. answer ≡ Answer.FoundNothing → LooksUp inquiry.now)) }
 {
@@ -94,8 +94,8 @@ fn find<F: Read + Seek + Drop, W: Write>(
     layout: Layout<'_>,
     tally: &mut Tally,
     output: &mut W,
-) -> Result<Answer, Trouble>
-    ensures { IfOk result (λ answer. answer ≢ Answer.FoundProblems) }
+) -> Result<Answer, InquiryFault>
+    ensures { IfOk result (λ answer. answer ≢ Answer.HasFindings) }
 {
     let mut found = false;
     for hash in hashes {
@@ -118,8 +118,8 @@ fn find_xorbs<F: Read + Seek + Drop, W: Write>(
     layout: Layout<'_>,
     tally: &mut Tally,
     output: &mut W,
-) -> Result<Answer, Trouble>
-    ensures { IfOk result (λ answer. answer ≢ Answer.FoundProblems) }
+) -> Result<Answer, InquiryFault>
+    ensures { IfOk result (λ answer. answer ≢ Answer.HasFindings) }
 {
     let mut found = false;
     for hash in hashes {
@@ -141,14 +141,14 @@ fn list_files<F: Read + Drop, W: Write>(
     long: bool,
     layout: Layout<'_>,
     output: &mut W,
-) -> Result<(), Trouble> {
+) -> Result<(), InquiryFault> {
     let version = FormatVersion::of_header(info.header.version);
-    let mut section = Section::new(buffered(alloc, file)?, version);
+    let mut section = Section::new(with_buffer(alloc, file)?, version);
     for _ in 0..u64::MAX {
         let file = match section.next_file(alloc) {
             Ok(Some(file)) => file,
             Ok(None) => break,
-            Err(error) => return Err(Trouble::Section(Part::Files, error)),
+            Err(error) => return Err(InquiryFault::Section(Part::Files, error)),
         };
         print(
             alloc,
@@ -167,19 +167,19 @@ fn list_xorbs<F: Read + Drop, W: Write>(
     inquiry: &Inquiry,
     layout: Layout<'_>,
     output: &mut W,
-) -> Result<(), Trouble> {
-    let mut section = Section::new(buffered(alloc, file)?, FormatVersion::V3);
+) -> Result<(), InquiryFault> {
+    let mut section = Section::new(with_buffer(alloc, file)?, FormatVersion::V3);
     for _ in 0..u64::MAX {
         let xorb = match section.next_xorb(alloc) {
             Ok(Some(xorb)) => xorb,
             Ok(None) => break,
-            Err(error) => return Err(Trouble::Section(Part::Xorbs, error)),
+            Err(error) => return Err(InquiryFault::Section(Part::Xorbs, error)),
         };
         print_xorb(alloc, inquiry, &xorb, layout, output)?;
     }
     Ok(())
 }
 
-fn buffered<F: Read + Drop>(alloc: Global, file: F) -> Result<BufReader<F>, Trouble> {
-    BufReader::new(alloc, file).map_err(|error| Trouble::Input(error))
+fn with_buffer<F: Read + Drop>(alloc: Global, file: F) -> Result<BufReader<F>, InquiryFault> {
+    BufReader::new(alloc, file).map_err(|error| InquiryFault::Input(error))
 }

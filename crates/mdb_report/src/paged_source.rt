@@ -22,8 +22,8 @@ impl Unread for Brand {
     ghost bytes = { λ _. 0 };
 }
 
-/// A source of bytes of which some pages are in memory. A read elsewhere fails, and `missing` is
-/// then the number of the page that has to be read first.
+/// A source of bytes of which some pages are in memory. A read elsewhere fails, and
+/// `missing_page` is then the number of the page that has to be read first.
 #[derive(Drop)]
 pub struct PagedSource<'a, U: Unread> {
     pages: &'a Pages,
@@ -55,7 +55,7 @@ impl<'a, U: Unread> PagedSource<'a, U> {
     }
 
     /// The number of the page that a read lacked.
-    pub fn missing(&self) -> Option<usize>
+    pub fn missing_page(&self) -> Option<usize>
         ensures { result ≡ self.now.missing }
     {
         self.missing

@@ -11,14 +11,14 @@ use xet_core_structures::shard_format::MDBShardInfo;
 
 /// The bytes of a part: offsets from the start of the shard, the end excluded.
 #[derive(Clone, Copy, Debug, PartialEq, Eq, Serialize)]
-pub struct Part {
+pub struct PartRange {
     pub start: u64,
     pub end: u64,
 }
 
-impl fmt::Display for Part {
+impl fmt::Display for PartRange {
     fn fmt<W: fmt::Write>(&self, f: &mut fmt::Formatter<W>) -> fmt::Result {
-        let Part { start, end } = *self;
+        let PartRange { start, end } = *self;
         write!(f, "{start}..{end}")
     }
 }
@@ -41,13 +41,13 @@ impl fmt::Display for Table {
 /// The parts of a shard as its footer has them; each ends where the next one starts.
 #[derive(Clone, Copy, Debug, PartialEq, Eq, Serialize)]
 pub struct Parts {
-    pub header: Part,
-    pub files: Part,
-    pub xorbs: Part,
+    pub header: PartRange,
+    pub files: PartRange,
+    pub xorbs: PartRange,
     pub file_table: Table,
     pub xorb_table: Table,
     pub chunk_table: Table,
-    pub footer: Part,
+    pub footer: PartRange,
 }
 
 impl Parts {
@@ -57,15 +57,15 @@ impl Parts {
     {
         let footer = info.metadata;
         Parts {
-            header: Part {
+            header: PartRange {
                 start: 0,
                 end: footer.file_info_offset,
             },
-            files: Part {
+            files: PartRange {
                 start: footer.file_info_offset,
                 end: footer.xorb_info_offset,
             },
-            xorbs: Part {
+            xorbs: PartRange {
                 start: footer.xorb_info_offset,
                 end: footer.file_lookup_offset,
             },
@@ -84,7 +84,7 @@ impl Parts {
                 end: footer.footer_offset,
                 rows: footer.chunk_lookup_num_entry,
             },
-            footer: Part {
+            footer: PartRange {
                 start: footer.footer_offset,
                 end: bytes,
             },

@@ -2,7 +2,7 @@
 
 ghost use Rattle.std.specs.Prelude.{◌≡◌, All, IfOk, MatchResult, map};
 ghost use Rattle.xet_core_structures.specs.FileRecord.{FitsItsHeader};
-ghost use Rattle.mdb_report.specs.Records.{ReportsFile, ReportsFiles, ReportsRows, ReportsXorb, ReportsChunk, HoldsFiles, FilesRefusal, segment_report, chunk_row_of};
+ghost use Rattle.mdb_report.specs.Records.{ReportsFile, ReportsFiles, ReportsRows, ReportsXorb, ReportsChunk, HoldsFiles, FilesNotRead, segment_report, chunk_row_of};
 
 use crate::flags::{ChunkFlags, FileFlags};
 use crate::hex::Hex;
@@ -38,7 +38,7 @@ pub fn file_reports(
     with_rows: bool,
 ) -> Result<Vec<FileReport>, CoreError>
     ensures { MatchResult result (λ reports. ReportsFiles bytes.now with_rows reports.items)
-        (FilesRefusal bytes.now) }
+        (FilesNotRead bytes.now) }
 {
     let files = read_files(alloc, bytes)?;
     let mut reports = Vec::new(alloc);
@@ -51,7 +51,7 @@ pub fn file_reports(
 // The files of a shard, each of which fits its header.
 pub(crate) fn read_files(alloc: Global, bytes: &[u8]) -> Result<Vec<MDBFileInfo>, CoreError>
     ensures read { MatchResult result (λ files. HoldsFiles bytes.now files.items)
-        (FilesRefusal bytes.now) }
+        (FilesNotRead bytes.now) }
     ensures fits { IfOk result (λ files. All FitsItsHeader files.items) }
 {
     let mut source = MemorySource::new(bytes);

@@ -5,9 +5,9 @@ use std::fmt;
 /// A text, such as a file's name, that is printed with each control character as `\u{..}`, so that
 /// none acts on a terminal.
 #[derive(Clone, Copy)]
-pub struct Shown<'a>(pub &'a str);
+pub struct ShownText<'a>(pub &'a str);
 
-impl fmt::Display for Shown<'_> {
+impl fmt::Display for ShownText<'_> {
     fn fmt<W: fmt::Write>(&self, f: &mut fmt::Formatter<W>) -> fmt::Result {
         for c in self.0.chars() {
             if c.is_control() {

@@ -2,7 +2,7 @@
 
 /// The number of bytes in a text of digits, which a K, M, G or T may follow: 1024 bytes, and then
 /// each 1024 of the unit before. `None` for another text, or if there are too many for `u64`.
-pub fn bytes_of(text: &str) -> Option<u64> {
+pub fn parse_size(text: &str) -> Option<u64> {
     let Some(last) = text.as_bytes().last() else {
         return None;
     };

@@ -10,7 +10,7 @@ ghost use Rattle.mdb_report.specs.Summary.{Summarizes, key_in};
 use crate::hex::Hex;
 use crate::moment::Moment;
 use crate::parts::{LEGEND, Parts, bar_of};
-use crate::shown::Shown;
+use crate::shown::ShownText;
 use serde::Serialize;
 use shard_bytes::load::load_bytes;
 use std::alloc::{AllocError, Global};
@@ -92,7 +92,7 @@ pub(crate) fn key_of(info: &MDBShardInfo) -> Option<Hex>
 
 impl fmt::Display for Summary<'_> {
     fn fmt<W: fmt::Write>(&self, f: &mut fmt::Formatter<W>) -> fmt::Result {
-        let shard = Shown(self.shard);
+        let shard = ShownText(self.shard);
         let version = self.version;
         let bytes = self.bytes;
         writeln!(f, "{shard}: version {version}, {bytes} bytes")?;

@@ -1,8 +1,8 @@
 //! Whether a shard has the tables by which lookups find its records.
 
 ghost use Rattle.std.specs.Prelude.{◌≡◌, true, false, All, IfOk, IfErr};
-ghost use Rattle.mdb_report.specs.Records.{FilesRefusal};
-ghost use Rattle.mdb_report.specs.Tables.{LacksFileTable, HasFileTable, LacksChunkTable, HasChunkTable, XorbsRefusal, HaveChunks, HasNoChunks};
+ghost use Rattle.mdb_report.specs.Records.{FilesNotRead};
+ghost use Rattle.mdb_report.specs.Tables.{LacksFileTable, HasFileTable, LacksChunkTable, HasChunkTable, XorbsNotRead, HaveChunks, HasNoChunks};
 
 use crate::records::read_files;
 use shard_bytes::load::load_bytes;
@@ -38,7 +38,7 @@ impl fmt::Display for Table {
 pub fn lacks_file_table(alloc: Global, bytes: &[u8]) -> Result<bool>
     ensures lacks { IfOk result (λ lacks. lacks ≡ true → LacksFileTable bytes.now) }
     ensures has { IfOk result (λ lacks. lacks ≡ false → HasFileTable bytes.now) }
-    ensures refused { IfErr result (FilesRefusal bytes.now) }
+    ensures refused { IfErr result (FilesNotRead bytes.now) }
 {
     let info = load_bytes(alloc, bytes)?;
     if info.metadata.file_lookup_num_entry != 0 {
@@ -55,7 +55,7 @@ pub fn lacks_file_table(alloc: Global, bytes: &[u8]) -> Result<bool>
 pub fn lacks_chunk_table(alloc: Global, bytes: &[u8]) -> Result<bool>
     ensures lacks { IfOk result (λ lacks. lacks ≡ true → LacksChunkTable bytes.now) }
     ensures has { IfOk result (λ lacks. lacks ≡ false → HasChunkTable bytes.now) }
-    ensures refused { IfErr result (XorbsRefusal bytes.now) }
+    ensures refused { IfErr result (XorbsNotRead bytes.now) }
 {
     let mut source = MemorySource::new(bytes);
     let info = MDBShardInfo::load_from_reader(alloc, &mut source)?;

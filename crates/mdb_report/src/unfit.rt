@@ -2,14 +2,14 @@
 
 ghost use Rattle.std.specs.Prelude.{◌≡◌, ◌⊎◌, [], All, IfOk, IfErr, IsTrue, MatchResult};
 ghost use Rattle.xet_core_structures.specs.XorbRecord.{HasItsChunks};
-ghost use Rattle.mdb_report.specs.Records.{FilesRefusal};
-ghost use Rattle.mdb_report.specs.Unfit.{HoldsXorbs, XorbsRefusal, HoldsUnfit, IsFit};
+ghost use Rattle.mdb_report.specs.Records.{FilesNotRead};
+ghost use Rattle.mdb_report.specs.Unfit.{HoldsXorbs, XorbsNotRead, HoldsUnfit, IsFit};
 
 use crate::hex::Hex;
-use crate::inquiry::Trouble;
+use crate::inquiry::InquiryFault;
 use crate::line::{Layout, Style, print};
 use crate::records::read_files;
-use crate::shown::Shown;
+use crate::shown::ShownText;
 use serde::{Described, Serialize, Serializer};
 use shard_garbage::finding::{Fault, Finding, Segment};
 use shard_garbage::garbage::find_garbage;
@@ -89,7 +89,7 @@ pub(crate) fn print_unfit<W: Write>(
     bytes: &[u8],
     style: Style,
     output: &mut W,
-) -> Result<bool, Trouble>
+) -> Result<bool, InquiryFault>
     ensures { IfOk result (λ fits. IsTrue fits → IsFit bytes.now) }
 {
     match unfit_in(alloc, bytes) {
@@ -98,7 +98,7 @@ pub(crate) fn print_unfit<W: Write>(
             print_findings(alloc, Some(file), found.as_slice(), style, output)?;
             Ok(fits)
         }
-        Err(CoreError::OutOfMemory) => Err(Trouble::Shard(CoreError::OutOfMemory)),
+        Err(CoreError::OutOfMemory) => Err(InquiryFault::Shard(CoreError::OutOfMemory)),
         Err(_) => Ok(false),
     }
 }
@@ -124,7 +124,7 @@ pub fn print_findings<W: Write>(
 /// The errors are those of loading the shard and of reading its sections.
 pub fn unfit_in(alloc: Global, bytes: &[u8]) -> Result<Vec<Finding>, CoreError>
     ensures found { IfOk result (λ found. HoldsUnfit bytes.now found.items) }
-    ensures refused { IfErr result (λ e. FilesRefusal bytes.now e ⊎ XorbsRefusal bytes.now e) }
+    ensures refused { IfErr result (λ e. FilesNotRead bytes.now e ⊎ XorbsNotRead bytes.now e) }
 {
     let files = read_files(alloc, bytes)?;
     let xorbs = read_xorbs(alloc, bytes)?;
@@ -134,7 +134,7 @@ pub fn unfit_in(alloc: Global, bytes: &[u8]) -> Result<Vec<Finding>, CoreError>
 // The xorbs of a shard, each of which has its chunks.
 fn read_xorbs(alloc: Global, bytes: &[u8]) -> Result<Vec<MDBXorbInfo>, CoreError>
     ensures read { MatchResult result (λ xorbs. HoldsXorbs bytes.now xorbs.items)
-        (XorbsRefusal bytes.now) }
+        (XorbsNotRead bytes.now) }
     ensures whole { IfOk result (λ xorbs. All HasItsChunks xorbs.items) }
 {
     let mut source = MemorySource::new(bytes);
@@ -145,7 +145,7 @@ fn read_xorbs(alloc: Global, bytes: &[u8]) -> Result<Vec<MDBXorbInfo>, CoreError
 impl fmt::Display for UnfitReport<'_> {
     fn fmt<W: fmt::Write>(&self, f: &mut fmt::Formatter<W>) -> fmt::Result {
         if let Some(shard) = self.shard {
-            let shard = Shown(shard);
+            let shard = ShownText(shard);
             write!(f, "{shard}: ")?;
         }
         let problem = self.problem;

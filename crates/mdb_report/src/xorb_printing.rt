@@ -2,7 +2,7 @@
 
 ghost use Rattle.std.specs.Prelude.{◌≡◌, ◌≢◌, IfOk, is_some};
 
-use crate::inquiry::{Answer, Trouble};
+use crate::inquiry::{Answer, InquiryFault};
 use crate::line::{Layout, print};
 use crate::tables::Table;
 use crate::tally::Tally;
@@ -20,11 +20,11 @@ pub(crate) fn find_xorbs<W: Write>(
     layout: Layout<'_>,
     tally: &mut Tally,
     output: &mut W,
-) -> Result<Answer, Trouble>
-    ensures { IfOk result (λ answer. answer ≢ Answer.FoundProblems) }
+) -> Result<Answer, InquiryFault>
+    ensures { IfOk result (λ answer. answer ≢ Answer.HasFindings) }
 {
     if lacks_xorb_table(alloc, bytes)? {
-        return Err(Trouble::NoTable(Table::Xorbs));
+        return Err(InquiryFault::NoTable(Table::Xorbs));
     }
     let mut found = false;
     for hash in hashes {
@@ -46,7 +46,7 @@ pub(crate) fn print_xorb_lookup<W: Write>(
     layout: Layout<'_>,
     tally: &mut Tally,
     output: &mut W,
-) -> Result<bool, Trouble>
+) -> Result<bool, InquiryFault>
     ensures { IfOk result (λ found. found ≡ is_some report.now.found) }
 {
     let found = report.found.is_some();

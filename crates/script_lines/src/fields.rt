@@ -61,9 +61,9 @@ impl Show for MDBShardFileFooter {
 /// The fields of a header, in their order.
 pub fn header_fields(header: &MDBShardFileHeader) -> [Field; 3] {
     [
-        named("tag", Value::Tag(header.tag)),
-        named("header_version", Value::Number(header.version)),
-        named("footer_size", Value::Number(header.footer_size)),
+        named_field("tag", Value::Tag(header.tag)),
+        named_field("header_version", Value::Number(header.version)),
+        named_field("footer_size", Value::Number(header.footer_size)),
     ]
 }
 
@@ -71,7 +71,7 @@ pub fn header_fields(header: &MDBShardFileHeader) -> [Field; 3] {
 pub fn footer_fields(footer: &MDBShardFileFooter) -> [Field; 17] {
     macro_rules! number {
         ($name:ident) => {
-            named(stringify!($name), Value::Number(footer.$name))
+            named_field(stringify!($name), Value::Number(footer.$name))
         };
     }
     [
@@ -84,13 +84,13 @@ pub fn footer_fields(footer: &MDBShardFileFooter) -> [Field; 17] {
         number!(xorb_lookup_num_entry),
         number!(chunk_lookup_offset),
         number!(chunk_lookup_num_entry),
-        named(
+        named_field(
             "chunk_hash_hmac_key",
             Value::Key(footer.chunk_hash_hmac_key),
         ),
         number!(shard_creation_timestamp),
         number!(shard_key_expiry),
-        named("_buffer", Value::Numbers(footer._buffer)),
+        named_field("_buffer", Value::Numbers(footer._buffer)),
         number!(stored_bytes_on_disk),
         number!(materialized_bytes),
         number!(stored_bytes),
@@ -98,6 +98,6 @@ pub fn footer_fields(footer: &MDBShardFileFooter) -> [Field; 17] {
     ]
 }
 
-fn named(name: &'static str, value: Value) -> Field {
+fn named_field(name: &'static str, value: Value) -> Field {
     Field { name, value }
 }

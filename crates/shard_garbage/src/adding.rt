@@ -95,7 +95,7 @@ fn unnamed_fault(segments: &SortedSegments, hash: MerkleHash) -> Option<Fault>
     ensures { (fault : AFault) → (result ≡ Some fault)
         ↔ IsUnnamed segments.now.items.items hash fault }
 {
-    if segments.naming(hash).is_empty() {
+    if segments.naming_hash(hash).is_empty() {
         Some(Fault::Unnamed)
     } else {
         None

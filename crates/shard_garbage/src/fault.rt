@@ -15,7 +15,7 @@ pub fn total_fault(xorb: &MDBXorbInfo) -> Option<Fault>
 {
     prove!(xorb.chunks.len() as u64 == u64::from(xorb.metadata.num_entries));
     let said = xorb.metadata.num_bytes_in_xorb;
-    let sum = bytes_of(xorb.chunks.as_slice());
+    let sum = sum_of_bytes(xorb.chunks.as_slice());
     if u64::from(said) == sum {
         None
     } else {
@@ -54,7 +54,7 @@ pub fn segment_fault(segment: &Segment, xorb: &MDBXorbInfo) -> Option<Fault>
     if start >= end || end > chunks.len() {
         return Some(Fault::Outside(*segment, chunks.len()));
     }
-    let sum = bytes_of(&chunks[start..end]);
+    let sum = sum_of_bytes(&chunks[start..end]);
     if sum == u64::from(segment.bytes) {
         None
     } else {
@@ -63,7 +63,7 @@ pub fn segment_fault(segment: &Segment, xorb: &MDBXorbInfo) -> Option<Fault>
 }
 
 // The bytes of chunks together, which are fewer than 2 ^ 32.
-fn bytes_of(chunks: &[XorbChunkSequenceEntry]) -> u64
+fn sum_of_bytes(chunks: &[XorbChunkSequenceEntry]) -> u64
     requires { length chunks.now < 4294967296 }
     ensures { result ≡ total_bytes chunks.now }
 {

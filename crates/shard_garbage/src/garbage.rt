@@ -61,7 +61,7 @@ impl Garbage {
             return Ok(());
         }
         self.xorbs.push(hash)?;
-        add_xorb_faults(&mut self.found, self.segments.naming(hash), xorb)?;
+        add_xorb_faults(&mut self.found, self.segments.naming_hash(hash), xorb)?;
         Ok(())
     }
 

@@ -27,7 +27,7 @@ impl SortedSegments {
     }
 
     /// Those that name a hash.
-    pub(crate) fn naming(&self, hash: MerkleHash) -> &[Segment]
+    pub(crate) fn naming_hash(&self, hash: MerkleHash) -> &[Segment]
         ensures { (s : Named) → Contains result.now s
             ↔ (Contains self.now.items.items s × (s.xorb ≡ hash)) }
     {

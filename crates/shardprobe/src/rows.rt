@@ -128,12 +128,12 @@ fn write_value<W: Write>(
         ("xorb", xorb) => write_xorb(&parse_xorb(alloc, xorb, Form::Full)?, output),
         ("header", _) => Ok(MDBShardFileHeader::default().serialize(output)?),
         ("footer", _) => Ok(MDBShardFileFooter::default().serialize(output)?),
-        (_, [word]) => write_row(kind, word, output),
+        (_, [word]) => write_row_of(kind, word, output),
         _ => Err(Stop::Unreadable),
     }
 }
 
-fn write_row<W: Write>(kind: &str, word: &str, output: &mut W) -> Result<usize, Stop> {
+fn write_row_of<W: Write>(kind: &str, word: &str, output: &mut W) -> Result<usize, Stop> {
     match kind {
         "segment" => Ok(parse_full_segment(word)?.serialize(output)?),
         "verification" => Ok(parse_verification_row(word)?.serialize(output)?),

@@ -29,29 +29,29 @@ impl Probe {
     }
 
     fn view_file(&self, name: &str, call: &[&str], out: &mut Vec<u8>) -> Result<(), Stop> {
-        let view = MDBFileInfoView::new(self.alloc, self.copied(name)?)?;
+        let view = MDBFileInfoView::new(self.alloc, self.copy_of(name)?)?;
         show_file_view(&view, self.alloc, call, out)
     }
 
     fn view_file_under(&self, name: &str, record: &[&str], out: &mut Vec<u8>) -> Result<(), Stop> {
         let header = parse_file(self.alloc, record, Form::Full)?.metadata;
-        let bytes = self.copied(name)?;
+        let bytes = self.copy_of(name)?;
         let view = MDBFileInfoView::from_data_and_header(self.alloc, header, bytes)?;
         Ok(show_line(view.header(), out)?)
     }
 
     fn view_xorb(&self, name: &str, call: &[&str], out: &mut Vec<u8>) -> Result<(), Stop> {
-        let view = MDBXorbInfoView::new(self.copied(name)?)?;
+        let view = MDBXorbInfoView::new(self.copy_of(name)?)?;
         show_xorb_view(&view, self.alloc, call, out)
     }
 
     fn view_xorb_under(&self, name: &str, record: &[&str], out: &mut Vec<u8>) -> Result<(), Stop> {
         let header = parse_xorb(self.alloc, record, Form::Full)?.metadata;
-        let view = MDBXorbInfoView::from_data_and_header(header, self.copied(name)?)?;
+        let view = MDBXorbInfoView::from_data_and_header(header, self.copy_of(name)?)?;
         Ok(show_line(view.header(), out)?)
     }
 
-    fn copied(&self, name: &str) -> Result<Bytes, Stop> {
+    fn copy_of(&self, name: &str) -> Result<Bytes, Stop> {
         Ok(Bytes::copy_from_slice(self.alloc, self.buffer(name)?)?)
     }
 }

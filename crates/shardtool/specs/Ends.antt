@@ -6,13 +6,13 @@ use Rattle.std.specs.declared.io.ErrorKind.TheVariants.{OutOfMemory as device_ou
 use Rattle.xet_core_structures.specs.declared.error.CoreError.TheVariants.{OutOfMemory}
 use Rattle.script_lines.specs.declared.words.ParseError.{ParseError}
 use Rattle.script_lines.specs.declared.words.ParseError.TheVariants.{Unreadable as unreadable_line, OutOfMemory as line_out_of_memory}
-use Rattle.shardtool.specs.declared.run.Ending.{Ending}
-use Rattle.shardtool.specs.declared.run.Ending.TheVariants.{Done as done_ending, Refused as refused_ending, Unreadable as unreadable_ending, Failed as failed_ending}
+use Rattle.shardtool.specs.declared.run.ScriptEnd.{ScriptEnd}
+use Rattle.shardtool.specs.declared.run.ScriptEnd.TheVariants.{Done as done_ending, Refused as refused_ending, Unreadable as unreadable_ending, Failed as failed_ending}
 use Rattle.shardtool.specs.declared.stop.Stop.{Stop}
 use Rattle.shardtool.specs.declared.stop.Stop.TheVariants.{Refused, Unreadable, Failed}
 
 -- the exit status of an ending
-abbrev pub status_of : Ending → ℕ
+abbrev pub status_of : ScriptEnd → ℕ
 status_of done_ending = 0
 status_of refused_ending = 1
 status_of unreadable_ending = 2
@@ -40,7 +40,7 @@ abbrev pub StopsAtFailure : Stop → Type 0
 StopsAtFailure stop = (stop ≡ Refused OutOfMemory) ⊎ (stop ≡ Failed)
 
 -- the ending after a stop, or that of an output that fails while the stop is printed
-abbrev pub EndsAt : Stop → Ending → Type 0
+abbrev pub EndsAt : Stop → ScriptEnd → Type 0
 EndsAt (Refused _) ending = (ending ≡ refused_ending) ⊎ (ending ≡ failed_ending)
 EndsAt Unreadable ending = (ending ≡ unreadable_ending) ⊎ (ending ≡ failed_ending)
 EndsAt Failed ending = ending ≡ failed_ending

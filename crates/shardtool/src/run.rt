@@ -20,35 +20,35 @@ pub fn run_script<R: Read, W: Write>(alloc: Global, input: &mut R, output: &mut 
     let ending = run_lines(alloc, input, output);
     match output.flush() {
         Ok(()) => ending.status(),
-        Err(_) => Ending::Failed.status(),
+        Err(_) => ScriptEnd::Failed.status(),
     }
 }
 
 /// How a script ended.
 #[derive(Clone, Copy)]
-enum Ending {
+enum ScriptEnd {
     Done,
     Refused,
     Unreadable,
     Failed,
 }
 
-impl Ending {
+impl ScriptEnd {
     ghost use Rattle.shardtool.specs.Ends.{status_of};
 
     fn status(self) -> u8
         ensures { result ≡ status_of self }
     {
         match self {
-            Ending::Done => 0,
-            Ending::Refused => 1,
-            Ending::Unreadable => 2,
-            Ending::Failed => 3,
+            ScriptEnd::Done => 0,
+            ScriptEnd::Refused => 1,
+            ScriptEnd::Unreadable => 2,
+            ScriptEnd::Failed => 3,
         }
     }
 }
 
-fn run_lines<R: Read, W: Write>(alloc: Global, input: &mut R, output: &mut W) -> Ending {
+fn run_lines<R: Read, W: Write>(alloc: Global, input: &mut R, output: &mut W) -> ScriptEnd {
     let mut lines = match BufReader::new(alloc, input) {
         Ok(lines) => lines,
         Err(error) => return report(Stop::from(error), 1, output),
@@ -57,31 +57,31 @@ fn run_lines<R: Read, W: Write>(alloc: Global, input: &mut R, output: &mut W) ->
     for number in 1..u64::MAX {
         match workspace.run_next_line(alloc, &mut lines, output) {
             Ok(true) => {}
-            Ok(false) => return Ending::Done,
+            Ok(false) => return ScriptEnd::Done,
             Err(stop) => return report(stop, number, output),
         }
     }
     // An input with more lines than `u64` counts does not end.
-    Ending::Failed
+    ScriptEnd::Failed
 }
 
 // Prints why the script stops, with the number of the line.
-fn report<W: Write>(stop: Stop, number: u64, output: &mut W) -> Ending
+fn report<W: Write>(stop: Stop, number: u64, output: &mut W) -> ScriptEnd
     ensures { EndsAt stop result }
 {
     let (ending, printed) = match stop {
         Stop::Refused(error) => {
             let refusal = Refusal(&error);
-            (Ending::Refused, writeln!(output, "refused: {refusal}"))
+            (ScriptEnd::Refused, writeln!(output, "refused: {refusal}"))
         }
         Stop::Unreadable => (
-            Ending::Unreadable,
+            ScriptEnd::Unreadable,
             writeln!(output, "line {number}: unreadable"),
         ),
-        Stop::Failed => return Ending::Failed,
+        Stop::Failed => return ScriptEnd::Failed,
     };
     match printed {
         Ok(()) => ending,
-        Err(_) => Ending::Failed,
+        Err(_) => ScriptEnd::Failed,
     }
 }

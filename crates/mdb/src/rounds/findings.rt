@@ -2,8 +2,8 @@
 
 ghost use Rattle.std.specs.Prelude.{◌≡◌, ◌<◌, ◌≤◌, ◌↔◌, None, IsTrue, MatchOption};
 
-use crate::blame::{disagreement_under, malformed_in};
 use crate::failure::Failure;
+use crate::input_failure::{disagreement_under, failure_on_malformed};
 use std::alloc::Global;
 use xet_core_structures::error::Result;
 use xet_core_structures::set_operations::{
@@ -51,9 +51,9 @@ impl Findings {
     }
 
     /// The first of the files that has a record which no shard may have, and the record.
-    pub fn malformed<'a>(&self, files: &[&'a str]) -> Option<Failure<'a>> {
+    pub fn malformed_failure<'a>(&self, files: &[&'a str]) -> Option<Failure<'a>> {
         match &self.malformed {
-            Some(record) => Some(malformed_in(files, record)),
+            Some(record) => Some(failure_on_malformed(files, record)),
             None => None,
         }
     }

@@ -7,12 +7,13 @@ use super::assembly::Assembly;
 use super::block::{Block, Mark};
 use super::findings::Findings;
 use super::shard_file::{Cursor, ShardFile};
-use super::{Stop, share_of};
-use crate::blame::{
-    lacks_files, obstacle_in_files, on_all, under_other_key, unreadable_file, without_union,
-};
+use super::{RoundFault, share_of};
 use crate::expiry::{earlier, expiry_of};
 use crate::failure::Failure;
+use crate::input_failure::{
+    failure_in_files, failure_of_two_keys, failure_on_all, lacks_files, union_failure,
+    unreadable_file,
+};
 use crate::merge::report_findings;
 use crate::progress::{Progress, Stage};
 use crate::request::{Merge, NewExpiry, Strictness};
@@ -47,7 +48,7 @@ struct Rounds<'a, F: Read + Write + Seek + Drop> {
     /// Whether the shards have one key. Without, only what differs is looked for.
     has_one_key: bool,
     /// Why the merge fails at its end, if nothing else makes it fail before.
-    refusal: Option<Failure<'a>>,
+    key_failure: Option<Failure<'a>>,
     assembly: Assembly<F>,
 }
 
@@ -72,7 +73,7 @@ pub fn merge_parts<
     ) else {
         return Err(Failure::on_target(merge.target.path, Fault::OutOfMemory));
     };
-    let refusal = other_key(rt, files.as_slice(), shards, merge.strictness)?;
+    let key_failure = other_key(rt, files.as_slice(), shards, merge.strictness)?;
     let later_bytes = bytes_left(xorbs.as_slice());
     let mut rounds = Rounds {
         files,
@@ -81,8 +82,8 @@ pub fn merge_parts<
         total_bytes: bytes_left(cursors.as_slice()).saturating_add(later_bytes),
         later_bytes,
         findings: Findings::none(),
-        has_one_key: refusal.is_none(),
-        refusal,
+        has_one_key: key_failure.is_none(),
+        key_failure,
         assembly,
     };
     rounds.merge_section(rt, Section::Files, cursors.as_mut_slice(), progress)?;
@@ -132,15 +133,15 @@ impl<'a, F: Read + Write + Seek + Drop> Rounds<'a, F> {
         let alloc = rt.alloc();
         let parts = match next_parts(rt, cursors, self.room) {
             Ok(parts) => parts,
-            Err(Stop::Failed(failure)) => return Err(failure),
-            Err(Stop::Refused(error)) => return Err(self.read_failure(rt, &[], error)),
+            Err(RoundFault::Failed(failure)) => return Err(failure),
+            Err(RoundFault::Refused(error)) => return Err(self.read_failure(rt, &[], error)),
         };
         let inputs: Result<Vec<&[u8]>, AllocError> = parts
             .iter()
             .map(|bytes| bytes.as_slice())
             .collect(alloc);
         let Ok(inputs) = inputs else {
-            return Err(on_all(self.files.as_slice(), Fault::OutOfMemory));
+            return Err(failure_on_all(self.files.as_slice(), Fault::OutOfMemory));
         };
         self.merge_inputs(rt, section, inputs.as_slice())
     }
@@ -164,7 +165,7 @@ impl<'a, F: Read + Write + Seek + Drop> Rounds<'a, F> {
         match merge_bytes(alloc, inputs, target.version) {
             Ok(part) => self.write_part(section, part),
             Err(error) if lacks_files(alloc, inputs, target.version, &error) => {
-                self.refusal = Some(Failure::on_target(target.path, Fault::HasAuxRow));
+                self.key_failure = Some(Failure::on_target(target.path, Fault::HasAuxRow));
                 Ok(())
             }
             Err(error) => Err(self.read_failure(rt, inputs, error)),
@@ -173,7 +174,7 @@ impl<'a, F: Read + Write + Seek + Drop> Rounds<'a, F> {
 
     // Writes a part of the merge, unless it is known that the merge fails.
     fn write_part(&mut self, section: Section, mut part: Vec<u8>) -> Result<(), Failure<'a>> {
-        if self.refusal.is_some() {
+        if self.key_failure.is_some() {
             return Ok(());
         }
         match self.assembly.add(section, part.as_mut_slice()) {
@@ -192,11 +193,11 @@ impl<'a, F: Read + Write + Seek + Drop> Rounds<'a, F> {
     ) -> Failure<'a> {
         let files = self.files.as_slice();
         if error == CoreError::OutOfMemory {
-            return on_all(files, Fault::OutOfMemory);
+            return failure_on_all(files, Fault::OutOfMemory);
         }
-        match obstacle_in_files(rt, files) {
+        match failure_in_files(rt, files) {
             Some(failure) => failure,
-            None => without_union(rt.alloc(), files, inputs),
+            None => union_failure(rt.alloc(), files, inputs),
         }
     }
 
@@ -204,8 +205,8 @@ impl<'a, F: Read + Write + Seek + Drop> Rounds<'a, F> {
     fn write_failure(&self, error: CoreError) -> Failure<'a> {
         match error {
             CoreError::Io(error) => Failure::on_target(self.merge.target.path, Fault::from(error)),
-            CoreError::OutOfMemory => on_all(self.files.as_slice(), Fault::OutOfMemory),
-            _ => on_all(self.files.as_slice(), Fault::NoUnion),
+            CoreError::OutOfMemory => failure_on_all(self.files.as_slice(), Fault::OutOfMemory),
+            _ => failure_on_all(self.files.as_slice(), Fault::NoUnion),
         }
     }
 
@@ -218,7 +219,7 @@ impl<'a, F: Read + Write + Seek + Drop> Rounds<'a, F> {
         progress: &mut Progress,
     ) -> Result<F, Failure<'a>> {
         let files = self.files.as_slice();
-        let malformed = self.findings.malformed(files);
+        let malformed = self.findings.malformed_failure(files);
         let disagreement = self.findings.disagreement(files);
         match (malformed, disagreement, self.merge.strictness) {
             (Some(malformed), _, Strictness::Strict) => return Err(malformed),
@@ -235,12 +236,12 @@ impl<'a, F: Read + Write + Seek + Drop> Rounds<'a, F> {
         let Rounds {
             files,
             merge,
-            refusal,
+            key_failure,
             assembly,
             ..
         } = self;
-        if let Some(refusal) = refusal {
-            return Err(refusal);
+        if let Some(key_failure) = key_failure {
+            return Err(key_failure);
         }
         let Some(first) = shards.first() else {
             return Err(Failure::on_words(Fault::NoFiles));
@@ -252,7 +253,10 @@ impl<'a, F: Read + Write + Seek + Drop> Rounds<'a, F> {
         };
         match assembly.finish(first.key(), expiry, memory) {
             Ok(file) => Ok(file),
-            Err(CoreError::OutOfMemory) => Err(on_all(files.as_slice(), Fault::OutOfMemory)),
+            Err(CoreError::OutOfMemory) => Err(failure_on_all(
+                files.as_slice(),
+                Fault::OutOfMemory,
+            )),
             Err(CoreError::Io(error)) => {
                 Err(Failure::on_target(merge.target.path, Fault::from(error)))
             }
@@ -287,7 +291,7 @@ fn other_key<'a, R: Files + Input + AllocGlobal>(
         if shard.key() == first.key() {
             continue;
         }
-        let failure = under_other_key(first.path, shard.path);
+        let failure = failure_of_two_keys(first.path, shard.path);
         return match strictness {
             Strictness::Strict => Ok(Some(failure)),
             Strictness::Lenient => Err(unreadable_file(rt, files).unwrap_or(failure)),
@@ -339,7 +343,7 @@ fn next_parts<'a, R: Files + AllocGlobal>(
     rt: &R,
     cursors: &mut [Cursor<'a>],
     room: u64,
-) -> Result<Vec<Vec<u8>>, Stop<'a>> {
+) -> Result<Vec<Vec<u8>>, RoundFault<'a>> {
     let mut blocks = Vec::new(rt.alloc());
     // Each shard's share of the room, so that all would end in the same round.
     let rounds = share_of(bytes_left(cursors), room).saturating_add(1);

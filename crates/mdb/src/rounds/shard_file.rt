@@ -2,7 +2,7 @@
 
 ghost use Rattle.std.specs.Prelude.{◌≡◌};
 
-use super::Stop;
+use super::RoundFault;
 use super::block::{Block, Mark};
 use crate::failure::Failure;
 use crate::files::{STANDARD_STREAM, read_ends};
@@ -134,7 +134,7 @@ impl<'a> Cursor<'a> {
         &self,
         rt: &R,
         size: u64,
-    ) -> Result<(Block, Mark), Stop<'a>> {
+    ) -> Result<(Block, Mark), RoundFault<'a>> {
         let alloc = rt.alloc();
         let version = FormatVersion::of_header(self.shard.info.header.version);
         if self.mark.ended {
@@ -155,7 +155,10 @@ impl<'a> Cursor<'a> {
             let read = match read_more(&mut file, more, &mut block.bytes) {
                 Ok(read) => read,
                 Err(error) => {
-                    return Err(Stop::Failed(Failure::on_file(self.shard.path, Fault::from(error))));
+                    return Err(RoundFault::Failed(Failure::on_file(
+                        self.shard.path,
+                        Fault::from(error),
+                    )));
                 }
             };
             let mark = block.read(alloc, self.mark, None)?;
@@ -163,11 +166,13 @@ impl<'a> Cursor<'a> {
                 return Ok((block, mark));
             }
             if read < more {
-                return Err(Stop::Refused(CoreError::Io(io::Error::from(ErrorKind::UnexpectedEof))));
+                return Err(RoundFault::Refused(CoreError::Io(io::Error::from(
+                    ErrorKind::UnexpectedEof,
+                ))));
             }
             more = more.saturating_mul(2);
         }
-        Err(Stop::Refused(CoreError::OutOfMemory))
+        Err(RoundFault::Refused(CoreError::OutOfMemory))
     }
 
     /// The records of a block up to a hash, or all that are whole, as a shard. The cursor passes
@@ -177,7 +182,7 @@ impl<'a> Cursor<'a> {
         rt: &R,
         block: Block,
         limit: Option<MerkleHash>,
-    ) -> Result<Vec<u8>, Stop<'a>> {
+    ) -> Result<Vec<u8>, RoundFault<'a>> {
         let alloc = rt.alloc();
         if self.mark.ended {
             return Ok(block.shard_of(0, self.shard.key())?);

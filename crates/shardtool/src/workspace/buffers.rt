@@ -59,8 +59,8 @@ impl Workspace {
         let bytes = combine_bytes(
             alloc,
             operation,
-            self.bytes_of(first)?,
-            self.bytes_of(second)?,
+            self.buffer_bytes(first)?,
+            self.buffer_bytes(second)?,
         )?;
         self.keep(alloc, buffer, bytes)
     }
@@ -95,7 +95,7 @@ impl Workspace {
         ensures err { OnErr result (IsUnchanged self.old.buffers self.new.buffers) }
         ensures shards { self.new.shards ≡ self.old.shards }
     {
-        let bytes = export_bytes(alloc, self.bytes_of(from)?, export)?;
+        let bytes = export_bytes(alloc, self.buffer_bytes(from)?, export)?;
         self.keep(alloc, buffer, bytes)
     }
 
@@ -112,7 +112,7 @@ impl Workspace {
         ensures err { OnErr result (IsUnchanged self.old.buffers self.new.buffers) }
         ensures shards { self.new.shards ≡ self.old.shards }
     {
-        let bytes = minimal_bytes(alloc, self.bytes_of(from)?, now, kept)?;
+        let bytes = minimal_bytes(alloc, self.buffer_bytes(from)?, now, kept)?;
         self.keep(alloc, buffer, bytes)
     }
 
@@ -128,7 +128,7 @@ impl Workspace {
         ensures shards { self.new.shards ≡ self.old.shards }
         ensures unknown { IsErrOf result Stop.Unreadable ↔ IsUnknown self.old.buffers from.now }
     {
-        let bytes = subset_bytes(alloc, self.bytes_of(from)?, subset)?;
+        let bytes = subset_bytes(alloc, self.buffer_bytes(from)?, subset)?;
         self.keep(alloc, buffer, bytes)
     }
 
@@ -146,7 +146,7 @@ impl Workspace {
         Ok(())
     }
 
-    pub(super) fn bytes_of(&self, buffer: &str) -> Result<&[u8], Stop>
+    pub(super) fn buffer_bytes(&self, buffer: &str) -> Result<&[u8], Stop>
         ensures unknown { IsErrOf result Stop.Unreadable ↔ IsUnknown self.now.buffers buffer.now }
         ensures causes { IfErr result (λ e. e ≡ Stop.Unreadable) }
         ensures found { IfOk result

@@ -30,7 +30,7 @@ impl Workspace {
         ensures { IsErrOf result Stop.Unreadable
             ↔ IsUnknown self.now.buffers buffer.now }
     {
-        match find_file(alloc, self.bytes_of(buffer)?, &hash)? {
+        match find_file(alloc, self.buffer_bytes(buffer)?, &hash)? {
             Some(file) => print_file(&file, output)?,
             None => writeln!(output, "none")?,
         }
@@ -47,7 +47,7 @@ impl Workspace {
         ensures { IsErrOf result Stop.Unreadable
             ↔ IsUnknown self.now.buffers buffer.now }
     {
-        match query_chunks(alloc, self.bytes_of(buffer)?, hashes)? {
+        match query_chunks(alloc, self.buffer_bytes(buffer)?, hashes)? {
             Some((count, segment)) => print_run(count, &segment, output)?,
             None => writeln!(output, "none")?,
         }
@@ -63,7 +63,7 @@ impl Workspace {
         ensures { IsErrOf result Stop.Unreadable
             ↔ IsUnknown self.now.buffers buffer.now }
     {
-        let hashes = eligible_chunks(alloc, self.bytes_of(buffer)?)?;
+        let hashes = eligible_chunks(alloc, self.buffer_bytes(buffer)?)?;
         for hash in hashes.as_slice() {
             writeln!(output, "{hash}")?;
         }
@@ -74,7 +74,7 @@ impl Workspace {
         ensures { IsErrOf result Stop.Unreadable
             ↔ IsUnknown self.now.buffers buffer.now }
     {
-        let size = self.bytes_of(buffer)?.len();
+        let size = self.buffer_bytes(buffer)?.len();
         writeln!(output, "{size}")?;
         Ok(())
     }
@@ -93,7 +93,7 @@ impl Workspace {
             (hex_text bytes ++ 10 ∷ []))) }
         ensures causes { IfErr result (λ e. (e ≡ Stop.Unreadable) ⊎ StopsAtFailure e) }
     {
-        let bytes = self.bytes_of(buffer)?;
+        let bytes = self.buffer_bytes(buffer)?;
         let bytes = match range {
             Some(range) => bytes_in(bytes, range)?,
             None => bytes,

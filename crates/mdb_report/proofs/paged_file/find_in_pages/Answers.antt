@@ -1,6 +1,6 @@
 use Rattle.std.proofs.Common.{◌≡◌, None, sym, ap, ◌∙◌, subst}
 use Rattle.xet_core_structures.specs.Source.{Source}
-use Rattle.mdb_report.specs.Lookups.{FindingFails}
+use Rattle.mdb_report.specs.Lookups.{FindFileFails}
 use Rattle.mdb_report.specs.Pages.{bytes_in}
 use Rattle.mdb_report.proofs.paged_file.find_in_pages.Goals as goal
 
@@ -16,8 +16,8 @@ returns-in-None g c =
       last_failure = s.last_failure;
     } in
     let none : s.missing ≡ None =
-    sym (ap (λ b. b.missing) c.inner.ensures) ∙ sym c.missing.ensures ∙ c.in-None.is in
+    sym (ap (λ b. b.missing) c.inner.ensures) ∙ sym c.missing_page.ensures ∙ c.in-None.is in
     let fails =
-    subst (λ before. FindingFails c.args.info.now c.args.hash before paged c.in-Err.error)
+    subst (λ before. FindFileFails c.args.info.now c.args.hash before paged c.in-Err.error)
     (c.new-source.ensures ∙ c.new.ensures) c.in-Err.ensures in
     (paged, s.works none, fails)

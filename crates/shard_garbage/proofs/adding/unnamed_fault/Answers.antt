@@ -6,14 +6,14 @@ use Rattle.shard_garbage.proofs.adding.unnamed_fault.Goals as goal
 
 pub returns-then-is_empty : goal.returns-then-is_empty
 returns-then-is_empty c = λ fault.
-    let empty : length c.naming.result.now ≡ 0 = search rules in (
-      λ is. (sym (same_Some _ fault is), none_named c.args.segments.now.items.items c.naming.result.now c.args.hash c.naming.ensures empty),
+    let empty : length c.naming_hash.result.now ≡ 0 = search rules in (
+      λ is. (sym (same_Some _ fault is), none_named c.args.segments.now.items.items c.naming_hash.result.now c.args.hash c.naming_hash.ensures empty),
       λ is. ap Some (sym is.0),
     )
 
 pub returns-else-is_empty : goal.returns-else-is_empty
 returns-else-is_empty c = λ fault.
-    let some : ¬ (length c.naming.result.now ≡ 0) = search rules in (
+    let some : ¬ (length c.naming_hash.result.now ≡ 0) = search rules in (
       λ is. absurd (none-some fault is),
-      λ is. absurd (one_named c.args.segments.now.items.items c.naming.result.now c.args.hash c.naming.ensures some is.1),
+      λ is. absurd (one_named c.args.segments.now.items.items c.naming_hash.result.now c.args.hash c.naming_hash.ensures some is.1),
     )

@@ -4,11 +4,11 @@ ghost use Rattle.std.specs.Prelude.{◌≡◌, ◌↔◌, [], map, All, Contains
 ghost use Rattle.xet_core_structures.specs.Blake3.{keyed_hash};
 ghost use Rattle.xet_core_structures.specs.Names.{IsShardName, NamesShard};
 ghost use Rattle.shard_bytes.specs.Checking.{IsWhole, IsIntact, IsNote};
-ghost use Rattle.mdb_report.specs.declared.problem.Problem.{Problem};
+ghost use Rattle.mdb_report.specs.declared.file_finding.FileFinding.{FileFinding};
 ghost use Rattle.xet_core_structures.specs.declared.shard_format.MDBShardInfo.{MDBShardInfo};
-ghost use Rattle.mdb_report.specs.Problems.{IsProblem, IsNoted, IsFileName, AreFindings, start_in};
+ghost use Rattle.mdb_report.specs.FileFindings.{IsFileFinding, IsFileNote, IsFileName, AreFindings, start_in};
 
-use crate::shown::Shown;
+use crate::shown::ShownText;
 use serde::{Described, Serialize, Serializer};
 use shard_bytes::check::{Finding, Part, Section, check_bytes};
 use shard_bytes::format::Format;
@@ -21,7 +21,7 @@ use xet_core_structures::utils::parse_shard_filename;
 
 /// What is not as it should be with a file.
 #[derive(Clone, Copy, Debug, PartialEq, Eq)]
-pub enum Problem {
+pub enum FileFinding {
     /// The bytes are not those that the library would write.
     Bytes(Finding),
     /// The name is not 64 hexadecimal digits and `.mdb`.
@@ -30,40 +30,40 @@ pub enum Problem {
     Hash(MerkleHash),
 }
 
-impl Problem {
+impl FileFinding {
     /// Whether it is a note, and no fault of the file: nothing is lost.
     pub fn is_note(&self) -> bool
-        ensures { IsTrue result ↔ IsNoted self.now }
+        ensures { IsTrue result ↔ IsFileNote self.now }
     {
         match self {
-            Problem::Bytes(finding) => finding.is_note(),
-            Problem::Name | Problem::Hash(_) => false,
+            FileFinding::Bytes(finding) => finding.is_note(),
+            FileFinding::Name | FileFinding::Hash(_) => false,
         }
     }
 }
 
 /// A problem, and the file that has it.
 #[derive(Clone, Copy, Debug, PartialEq, Eq, Serialize)]
-pub struct ProblemReport<'a> {
+pub struct FindingReport<'a> {
     /// The name of the shard's file.
     pub shard: &'a str,
     pub code: &'static str,
     /// Where in the file what has the problem starts, if its footer could be read.
     pub offset: Option<u64>,
-    pub problem: Problem,
+    pub problem: FileFinding,
 }
 
-impl<'a> ProblemReport<'a> {
+impl<'a> FindingReport<'a> {
     /// The report of a problem of a file, whose header and footer these are, if they could be read.
-    pub fn of_problem(
+    pub fn of_finding(
         file: &'a str,
         info: Option<&MDBShardInfo>,
-        problem: Problem,
-    ) -> ProblemReport<'a>
+        problem: FileFinding,
+    ) -> FindingReport<'a>
         ensures shard { result.shard.now ≡ file.now }
         ensures problem { result.problem ≡ problem }
     {
-        ProblemReport {
+        FindingReport {
             shard: file,
             code: code_of(problem),
             offset: offset_of(info, problem),
@@ -73,11 +73,11 @@ impl<'a> ProblemReport<'a> {
 }
 
 // The word for a kind of problem.
-fn code_of(problem: Problem) -> &'static str {
+fn code_of(problem: FileFinding) -> &'static str {
     match problem {
-        Problem::Name => "name",
-        Problem::Hash(_) => "hash_differs",
-        Problem::Bytes(finding) => match finding {
+        FileFinding::Name => "name",
+        FileFinding::Hash(_) => "hash_differs",
+        FileFinding::Bytes(finding) => match finding {
             Finding::Unsupported(Format::NoTag) => "no_tag",
             Finding::Unsupported(Format::OtherVersion(_)) => "other_version",
             Finding::Unsupported(Format::NoFooter) => "no_footer",
@@ -101,9 +101,9 @@ fn code_of(problem: Problem) -> &'static str {
 
 // The offset of the part that has the problem. `None` for a name or a size, or if no footer is
 // read.
-fn offset_of(info: Option<&MDBShardInfo>, problem: Problem) -> Option<u64> {
+fn offset_of(info: Option<&MDBShardInfo>, problem: FileFinding) -> Option<u64> {
     match (info, problem) {
-        (Some(info), Problem::Bytes(finding)) => start_of(info, finding),
+        (Some(info), FileFinding::Bytes(finding)) => start_of(info, finding),
         _ => None,
     }
 }
@@ -137,61 +137,61 @@ pub fn start_of(info: &MDBShardInfo, finding: Finding) -> Option<u64>
 /// [`check_bytes`], and then that of its name.
 ///
 /// The only error is `OutOfMemory`.
-pub fn problems_of(alloc: Global, name: &str, bytes: &[u8]) -> Result<Vec<Problem>>
+pub fn findings_of_file(alloc: Global, name: &str, bytes: &[u8]) -> Result<Vec<FileFinding>>
     ensures whole { IfOk result
         (λ problems. (problems.items ≡ []) ↔ (IsWhole bytes.now × IsShardName name.now)) }
     ensures intact { IfOk result
-        (λ problems. All IsNoted problems.items → IsIntact bytes.now) }
-    ensures each { IfOk result (λ problems. All (IsProblem name.now bytes.now) problems.items) }
+        (λ problems. All IsFileNote problems.items → IsIntact bytes.now) }
+    ensures each { IfOk result (λ problems. All (IsFileFinding name.now bytes.now) problems.items) }
     ensures all { IfOk result
-        (λ problems. (p : Problem) → IsProblem name.now bytes.now p → Contains problems.items p) }
+        (λ problems. (p : FileFinding) → IsFileFinding name.now bytes.now p → Contains problems.items p) }
     ensures causes { IfErr result (λ e. e ≡ CoreError.OutOfMemory) }
 {
     let findings = check_bytes(alloc, bytes)?;
-    let mut problems = problems_in(alloc, findings.as_slice())?;
+    let mut problems = file_findings(alloc, findings.as_slice())?;
     if parse_shard_filename(name).is_some() {
         return Ok(problems);
     }
-    problems.push(Problem::Name)?;
+    problems.push(FileFinding::Name)?;
     Ok(problems)
 }
 
 /// The problems of bytes, whatever the name of their file is: those that [`check_bytes`] finds.
 ///
 /// The only error is `OutOfMemory`.
-pub fn problems_of_bytes(alloc: Global, bytes: &[u8]) -> Result<Vec<Problem>>
+pub fn findings_of_bytes(alloc: Global, bytes: &[u8]) -> Result<Vec<FileFinding>>
     ensures whole { IfOk result (λ problems. (problems.items ≡ []) ↔ IsWhole bytes.now) }
     ensures intact { IfOk result
-        (λ problems. All IsNoted problems.items → IsIntact bytes.now) }
+        (λ problems. All IsFileNote problems.items → IsIntact bytes.now) }
     ensures findings { IfOk result (λ problems. AreFindings bytes.now problems.items) }
     ensures causes { IfErr result (λ e. e ≡ CoreError.OutOfMemory) }
 {
     let findings = check_bytes(alloc, bytes)?;
-    Ok(problems_in(alloc, findings.as_slice())?)
+    Ok(file_findings(alloc, findings.as_slice())?)
 }
 
-/// The problems of a file with this name and these bytes, as [`problems_of`] has them, and then that
-/// of its name if it has another hash than the bytes have under a key.
+/// The problems of a file with this name and these bytes, as [`findings_of_file`] has them, and
+/// then that of its name if it has another hash than the bytes have under a key.
 ///
 /// The only error is `OutOfMemory`.
-pub fn problems_under_key(
+pub fn findings_under_key(
     alloc: Global,
     name: &str,
     key: HMACKey,
     bytes: &[u8],
-) -> Result<Vec<Problem>>
+) -> Result<Vec<FileFinding>>
     ensures whole { IfOk result
         (λ problems. (problems.items ≡ [])
         ↔ (IsWhole bytes.now × NamesShard name.now (keyed_hash key bytes.now))) }
     ensures intact { IfOk result
-        (λ problems. All IsNoted problems.items → IsIntact bytes.now) }
+        (λ problems. All IsFileNote problems.items → IsIntact bytes.now) }
     ensures causes { IfErr result (λ e. e ≡ CoreError.OutOfMemory) }
 {
-    let mut problems = problems_of(alloc, name, bytes)?;
+    let mut problems = findings_of_file(alloc, name, bytes)?;
     let Some(hash) = other_hash(name, key, bytes) else {
         return Ok(problems);
     };
-    problems.push(Problem::Hash(hash))?;
+    problems.push(FileFinding::Hash(hash))?;
     Ok(problems)
 }
 
@@ -199,22 +199,22 @@ pub fn problems_under_key(
 /// a key, that of its name. With a key the name has to have the hash of the bytes under it.
 ///
 /// The only error is `OutOfMemory`.
-pub fn problems_asked(
+pub fn findings_to_report(
     alloc: Global,
     path: &str,
     named: bool,
     key: Option<HMACKey>,
     bytes: &[u8],
-) -> Result<Vec<Problem>>
+) -> Result<Vec<FileFinding>>
     ensures whole { IfOk result (λ problems. problems.items ≡ [] → IsWhole bytes.now) }
     ensures intact { IfOk result
-        (λ problems. All IsNoted problems.items → IsIntact bytes.now) }
+        (λ problems. All IsFileNote problems.items → IsIntact bytes.now) }
     ensures causes { IfErr result (λ e. e ≡ CoreError.OutOfMemory) }
 {
     match key {
-        Some(key) => problems_under_key(alloc, file_name(path), key, bytes),
-        None if named => problems_of(alloc, file_name(path), bytes),
-        None => problems_of_bytes(alloc, bytes),
+        Some(key) => findings_under_key(alloc, file_name(path), key, bytes),
+        None if named => findings_of_file(alloc, file_name(path), bytes),
+        None => findings_of_bytes(alloc, bytes),
     }
 }
 
@@ -229,12 +229,15 @@ fn other_hash(name: &str, key: HMACKey, bytes: &[u8]) -> Option<MerkleHash>
     if named == hash { None } else { Some(hash) }
 }
 
-fn problems_in(alloc: Global, findings: &[Finding]) -> std::result::Result<Vec<Problem>, AllocError>
-    ensures { IfOk result (λ problems. problems.items ≡ map Problem.Bytes findings.now) }
+fn file_findings(
+    alloc: Global,
+    findings: &[Finding],
+) -> std::result::Result<Vec<FileFinding>, AllocError>
+    ensures { IfOk result (λ problems. problems.items ≡ map FileFinding.Bytes findings.now) }
 {
     findings
         .iter()
-        .map(|finding| Problem::Bytes(*finding))
+        .map(|finding| FileFinding::Bytes(*finding))
         .collect(alloc)
 }
 
@@ -248,20 +251,20 @@ pub fn file_name(path: &str) -> &str
     }
 }
 
-impl fmt::Display for ProblemReport<'_> {
+impl fmt::Display for FindingReport<'_> {
     fn fmt<W: fmt::Write>(&self, f: &mut fmt::Formatter<W>) -> fmt::Result {
-        let shard = Shown(self.shard);
+        let shard = ShownText(self.shard);
         let problem = self.problem;
         write!(f, "{shard}: {problem}")
     }
 }
 
-impl fmt::Display for Problem {
+impl fmt::Display for FileFinding {
     fn fmt<W: fmt::Write>(&self, f: &mut fmt::Formatter<W>) -> fmt::Result {
         match *self {
-            Problem::Bytes(finding) => write!(f, "{}", InWords(finding)),
-            Problem::Name => write!(f, "its name is not 64 hexadecimal digits and .mdb"),
-            Problem::Hash(hash) => write!(
+            FileFinding::Bytes(finding) => write!(f, "{}", InWords(finding)),
+            FileFinding::Name => write!(f, "its name is not 64 hexadecimal digits and .mdb"),
+            FileFinding::Hash(hash) => write!(
                 f,
                 "its bytes have the hash {hash}, and its name another"
             ),
@@ -269,9 +272,9 @@ impl fmt::Display for Problem {
     }
 }
 
-impl Described for Problem {}
+impl Described for FileFinding {}
 
-impl Serialize for Problem {
+impl Serialize for FileFinding {
     fn serialize<S: Serializer>(&self, out: &mut S) -> std::result::Result<(), S::Error> {
         out.collect_str(self)
     }

@@ -1,6 +1,6 @@
 use Rattle.std.proofs.Common.{inl, inr}
 use Rattle.std.proofs.lemmas.Result.{err_from_is_err_and}
-use Rattle.mdb.proofs.merge.united_leniently.Goals as goal
+use Rattle.mdb.proofs.merge.unite_leniently.Goals as goal
 
 -- an input is not read
 pub returns-in_err-choice : goal.returns-in_err-choice

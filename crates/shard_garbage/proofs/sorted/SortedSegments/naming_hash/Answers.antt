@@ -1,6 +1,6 @@
 use Rattle.std.proofs.Common.{◌≡◌, ◌≤◌, ◌↔◌, Contains, take, drop, ◌-◌, subst, rules, arith}
 use Rattle.shard_garbage.proofs.Runs.{start_first, run_has}
-use Rattle.shard_garbage.proofs.sorted.SortedSegments.naming.Goals as goal
+use Rattle.shard_garbage.proofs.sorted.SortedSegments.naming_hash.Goals as goal
 
 pub prove-unreachable-requires : goal.prove-unreachable-requires
 prove-unreachable-requires c =

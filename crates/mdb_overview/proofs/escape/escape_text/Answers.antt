@@ -4,7 +4,7 @@ use Rattle.std.proofs.lemmas.Iterator.{YieldsList-from_chars}
 use Rattle.std.proofs.lemmas.Iterator.Consumers.{YieldsList-end}
 use Rattle.std.proofs.lemmas.List.{map-id}
 use Rattle.mdb_overview.specs.Escapes.{escape}
-use Rattle.mdb_overview.proofs.escape.escaped.Goals as goal
+use Rattle.mdb_overview.proofs.escape.escape_text.Goals as goal
 
 -- at the end all characters were escaped
 pub returns : goal.returns

@@ -6,7 +6,7 @@ use Rattle.xet_core_structures.specs.declared.set_operations.agreement.Malformed
 use Rattle.shard_bytes.specs.Agreeing.{MergesAgreeing}
 use Rattle.mdb_report.specs.declared.fault.Fault.TheVariants.{Malformed}
 use Rattle.mdb.specs.declared.failure.Subject.TheVariants.{File, StandardOutput}
-use Rattle.mdb.proofs.merge.united_agreeing.Goals as goal
+use Rattle.mdb.proofs.merge.unite_agreeing.Goals as goal
 
 -- the record is the one that the merge names
 pub returns-in-Ok-Malformed : goal.returns-in-Ok-Malformed
@@ -18,8 +18,8 @@ returns-in-Ok-Malformed c =
     inl (
       c.in-Ok-Malformed.malformed,
       held,
-      c.malformed_in.ensures.fault ∙ ap (λ (m : MalformedRecord). Malformed m.record_hash) same,
+      c.failure_on_malformed.ensures.fault ∙ ap (λ (m : MalformedRecord). Malformed m.record_hash) same,
       subst (λ (m : MalformedRecord).
-          MatchOption (slice_get c.args.files.now m.input) (c.malformed_in.result.subject ≡ StandardOutput)
-          (λ file. c.malformed_in.result.subject ≡ File file)) same c.malformed_in.ensures.subject,
+          MatchOption (slice_get c.args.files.now m.input) (c.failure_on_malformed.result.subject ≡ StandardOutput)
+          (λ file. c.failure_on_malformed.result.subject ≡ File file)) same c.failure_on_malformed.ensures.subject,
     )

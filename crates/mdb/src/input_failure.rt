@@ -7,7 +7,7 @@ ghost use Rattle.mdb.specs.Merging.{SaysMalformed, SaysDisagree, SaysCause};
 use crate::failure::{Failure, Subject};
 use crate::files::read_shard;
 use crate::request::Target;
-use mdb_report::fault::{Fault, first_obstacle, has_wrong_footer};
+use mdb_report::fault::{Fault, first_blocking_finding, has_wrong_footer};
 use shard_bytes::check::{Finding, Part};
 use shard_bytes::combine::{Operation, combine_bytes};
 use shard_bytes::load::load_bytes;
@@ -22,7 +22,7 @@ use xet_records::record_reader::FormatVersion;
 
 /// Why a union or a difference failed: the first input that cannot be read, else what is wrong with
 /// the inputs together.
-pub fn blamed<'a>(
+pub fn combine_failure<'a>(
     alloc: Global,
     files: &[&'a str],
     inputs: &[&[u8]],
@@ -31,23 +31,23 @@ pub fn blamed<'a>(
     ensures { error ≡ CoreError.OutOfMemory → result.fault ≡ Fault.OutOfMemory }
 {
     if error == CoreError::OutOfMemory {
-        return on_all(files, Fault::OutOfMemory);
+        return failure_on_all(files, Fault::OutOfMemory);
     }
     for (file, bytes) in files.iter().zip(inputs) {
-        match first_obstacle(alloc, bytes) {
+        match first_blocking_finding(alloc, bytes) {
             Ok(Some(finding)) => return Failure::on_file(file, Fault::Bytes(finding)),
             Ok(None) => {}
             Err(fault) => return Failure::on_file(file, fault),
         }
     }
     if error == CoreError::InvalidArguments {
-        return with_other_key(alloc, files, inputs);
+        return key_failure(alloc, files, inputs);
     }
-    misplaced(alloc, files, inputs)
+    footer_failure(alloc, files, inputs)
 }
 
 /// Why a union or a difference in the version of a target failed: the version lacks a file, or else as
-/// [`blamed`] says.
+/// [`combine_failure`] says.
 pub fn blamed_in<'a>(
     alloc: Global,
     files: &[&'a str],
@@ -60,7 +60,7 @@ pub fn blamed_in<'a>(
     if lacks_files(alloc, inputs, target.version, &error) {
         return Failure::on_target(target.path, Fault::HasAuxRow);
     }
-    blamed(alloc, files, inputs, error)
+    combine_failure(alloc, files, inputs, error)
 }
 
 /// Whether a union or a difference in a version failed since the version lacks a file. The same
@@ -81,13 +81,13 @@ pub fn lacks_files(
 
 // The failure of inputs under different keys: that of the first two, whose shards are under
 // different ones.
-fn with_other_key<'a>(alloc: Global, files: &[&'a str], inputs: &[&[u8]]) -> Failure<'a> {
+fn key_failure<'a>(alloc: Global, files: &[&'a str], inputs: &[&[u8]]) -> Failure<'a> {
     if let (Some(first), Some(at)) = (files.first(), other_key(alloc, inputs))
         && let Some(other) = files.get(at)
     {
-        return under_other_key(first, other);
+        return failure_of_two_keys(first, other);
     }
-    on_all(files, Fault::KeysDiffer)
+    failure_on_all(files, Fault::KeysDiffer)
 }
 
 // The place of the first input whose shard is under another key than that of the first input. The
@@ -106,7 +106,7 @@ fn other_key(alloc: Global, inputs: &[&[u8]]) -> Option<usize> {
 }
 
 /// The failure of two files whose shards are under different keys.
-pub fn under_other_key<'a>(first: &'a str, second: &'a str) -> Failure<'a> {
+pub fn failure_of_two_keys<'a>(first: &'a str, second: &'a str) -> Failure<'a> {
     Failure {
         subject: Subject::Pair(first, second),
         fault: Fault::KeysDiffer,
@@ -115,7 +115,7 @@ pub fn under_other_key<'a>(first: &'a str, second: &'a str) -> Failure<'a> {
 
 // The failure of inputs that can all be read from their start: the first whose footer is wrong, so
 // that sections are looked for elsewhere, else what is wrong with the inputs together.
-fn misplaced<'a>(alloc: Global, files: &[&'a str], inputs: &[&[u8]]) -> Failure<'a> {
+fn footer_failure<'a>(alloc: Global, files: &[&'a str], inputs: &[&[u8]]) -> Failure<'a> {
     for (file, bytes) in files.iter().zip(inputs) {
         match has_wrong_footer(alloc, bytes) {
             Ok(true) => {
@@ -125,14 +125,14 @@ fn misplaced<'a>(alloc: Global, files: &[&'a str], inputs: &[&[u8]]) -> Failure<
             Err(fault) => return Failure::on_file(file, fault),
         }
     }
-    without_union(alloc, files, inputs)
+    union_failure(alloc, files, inputs)
 }
 
 /// The failure of inputs that have no union together: that of the first two with different records
 /// under one hash that have none, else of all.
-pub fn without_union<'a>(alloc: Global, files: &[&'a str], inputs: &[&[u8]]) -> Failure<'a> {
+pub fn union_failure<'a>(alloc: Global, files: &[&'a str], inputs: &[&[u8]]) -> Failure<'a> {
     let Ok(found) = find_disagreements(alloc, inputs) else {
-        return on_all(files, Fault::NoUnion);
+        return failure_on_all(files, Fault::NoUnion);
     };
     // The pair that was tried last.
     let mut tried = (0, 0);
@@ -151,11 +151,11 @@ pub fn without_union<'a>(alloc: Global, files: &[&'a str], inputs: &[&[u8]]) -> 
             };
         }
     }
-    on_all(files, Fault::NoUnion)
+    failure_on_all(files, Fault::NoUnion)
 }
 
 /// A failure on all inputs together.
-pub fn on_all<'a>(files: &[&'a str], fault: Fault) -> Failure<'a>
+pub fn failure_on_all<'a>(files: &[&'a str], fault: Fault) -> Failure<'a>
     ensures { result.fault ≡ fault }
 {
     let subject = match files {
@@ -179,7 +179,7 @@ pub fn disagreement<'a>(
 {
     let found = match find_disagreements(alloc, inputs) {
         Ok(found) => found,
-        Err(error) => return Err(blamed(alloc, files, inputs, error)),
+        Err(error) => return Err(combine_failure(alloc, files, inputs, error)),
     };
     let Some(first) = found.as_slice().first() else {
         return Ok(None);
@@ -198,7 +198,7 @@ pub fn disagreement_under<'a>(files: &[&'a str], first: &Disagreement, count: us
 }
 
 /// The first of the files that has a record which no shard may have, and the record, or `None`.
-pub fn malformed<'a>(
+pub fn malformed_failure<'a>(
     alloc: Global,
     files: &[&'a str],
     inputs: &[&[u8]],
@@ -210,16 +210,16 @@ pub fn malformed<'a>(
 {
     let found = match find_malformed(alloc, inputs) {
         Ok(found) => found,
-        Err(error) => return Err(blamed(alloc, files, inputs, error)),
+        Err(error) => return Err(combine_failure(alloc, files, inputs, error)),
     };
     match &found {
-        Some(malformed) => Ok(Some(malformed_in(files, malformed))),
+        Some(malformed) => Ok(Some(failure_on_malformed(files, malformed))),
         None => Ok(None),
     }
 }
 
 /// The file that has a record which no shard may have, and the record.
-pub fn malformed_in<'a>(files: &[&'a str], malformed: &MalformedRecord) -> Failure<'a>
+pub fn failure_on_malformed<'a>(files: &[&'a str], malformed: &MalformedRecord) -> Failure<'a>
     ensures fault { result.fault ≡ Fault.Malformed malformed.now.record_hash }
     ensures subject { MatchOption (slice_get files.now malformed.now.input)
         (result.subject ≡ Subject.StandardOutput) (λ file. result.subject ≡ Subject.File file) }
@@ -236,7 +236,7 @@ pub fn malformed_in<'a>(files: &[&'a str], malformed: &MalformedRecord) -> Failu
 
 /// The first of the files that keeps shards from being merged: it can't be read, or else its footer
 /// is wrong. `None` if there is none. One file is in memory at a time.
-pub fn obstacle_in_files<'a, R: Files + Input + AllocGlobal>(
+pub fn failure_in_files<'a, R: Files + Input + AllocGlobal>(
     rt: &R,
     files: &[&'a str],
 ) -> Option<Failure<'a>> {
@@ -267,11 +267,11 @@ pub fn unreadable_file<'a, R: Files + Input + AllocGlobal>(
     files: &[&'a str],
 ) -> Option<Failure<'a>> {
     for file in files {
-        let obstacle = match read_shard(rt, file) {
-            Ok(contents) => first_obstacle(rt.alloc(), contents.bytes.as_slice()),
+        let outcome = match read_shard(rt, file) {
+            Ok(contents) => first_blocking_finding(rt.alloc(), contents.bytes.as_slice()),
             Err(error) => Err(Fault::from(error)),
         };
-        match obstacle {
+        match outcome {
             Ok(Some(finding)) => return Some(Failure::on_file(file, Fault::Bytes(finding))),
             Ok(None) => {}
             Err(fault) => return Some(Failure::on_file(file, fault)),

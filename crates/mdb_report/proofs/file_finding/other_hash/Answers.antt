@@ -1,6 +1,6 @@
 use Rattle.std.proofs.Common.{rules, ◌≡◌, subst, ◌∙◌}
 use Rattle.xet_core_structures.specs.Names.{NamesShard}
-use Rattle.mdb_report.proofs.problem.other_hash.Goals as goal
+use Rattle.mdb_report.proofs.file_finding.other_hash.Goals as goal
 
 pub returns-then-eq : goal.returns-then-eq
 returns-then-eq c = λ is.

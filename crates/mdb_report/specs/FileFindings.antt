@@ -8,19 +8,19 @@ use Rattle.shard_bytes.specs.declared.check.Part.TheVariants.{Header, FileSectio
 use Rattle.shard_bytes.specs.declared.check.Finding.{Finding}
 use Rattle.shard_bytes.specs.declared.check.Finding.TheVariants.{Cut, Refused, OutOfOrder, Malformed, Differs, Reordered}
 use Rattle.shard_bytes.specs.Checking.{IsFinding, IsNote}
-use Rattle.mdb_report.specs.declared.problem.Problem.{Problem}
-use Rattle.mdb_report.specs.declared.problem.Problem.TheVariants.{Bytes, Name, Hash}
+use Rattle.mdb_report.specs.declared.file_finding.FileFinding.{FileFinding}
+use Rattle.mdb_report.specs.declared.file_finding.FileFinding.TheVariants.{Bytes, Name, Hash}
 
 -- a problem is true of a file with this name and these bytes; without a key none is of a hash
-abbrev pub IsProblem : List ℕ → List ℕ → Problem → Type 0
-IsProblem name bytes (Bytes finding) = IsFinding bytes finding
-IsProblem name bytes Name = ¬ IsShardName name
-IsProblem name bytes (Hash hash) = ⊥
+abbrev pub IsFileFinding : List ℕ → List ℕ → FileFinding → Type 0
+IsFileFinding name bytes (Bytes finding) = IsFinding bytes finding
+IsFileFinding name bytes Name = ¬ IsShardName name
+IsFileFinding name bytes (Hash hash) = ⊥
 
 -- a problem is a note: nothing is lost
-abbrev pub IsNoted : Problem → Type 0
-IsNoted (Bytes finding) = IsNote finding
-IsNoted _ = ⊥
+abbrev pub IsFileNote : FileFinding → Type 0
+IsFileNote (Bytes finding) = IsNote finding
+IsFileNote _ = ⊥
 
 -- the name is what a path has after its last slash, or all of it if it has none
 abbrev pub IsFileName : List ℕ → List ℕ → Type 0
@@ -29,7 +29,7 @@ IsFileName path name =
     ⊎ ((folder : List ℕ) × SplitsAroundMatch (RFindsChar 47) path folder name)
 
 -- the problems are the findings that are true of the bytes, and no others
-abbrev pub AreFindings : List ℕ → List Problem → Type 0
+abbrev pub AreFindings : List ℕ → List FileFinding → Type 0
 AreFindings bytes problems =
     (findings : List Finding) × (problems ≡ map Bytes findings)
     × All (IsFinding bytes) findings

@@ -1,9 +1,9 @@
 use Rattle.std.proofs.Common.{map, ap, sym, ◌∙◌}
 use Rattle.xet_core_structures.specs.Names.{IsShardName}
 use Rattle.shard_bytes.specs.Checking.{IsWhole}
-use Rattle.mdb_report.specs.declared.problem.Problem.TheVariants.{Bytes, Name}
-use Rattle.mdb_report.proofs.Problems.{findings_are, with_name, all_if_named, all_with_name, notes_of, not_notes, none_if_named}
-use Rattle.mdb_report.proofs.problem.problems_of.Goals as goal
+use Rattle.mdb_report.specs.declared.file_finding.FileFinding.TheVariants.{Bytes, Name}
+use Rattle.mdb_report.proofs.FileFindings.{findings_are, with_name, all_if_named, all_with_name, notes_of, not_notes, none_if_named}
+use Rattle.mdb_report.proofs.file_finding.findings_of_file.Goals as goal
 
 pub returns-then-is_some-clause-each : goal.returns-then-is_some-clause-each
 returns-then-is_some-clause-each c =
