@@ -12,9 +12,9 @@ use crate::rounds::shard_file::{ShardFile, ends_of};
 use crate::run::{Status, report_failure};
 use crate::terminals::Terminals;
 use mdb_report::fault::{Fault, fault_of, section_fault};
-use mdb_report::section::Section;
+use mdb_report::section::SectionReader;
 use mdb_report::unfit::print_findings;
-use shard_bytes::check::Section as Part;
+use shard_bytes::check::Section;
 use shard_bytes::load::load_bytes;
 use shard_garbage::finding::Finding;
 use shard_garbage::garbage::Garbage;
@@ -169,7 +169,7 @@ fn add_files<'a, R: Files + AllocGlobal>(
             Ok(Some(file)) => file,
             Ok(None) => break,
             Err(error) => {
-                return Err(Failure::on_file(shard.path, section_fault(Part::Files, error)));
+                return Err(Failure::on_file(shard.path, section_fault(Section::Files, error)));
             }
         };
         check_memory(shard, segments.add_file(&file))?;
@@ -196,7 +196,7 @@ fn add_xorbs<'a, R: Files + AllocGlobal>(
             Ok(Some(xorb)) => xorb,
             Ok(None) => break,
             Err(error) => {
-                return Err(Failure::on_file(shard.path, section_fault(Part::Xorbs, error)));
+                return Err(Failure::on_file(shard.path, section_fault(Section::Xorbs, error)));
             }
         };
         check_memory(shard, garbage.add_xorb(&xorb))?;
@@ -263,10 +263,10 @@ pub fn section_at<'a, R: Files + AllocGlobal>(
     shard: &ShardFile<'a>,
     offset: u64,
     version: FormatVersion,
-) -> Result<Section<BufReader<R::File>>, Failure<'a>> {
+) -> Result<SectionReader<BufReader<R::File>>, Failure<'a>> {
     let file = shard.open_at(rt, offset)?;
     match BufReader::new(rt.alloc(), file) {
-        Ok(reader) => Ok(Section::new(reader, version)),
+        Ok(reader) => Ok(SectionReader::new(reader, version)),
         Err(error) => Err(Failure::on_file(shard.path, Fault::from(error))),
     }
 }

@@ -7,7 +7,7 @@ use crate::make::bytes_in_file;
 use crate::request::{Removal, Target};
 use crate::rounds::block::{put_bookend, put_footer};
 use mdb_report::fault::{Fault, fault_of};
-use mdb_report::section::Section;
+use mdb_report::section::SectionReader;
 use shard_bytes::combine::{Operation, combine_bytes_in};
 use shard_bytes::load::load_bytes;
 use std::alloc::Global;
@@ -108,14 +108,14 @@ fn record_hashes(alloc: Global, bytes: &[u8], info: &MDBShardInfo) -> ShardResul
     let files = bytes_from(bytes, info.metadata.file_info_offset);
     push_file_hashes(
         alloc,
-        Section::new(files, version),
+        SectionReader::new(files, version),
         bytes.len(),
         &mut hashes,
     )?;
     let xorbs = bytes_from(bytes, info.metadata.xorb_info_offset);
     push_xorb_hashes(
         alloc,
-        Section::new(xorbs, version),
+        SectionReader::new(xorbs, version),
         bytes.len(),
         &mut hashes,
     )?;
@@ -124,7 +124,7 @@ fn record_hashes(alloc: Global, bytes: &[u8], info: &MDBShardInfo) -> ShardResul
 
 fn push_file_hashes(
     alloc: Global,
-    mut files: Section<&[u8]>,
+    mut files: SectionReader<&[u8]>,
     most: usize,
     hashes: &mut Vec<MerkleHash>,
 ) -> ShardResult<()> {
@@ -139,7 +139,7 @@ fn push_file_hashes(
 
 fn push_xorb_hashes(
     alloc: Global,
-    mut xorbs: Section<&[u8]>,
+    mut xorbs: SectionReader<&[u8]>,
     most: usize,
     hashes: &mut Vec<MerkleHash>,
 ) -> ShardResult<()> {

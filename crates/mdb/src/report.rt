@@ -14,7 +14,7 @@ use mdb_overview::page::page_of;
 use mdb_overview::sharing::ChunkHashes;
 use mdb_report::brief::Brief;
 use mdb_report::fault::{Fault, fault_of, section_fault};
-use shard_bytes::check::Section as Part;
+use shard_bytes::check::Section;
 use shard_bytes::load::load_bytes;
 use std::alloc::AllocError;
 use std::random::RandomSource;
@@ -236,7 +236,7 @@ fn xorbs_of<'a, R: Files + AllocGlobal>(
             Ok(Some(xorb)) => in_memory(found.add(&xorb, part))?,
             Ok(None) => break,
             Err(error) => {
-                return Err(Failure::on_file(file.path, section_fault(Part::Xorbs, error)));
+                return Err(Failure::on_file(file.path, section_fault(Section::Xorbs, error)));
             }
         }
     }

@@ -10,11 +10,11 @@ use crate::inquiry::{
 use crate::line::{Layout, print};
 use crate::paged_file::PagedFile;
 use crate::records::FileReport;
-use crate::section::Section;
+use crate::section::SectionReader;
 use crate::summary::Summary;
 use crate::tally::Tally;
 use crate::xorb_printing::print_xorb_lookup;
-use shard_bytes::check::Section as Part;
+use shard_bytes::check::Section;
 use std::alloc::Global;
 use std::io::{BufReader, Read, Seek, Write};
 use xet_core_structures::merklehash::MerkleHash;
@@ -143,12 +143,12 @@ fn list_files<F: Read + Drop, W: Write>(
     output: &mut W,
 ) -> Result<(), InquiryFault> {
     let version = FormatVersion::of_header(info.header.version);
-    let mut section = Section::new(with_buffer(alloc, file)?, version);
+    let mut section = SectionReader::new(with_buffer(alloc, file)?, version);
     for _ in 0..u64::MAX {
         let file = match section.next_file(alloc) {
             Ok(Some(file)) => file,
             Ok(None) => break,
-            Err(error) => return Err(InquiryFault::Section(Part::Files, error)),
+            Err(error) => return Err(InquiryFault::Section(Section::Files, error)),
         };
         print(
             alloc,
@@ -168,12 +168,12 @@ fn list_xorbs<F: Read + Drop, W: Write>(
     layout: Layout<'_>,
     output: &mut W,
 ) -> Result<(), InquiryFault> {
-    let mut section = Section::new(with_buffer(alloc, file)?, FormatVersion::V3);
+    let mut section = SectionReader::new(with_buffer(alloc, file)?, FormatVersion::V3);
     for _ in 0..u64::MAX {
         let xorb = match section.next_xorb(alloc) {
             Ok(Some(xorb)) => xorb,
             Ok(None) => break,
-            Err(error) => return Err(InquiryFault::Section(Part::Xorbs, error)),
+            Err(error) => return Err(InquiryFault::Section(Section::Xorbs, error)),
         };
         print_xorb(alloc, inquiry, &xorb, layout, output)?;
     }

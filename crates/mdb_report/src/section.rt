@@ -16,21 +16,21 @@ use xet_records::record_reader::{FormatVersion, SectionRecord, read_record};
 
 /// A section of a shard, of which no more than a record is in memory.
 #[derive(Drop)]
-pub struct Section<R: Read + Drop> {
+pub struct SectionReader<R: Read + Drop> {
     reader: R,
     version: FormatVersion,
     /// The rows that the section may still have.
     rows_left: u32,
 }
 
-impl<R: Read + Drop> Section<R> {
+impl<R: Read + Drop> SectionReader<R> {
     /// The section that a reader has next, in a version of the format.
-    pub fn new(reader: R, version: FormatVersion) -> Section<R>
+    pub fn new(reader: R, version: FormatVersion) -> SectionReader<R>
         ensures reader { result.reader ≡ reader }
         ensures version { result.version ≡ version }
         ensures rows { result.rows_left ≡ MAX_ROWS }
     {
-        Section {
+        SectionReader {
             reader,
             version,
             rows_left: u32::MAX,

@@ -5,7 +5,7 @@ use Rattle.std.proofs.lemmas.Result.{err_from_is_err_and}
 use Rattle.xet_records.specs.RecordKind.{in_version}
 use Rattle.mdb_report.specs.Sections.{ReadsNext}
 use Rattle.mdb_report.proofs.Reading.{no_more_rows}
-use Rattle.mdb_report.proofs.section.Section.next.Goals as goal
+use Rattle.mdb_report.proofs.section.SectionReader.next.Goals as goal
 
 -- a number that fits the type comes back
 comes_back : {E : Type 0} (r : Result ℕ E) (n : ℕ) → OkIff r (n < 4294967296) n → n < 4294967296 → n ≡ result_unwrap_or r 0
