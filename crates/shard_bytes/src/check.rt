@@ -30,8 +30,8 @@ use xet_core_structures::source::{MemorySource, ShardSource};
 use xet_core_structures::xorb_structs::{MDBXorbInfo, XorbChunkSequenceHeader};
 use xet_shards::shard_writer::{LayoutOptions, write_again};
 
-// The bytes before the file section.
-const HEADER_SIZE: u64 = 48;
+/// The bytes before the file section.
+pub(crate) const HEADER_SIZE: u64 = 48;
 
 /// One of the two sections of a shard.
 #[derive(Clone, Copy, Debug, PartialEq, Eq)]

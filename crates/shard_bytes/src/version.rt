@@ -7,6 +7,7 @@ ghost use Rattle.shard_bytes.specs.Versions.{have_aux_rows, IsInVersion2, Refuse
 ghost use Rattle.shard_bytes.specs.Sizes.{IsRewriteSize};
 ghost use Rattle.shard_bytes.specs.Steps.Versions.{FindsAuxRows};
 
+use crate::check::HEADER_SIZE;
 use crate::load::load_bytes;
 use crate::memory::in_memory;
 use crate::room::with_room;
@@ -54,7 +55,7 @@ fn has_aux_rows(alloc: Global, bytes: &[u8], info: &MDBShardInfo) -> Result<bool
 {
     let mut after_header = *info;
     // The file section comes next, whatever the footer says.
-    after_header.metadata.file_info_offset = 48;
+    after_header.metadata.file_info_offset = HEADER_SIZE;
     let mut source = MemorySource::new(bytes);
     match after_header.read_all_file_info_sections(alloc, &mut source) {
         Ok(files) => Ok(have_aux_rows(files.as_slice())),

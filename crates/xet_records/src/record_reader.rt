@@ -21,7 +21,7 @@ ghost use Rattle.xet_records.specs.Version.{number_of, IsVersion, version_of};
 ghost use Rattle.xet_records.specs.Reading.{ReadsRowsAfter, ReadsNextHeader, ReadsNextRecord, NextRecordNotRead, ReadsRecords, StopsAfter};
 
 use crate::row_reader;
-use crate::rows::Row;
+use crate::rows::{ROW_LIMIT, Row};
 use std::alloc::Global;
 use xet_base::error::{CoreError, Result};
 use xet_base::input::ByteInput;
@@ -212,7 +212,7 @@ pub fn read_section<R: SectionRecord + Drop, M, I: ByteInput<M>>(
 {
     R::laws();
     let mut records = Vec::new(alloc);
-    let mut rows_left = u64::from(u32::MAX);
+    let mut rows_left = ROW_LIMIT;
     while let Some(next) = read_record(alloc, input, version, &mut rows_left)? {
         records.push(next)?;
     }

@@ -16,7 +16,7 @@ pub fn read_input_row<T: Row, M, I: ByteInput<M>>(input: &mut I) -> io::Result<T
         (ReadsRow T.row_bytes T.Fits T.as_read (I.reads input.old input.new))
         (I.fill_fails input.old input.new 48) }
 {
-    let mut bytes = [0u8; 48];
+    let mut bytes = [0u8; ROW_SIZE];
     input.fill(&mut bytes)?;
     Ok(T::from_bytes(&bytes))
 }

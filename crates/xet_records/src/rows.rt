@@ -20,6 +20,9 @@ use xet_base::serialization_utils::write_bytes;
 /// The size of a row in bytes.
 pub const ROW_SIZE: usize = 48;
 
+/// The most rows that a section may have.
+pub const ROW_LIMIT: u64 = u32::MAX as u64;
+
 // The most rows that memory is reserved for before they are read, however many the bytes announce.
 pub(crate) const ROWS_AT_ONCE: u32 = 1024;
 

@@ -111,7 +111,7 @@ impl Row for XorbChunkSequenceHeader {
     #[tactic(auto, unfolding(crate::specs::XorbRow::xorb_header_row))]
     #[inline(always)]
     fn to_bytes(&self) -> [u8; 48] {
-        let mut row = [0u8; 48];
+        let mut row = [0u8; ROW_SIZE];
         let at = put_hash(&mut row, 0, &self.xorb_hash);
         let at = put_u32(&mut row, at, self.xorb_flags);
         let at = put_u32(&mut row, at, self.num_entries);
@@ -234,7 +234,7 @@ impl Row for XorbChunkSequenceEntry {
     #[tactic(auto, unfolding(crate::specs::XorbRow::chunk_row))]
     #[inline(always)]
     fn to_bytes(&self) -> [u8; 48] {
-        let mut row = [0u8; 48];
+        let mut row = [0u8; ROW_SIZE];
         let at = put_hash(&mut row, 0, &self.chunk_hash);
         let at = put_u32(&mut row, at, self.chunk_byte_range_start);
         let at = put_u32(&mut row, at, self.unpacked_segment_bytes);

@@ -9,3 +9,12 @@ pub(crate) mod write;
 pub use ends::footer::MDBShardFileFooter;
 pub use ends::header::MDBShardFileHeader;
 pub use ends::info::MDBShardInfo;
+
+/// The size of a row of the file table or the xorb table, in bytes.
+pub(crate) const START_ROW_SIZE: u64 = 12;
+
+/// The size of a row of the chunk table, in bytes.
+pub(crate) const CHUNK_ROW_SIZE: u64 = 16;
+
+/// The size of a shard without records, in bytes: a header, two bookends and a footer.
+pub(crate) const EMPTY_SIZE: u64 = 344;

@@ -35,6 +35,7 @@ pub(crate) mod unindexed;
 mod union_rows;
 mod xorb_store;
 
+use crate::shard_format::{CHUNK_ROW_SIZE, EMPTY_SIZE, START_ROW_SIZE};
 use chunk_query::chunk_hash_dedup_query;
 use file_store::FileStore;
 use std::alloc::Global;
@@ -48,6 +49,7 @@ use union_rows::{united_file_rows, united_xorb_rows};
 use xet_base::error::{CoreError, Result};
 use xet_base::merklehash::MerkleHash;
 use xet_records::file_structs::{FileDataSequenceEntry, MDBFileInfo};
+use xet_records::rows::{ROW_LIMIT, ROW_SIZE};
 use xet_records::xorb_structs::MDBXorbInfo;
 use xorb_store::XorbStore;
 
@@ -148,7 +150,7 @@ impl MDBInMemoryShard {
             (finite.values (add_file self.now.content file_info.now).files)
             ≤ MAX_ROWS) }
     {
-        let most = u64::from(u32::MAX);
+        let most = ROW_LIMIT;
         let rows = self.file_rows + 1 + file_info.metadata.rows_after();
         if rows <= most {
             return true;
@@ -372,7 +374,10 @@ impl MDBInMemoryShard {
         let files = self.files.content().len() as u64;
         let xorbs = self.xorbs.content().len() as u64;
         let chunks = self.xorb_rows - xorbs;
-        344 + 48 * (self.file_rows + self.xorb_rows) + 12 * (files + xorbs) + 16 * chunks
+        EMPTY_SIZE
+            + ROW_SIZE as u64 * (self.file_rows + self.xorb_rows)
+            + START_ROW_SIZE * (files + xorbs)
+            + CHUNK_ROW_SIZE * chunks
     }
 }
 
@@ -382,7 +387,7 @@ fn within_limit(rows: u64) -> Result<u64>
         (λ n. (n ≡ rows) × (rows ≤ MAX_ROWS))
         (λ e. (e ≡ CoreError.InvalidArguments) × (MAX_ROWS < rows)) }
 {
-    if rows > u64::from(u32::MAX) {
+    if rows > ROW_LIMIT {
         return Err(CoreError::InvalidArguments);
     }
     Ok(rows)

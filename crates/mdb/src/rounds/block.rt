@@ -7,7 +7,7 @@ use xet_base::input::OfReader;
 use xet_core_structures::error::{CoreError, Result};
 use xet_core_structures::file_structs::MDBFileInfo;
 use xet_core_structures::merklehash::{HMACKey, MerkleHash};
-use xet_core_structures::rows::ROW_SIZE;
+use xet_core_structures::rows::{ROW_LIMIT, ROW_SIZE};
 use xet_core_structures::shard_format::{MDBShardFileFooter, MDBShardFileHeader};
 use xet_core_structures::xorb_structs::{MDBXorbInfo, XorbChunkSequenceHeader};
 use xet_records::record_reader::{FormatVersion, SectionRecord, read_header};
@@ -34,7 +34,7 @@ impl Mark {
         Mark {
             bytes: 0,
             last: None,
-            rows_left: u64::from(u32::MAX),
+            rows_left: ROW_LIMIT,
             ended: false,
         }
     }

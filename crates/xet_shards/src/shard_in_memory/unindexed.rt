@@ -16,6 +16,7 @@ use super::xorb_store::is_well_formed;
 use super::{MDBInMemoryShard, within_limit};
 use crate::shard_format::ends::info::write_maps;
 use crate::shard_format::ends::options::LayoutOptions;
+use crate::shard_format::{CHUNK_ROW_SIZE, START_ROW_SIZE};
 use std::alloc::Global;
 use std::collections::BTreeMap;
 use std::marker::Model;
@@ -23,6 +24,7 @@ use xet_base::error::{CoreError, Result};
 use xet_base::merklehash::MerkleHash;
 use xet_records::file_structs::MDBFileInfo;
 use xet_records::record_reader::FormatVersion;
+use xet_records::rows::ROW_SIZE;
 use xet_records::xorb_structs::MDBXorbInfo;
 
 /// A shard in memory without the chunk lookup, to be written. Contracts see its records.
@@ -147,10 +149,10 @@ impl UnindexedShard {
     fn size_in_bytes(&self) -> usize {
         let xorbs = self.xorbs.len() as u64;
         let chunks = self.xorb_rows.saturating_sub(xorbs);
-        let xorb_bytes = self.xorb_rows.saturating_mul(48);
+        let xorb_bytes = self.xorb_rows.saturating_mul(ROW_SIZE as u64);
         let table_bytes = chunks
-            .saturating_mul(16)
-            .saturating_add(xorbs.saturating_mul(12));
+            .saturating_mul(CHUNK_ROW_SIZE)
+            .saturating_add(xorbs.saturating_mul(START_ROW_SIZE));
         let size = self.files.shard_file_size();
         size.saturating_add(xorb_bytes).saturating_add(table_bytes) as usize
     }

@@ -28,6 +28,7 @@ use xet_base::source::{MemorySource, ShardSource};
 use xet_records::file_structs::{FileDataSequenceHeader, MDBFileInfo, SupersetResult};
 use xet_records::record_reader::{FormatVersion, SectionRecord};
 use xet_records::row_copier::CopyResult;
+use xet_records::rows::ROW_LIMIT;
 use xet_records::xorb_structs::{MDBXorbInfo, XorbChunkSequenceHeader};
 use xet_shards::shard_writer::WrittenSection;
 
@@ -294,7 +295,7 @@ pub fn copy_of<'a, H: Copy>(placed: &PlacedRecord<'a, H>) -> PlacedRecord<'a, H>
 fn add_rows(rows: u64, more: u64) -> u64
     ensures { (total : ℕ) → CountsRows total rows → CountsRows (total + more) result }
 {
-    if rows > u64::from(u32::MAX) {
+    if rows > ROW_LIMIT {
         return rows;
     }
     rows.saturating_add(more)
@@ -309,7 +310,7 @@ fn if_rows_fit<'a, H: Copy>(
     ensures { MatchResult result (λ found. (found ≡ made.entry) × (rows ≤ MAX_ROWS))
         (λ e. IsInvalidShard e × (MAX_ROWS < rows)) }
 {
-    if rows > u64::from(u32::MAX) {
+    if rows > ROW_LIMIT {
         return Err(CoreError::InvalidShard(String::new(alloc)));
     }
     Ok(made)

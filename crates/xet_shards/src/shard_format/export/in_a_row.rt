@@ -20,6 +20,7 @@ use super::gathering::{GatheredParts, Totals, gather};
 use super::part_order::check_order;
 use super::part_split::split_shard;
 use super::section_parts::{TABLE_ROW_SIZE, write_rows, write_tables};
+use crate::shard_format::CHUNK_ROW_SIZE;
 use crate::shard_format::ends::footer::MDBShardFileFooter;
 use crate::shard_format::ends::header::{HEADER_SIZE, MDBShardFileHeader};
 use crate::shard_format::ends::info::MDBShardInfo;
@@ -211,7 +212,7 @@ pub(super) fn footer_of_parts(totals: &Totals, chunks: u32, key: HMACKey) -> MDB
         stored_bytes_on_disk: totals.stored_bytes_on_disk,
         materialized_bytes: totals.materialized_bytes,
         stored_bytes: totals.stored_bytes,
-        footer_offset: chunk_lookup_offset + 16 * u64::from(chunks),
+        footer_offset: chunk_lookup_offset + CHUNK_ROW_SIZE * u64::from(chunks),
         ..MDBShardFileFooter::default()
     }
 }

@@ -35,6 +35,7 @@ use xet_base::merklehash::HMACKey;
 use xet_base::source::ShardSource;
 use xet_records::file_structs::{KeptParts, MDBFileInfo, MDBFileInfoView};
 use xet_records::record_reader::{FormatVersion, read_record};
+use xet_records::rows::ROW_LIMIT;
 use xet_records::view_reader::read_view;
 use xet_records::xorb_structs::MDBXorbInfo;
 
@@ -407,7 +408,7 @@ pub(in crate::shard_format) fn export_section<E: ExportedRecord + Drop, S: Shard
 {
     let mut written = E::Section::new(alloc);
     let mut buffer = BytesMut::new(alloc);
-    let mut rows_left = u64::from(u32::MAX);
+    let mut rows_left = ROW_LIMIT;
     while let Some(next) = E::read(alloc, &mut buffer, source, version, &mut rows_left)? {
         next.export(writer, &mut written, aux_ext, options)?;
     }

@@ -12,7 +12,7 @@ use xet_base::error::{CoreError, Result};
 use xet_base::merklehash::MerkleHash;
 use xet_base::source::{ShardSource, read_full};
 use xet_records::file_structs::FileDataSequenceEntry;
-use xet_records::rows::Row;
+use xet_records::rows::{ROW_SIZE, Row};
 use xet_records::xorb_structs::{XorbChunkSequenceEntry, XorbChunkSequenceHeader};
 
 /// Reads the xorb header at a row of the section at an offset.
@@ -122,7 +122,7 @@ fn read_source_row<T: Row, S: ShardSource>(source: &mut S) -> Result<T>
         (ReadsBytes (S.meaning source.old) (S.meaning source.new)))
         (RowNotRead (S.meaning source.old) (S.meaning source.new)) }
 {
-    let mut bytes = [0u8; 48];
+    let mut bytes = [0u8; ROW_SIZE];
     read_full(source, &mut bytes)?;
     Ok(T::from_bytes(&bytes))
 }

@@ -18,6 +18,7 @@ use xet_base::error::{CoreError, Result};
 use xet_base::input::OfSource;
 use xet_base::source::ShardSource;
 use xet_records::record_reader::{FormatVersion, read_record};
+use xet_records::rows::ROW_LIMIT;
 use xet_records::xorb_structs::{MDBXorbInfo, XorbChunkSequenceEntry};
 
 impl MDBShardInfo {
@@ -75,7 +76,7 @@ fn read_section_hashes<S: ShardSource>(
 {
     source.seek_to(offset)?;
     let mut hashes = Vec::new(alloc);
-    let mut rows_left = u64::from(u32::MAX);
+    let mut rows_left = ROW_LIMIT;
     while let Some(found) = read_xorb_before(alloc, source, stop, &mut rows_left)? {
         push_hashes(&mut hashes, found.0, found.1.chunks.as_slice())?;
     }
@@ -101,7 +102,7 @@ fn read_xorb_before<S: ShardSource>(
     if offset >= stop {
         return Ok(None);
     }
-    let start = (u64::from(u32::MAX) - *rows_left) as u32;
+    let start = (ROW_LIMIT - *rows_left) as u32;
     let Some(xorb) = read_record::<MDBXorbInfo, OfSource, S>(
         alloc,
         source,

@@ -8,6 +8,7 @@ use super::written::RecordTable;
 use std::alloc::Global;
 use xet_base::error::{CoreError, Result};
 use xet_base::fields::{put_u32, put_u64};
+use xet_records::rows::ROW_LIMIT;
 
 impl RecordTable {
     /// The table of no record.
@@ -27,7 +28,7 @@ impl RecordTable {
     pub fn has_room(&self, more: u64) -> bool
         ensures { IsTrue result ↔ (self.now.rows + more ≤ MAX_ROWS) }
     {
-        more <= u64::from(u32::MAX) - self.rows
+        more <= ROW_LIMIT - self.rows
     }
 
     /// Adds the next record, by the first word of its hash and the number of its rows, its header

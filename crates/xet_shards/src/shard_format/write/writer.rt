@@ -22,6 +22,7 @@ use crate::shard_format::ends::footer::MDBShardFileFooter;
 use crate::shard_format::ends::header::HEADER_SIZE;
 use crate::shard_format::ends::info::MDBShardInfo;
 use crate::shard_format::ends::options::LayoutOptions;
+use crate::shard_format::{CHUNK_ROW_SIZE, START_ROW_SIZE};
 use crate::shard_in_memory::MDBInMemoryShard;
 use std::alloc::Global;
 use std::collections::BTreeMap;
@@ -227,9 +228,9 @@ fn footer_of(
     let xorb_info_offset = HEADER_SIZE + row_size * files.table.rows + row_size;
     let file_lookup_offset = xorb_info_offset + row_size * xorbs.table.rows + row_size;
     let file_starts = rows_if_included(options.file_table, files.table.records);
-    let xorb_lookup_offset = file_lookup_offset + 12 * file_starts;
+    let xorb_lookup_offset = file_lookup_offset + START_ROW_SIZE * file_starts;
     let xorb_starts = rows_if_included(options.xorb_table, xorbs.table.records);
-    let chunk_lookup_offset = xorb_lookup_offset + 12 * xorb_starts;
+    let chunk_lookup_offset = xorb_lookup_offset + START_ROW_SIZE * xorb_starts;
     // Each row of the xorb section that is no header is a chunk.
     let chunks = rows_if_included(options.chunk_table, xorbs.table.rows - xorbs.table.records);
     let footer = MDBShardFileFooter {
@@ -247,7 +248,7 @@ fn footer_of(
         stored_bytes_on_disk: xorbs.stored_bytes_on_disk,
         materialized_bytes: files.materialized_bytes,
         stored_bytes: xorbs.stored_bytes,
-        footer_offset: chunk_lookup_offset + 16 * chunks,
+        footer_offset: chunk_lookup_offset + CHUNK_ROW_SIZE * chunks,
         ..MDBShardFileFooter::default()
     };
     footer.widths();

@@ -34,7 +34,7 @@ loop-buffer-init g c = record {
   stored = [];
   are_stored = All-nil _;
   taken = ReadsBytes-nil _;
-  rows = omega (arith, c.from-rows_left.ensures);
+  rows = omega arith;
   made = record { collected = g.met.E.ExportedRecord.begins c.args.options.now c.new-written.result c.new-written.ensures; bytes = Appends-nil _ };
 }
 
