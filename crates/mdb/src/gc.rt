@@ -153,7 +153,6 @@ fn garbage_from<'a, R: Files + Clock + Eprint + AllocGlobal>(
     }
 }
 
-// Adds the files of a shard.
 fn add_files<'a, R: Files + AllocGlobal>(
     rt: &R,
     shard: &ShardFile<'a>,
@@ -180,7 +179,6 @@ fn add_files<'a, R: Files + AllocGlobal>(
     Ok(())
 }
 
-// Adds the xorbs of a shard.
 fn add_xorbs<'a, R: Files + AllocGlobal>(
     rt: &R,
     shard: &ShardFile<'a>,

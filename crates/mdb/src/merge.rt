@@ -147,7 +147,6 @@ fn read_and_merge<
     merge_contents(rt, files, contents.as_slice(), merge, progress)
 }
 
-// Merges the shards with these bytes.
 fn merge_contents<'a, R: Files + Print + Eprint + RandomSource + AllocGlobal + Clone + Drop>(
     rt: &R,
     files: &[&'a str],

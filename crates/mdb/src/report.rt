@@ -217,7 +217,6 @@ fn read_part<'a, R: Files + Clock + Eprint + AllocGlobal>(
     in_memory(hashes.count(&mut overview.sharing))
 }
 
-// Reads the xorbs of a shard.
 fn xorbs_of<'a, R: Files + AllocGlobal>(
     rt: &R,
     file: &ShardFile<'a>,

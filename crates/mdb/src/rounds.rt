@@ -114,7 +114,6 @@ pub fn merge_in_rounds<
     Ok(())
 }
 
-// The key of each shard.
 fn keys_of(alloc: Global, shards: &[ShardFile<'_>]) -> Result<Vec<HMACKey>, AllocError>
     ensures { IfOk result
         (λ keys. keys.items ≡ map (λ s. s.info.metadata.chunk_hash_hmac_key) shards.now) }

@@ -363,7 +363,6 @@ fn are_accepted(problems: &[FileFinding], strict: bool) -> bool
     }
 }
 
-// Whether these problems are notes.
 fn are_notes(problems: &[FileFinding]) -> bool
     ensures { IsTrue result ↔ All IsFileNote problems.now }
 {
@@ -374,7 +373,6 @@ fn are_notes(problems: &[FileFinding]) -> bool
     )
 }
 
-// Looks files up.
 fn find<W: Write>(
     alloc: Global,
     bytes: &[u8],
@@ -510,7 +508,6 @@ pub(crate) fn print_xorb<W: Write>(
     Ok(())
 }
 
-// Prints the chunks of a xorb.
 fn print_chunks_of<W: Write>(
     alloc: Global,
     xorb: &MDBXorbInfo,

@@ -84,7 +84,6 @@ pub fn print_paged_answer<F: Read + Seek + Drop, W: Write>(
     Ok(Some(Answer::Printed))
 }
 
-// Looks files up.
 fn find<F: Read + Seek + Drop, W: Write>(
     alloc: Global,
     file: &mut PagedFile<F>,
@@ -109,7 +108,6 @@ fn find<F: Read + Seek + Drop, W: Write>(
     }
 }
 
-// Looks xorbs up.
 fn find_xorbs<F: Read + Seek + Drop, W: Write>(
     alloc: Global,
     file: &mut PagedFile<F>,

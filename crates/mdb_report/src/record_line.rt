@@ -138,7 +138,6 @@ pub fn file_of(alloc: Global, report: &FileReport) -> Result<MDBFileInfo, LineFa
     }
 }
 
-// The segments of the rows.
 fn segments_of(
     alloc: Global,
     rows: &[SegmentReport],
@@ -195,7 +194,6 @@ pub fn xorb_of(alloc: Global, report: &XorbReport) -> Result<MDBXorbInfo, LineFa
     })
 }
 
-// The chunks of the rows.
 fn chunks_of(alloc: Global, rows: &[ChunkRow]) -> Result<Rows<XorbChunkSequenceEntry>, AllocError>
     ensures { IfOk result (λ made. map chunk_row_of made ≡ rows.now) }
 {

@@ -88,7 +88,6 @@ pub fn exports_hold_the_shard()
         → (key : DataHash) × (s : Shard) × HoldsShard key s bytes × FollowsHeader s bytes }
 {}
 
-// Writes the export that is asked for.
 fn write_export<S: ShardSource, W: Write>(
     alloc: Global,
     info: &MDBShardInfo,

@@ -185,7 +185,6 @@ fn hashes_lacked(
     Ok(lacking)
 }
 
-// The hashes of the xorbs.
 fn xorb_hashes(
     alloc: Global,
     shard: &MDBMinimalShard,

@@ -102,7 +102,6 @@ pub fn find_places(
     search_chunks(alloc, table, word, places)
 }
 
-// Searches a chunk table.
 fn search_chunks(
     alloc: Global,
     table: &[u8],

@@ -170,7 +170,6 @@ fn merge_range_in(
     }
 }
 
-// The range that is asked for.
 fn range_of(range: &XetRange) -> HashRange
     ensures { AsksForRange range.now result }
 {

@@ -219,7 +219,6 @@ fn entries_of(alloc: Global, segments: &[XetFileSegment]) -> Result<Vec<FileData
     Ok(entries)
 }
 
-// The verification rows of segments.
 fn verification_of(alloc: Global, segments: &[XetFileSegment]) -> Result<Vec<FileVerificationEntry>>
     ensures ok { IfOk result
         (λ rows. AreHashRows (map (λ s. s.verification) segments.now) rows.items) }
@@ -271,7 +270,6 @@ fn xorb_of(alloc: Global, xorb: &XetListedXorb, chunks: &[XetChunk]) -> Result<M
     Ok(MDBXorbInfo { metadata, chunks })
 }
 
-// The rows of chunks.
 fn rows_of(alloc: Global, chunks: &[XetChunk]) -> Result<Vec<XorbChunkSequenceEntry>>
     ensures ok { IfOk result (λ rows. map c_chunk rows.items ≡ chunks.now) }
     ensures causes { IfErr result (λ e. e ≡ CoreError.OutOfMemory) }

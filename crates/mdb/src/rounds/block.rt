@@ -118,7 +118,6 @@ pub fn put_footer(bytes: &mut Vec<u8>, xorb_info_offset: u64, key: HMACKey) -> R
     Ok(())
 }
 
-// The bytes of the rows of a block.
 fn rows_of(bytes: &[u8], section: Section) -> &[u8] {
     match bytes.get(rows_start(section)..) {
         Some(rows) => rows,

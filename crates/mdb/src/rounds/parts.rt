@@ -93,7 +93,6 @@ pub fn merge_parts<
 }
 
 impl<'a, F: Read + Write + Seek + Drop> Rounds<'a, F> {
-    // Merges a section of all shards.
     fn merge_section<R: Files + Input + Clock + Eprint + AllocGlobal>(
         &mut self,
         rt: &R,

@@ -77,7 +77,6 @@ fn words_ascend(rows: &[ChunkTableRow]) -> bool
     true
 }
 
-// The rows in ascending order.
 fn sort_rows(mut rows: Vec<ChunkTableRow>) -> Vec<ChunkTableRow>
     ensures { IsSortedOf rows.items result.items }
 {
@@ -85,7 +84,6 @@ fn sort_rows(mut rows: Vec<ChunkTableRow>) -> Vec<ChunkTableRow>
     rows
 }
 
-// Whether two lists of rows are equal.
 fn are_equal(first: &[ChunkTableRow], second: &[ChunkTableRow]) -> bool
     ensures { IsTrue result ↔ (first.now ≡ second.now) }
 {

@@ -209,7 +209,6 @@ fn place_within<'a>(alloc: Global, bytes: &'a [u8], range: HashRange) -> Result<
     }))
 }
 
-// The records of a list in a range.
 fn records_within<'a, R: SectionRecord>(
     alloc: Global,
     placed: &[PlacedRecord<'a, R::Header>],

@@ -164,7 +164,6 @@ impl UnindexedShard {
         self.files.invariant();
     }
 
-    // Whether a version has the files.
     fn has_files_in(&self, version: FormatVersion) -> bool
         ensures { IsTrue result ↔ HasFilesIn version self.now }
     {

@@ -229,7 +229,6 @@ fn is_copy<R: SectionRecord, A: Agreement<R>>(
     are_copies::<R, A>(&one, &other)
 }
 
-// Reads the record at a place.
 fn read_at<R: SectionRecord + Drop>(
     alloc: Global,
     lists: &[Vec<PlacedRecord<'_, R::Header>>],
@@ -245,7 +244,6 @@ fn read_at<R: SectionRecord + Drop>(
     read_placed::<R>(alloc, &placed)
 }
 
-// The record at a place.
 fn placed_at<'a, H: Copy>(lists: &[Vec<PlacedRecord<'a, H>>], place: Place) -> PlacedRecord<'a, H>
     requires input { place.input < length lists.now }
     requires index { (l : List (PlacedRecord H))

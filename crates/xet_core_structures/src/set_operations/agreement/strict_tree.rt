@@ -50,7 +50,6 @@ pub fn place_agreeing_tree<'a>(
     }
 }
 
-// The union of two parts that agree.
 fn unite_agreeing<'a>(
     alloc: Global,
     arena: &'a Bump,

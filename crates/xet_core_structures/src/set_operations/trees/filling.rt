@@ -157,7 +157,6 @@ fn put_section<R: PutRecord>(
     put_bytes(out, end, &R::bookend().to_bytes())
 }
 
-// Puts a record.
 fn put_record<R: PutRecord>(
     out: &mut [u8],
     at: usize,
@@ -201,7 +200,6 @@ fn put_cleared_row(out: &mut [u8], at: usize, row: &[u8]) -> usize
     put_u64(out, end, 0)
 }
 
-// Puts bytes.
 fn put_bytes(out: &mut [u8], at: usize, bytes: &[u8]) -> usize
     requires { at + length bytes.now ≤ length out.old }
     ensures { Puts out.old out.new at result bytes.now }

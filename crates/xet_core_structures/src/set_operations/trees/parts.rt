@@ -223,7 +223,6 @@ fn open<'a>(alloc: Global, part: TreePart<'a>) -> Result<OpenPart<'a>>
     }
 }
 
-// The key of the chunk hashes.
 fn key(opened: &OpenPart<'_>) -> HMACKey
     ensures { (bytes : List ℕ) (info : MDBShardInfo) → IsOpened bytes info opened.now
         → result ≡ key_of info }
@@ -235,14 +234,12 @@ fn key(opened: &OpenPart<'_>) -> HMACKey
     }
 }
 
-// Whether two keys are equal.
 fn are_equal(first: HMACKey, second: HMACKey) -> bool
     ensures { IsTrue result ↔ (first ≡ second) }
 {
     first == second
 }
 
-// The records of a part.
 fn lists<'a>(alloc: Global, opened: OpenPart<'a>) -> Result<PartRecords<'a>>
     ensures { (bytes : List ℕ) (info : MDBShardInfo) → IsOpened bytes info opened.entry
         → MatchResult result (λ listed. PlacesShard bytes info (shard_in listed))
@@ -317,7 +314,6 @@ pub fn part_bytes(alloc: Global, part: TreePart<'_>) -> Result<Vec<u8>>
     }
 }
 
-// The bytes of a shard.
 fn shard_bytes(alloc: Global, shard: &PlacedShard<'_>) -> Result<Vec<u8>>
     requires { (records : Records) × MayBeWritten shard.now records }
     ensures { (records : Records) → MayBeWritten shard.now records → MatchResult result
