@@ -1,29 +1,31 @@
 -- Files with auxiliary rows, found where they lie, and bytes that get the number of a version.
-use Rattle.std.proofs.Common.{◌≡◌, inl, inr, ℕ, ◌+◌, ◌<◌, ◌≤◌, ◌&&◌, Bool, true, false, List, [], ◌∷◌, length, map, drop, get_or, Bor, sym, ap, ◌∙◌, ◌||◌, subst, arith}
+use Rattle.std.proofs.Common.{◌≡◌, ◌≢◌, ◌⊎◌, inl, inr, ℕ, ◌+◌, ◌*◌, ◌<◌, ◌≤◌, ◌&&◌, Bool, true, false, List, [], ◌∷◌, ◌++◌, length, map, flat_map, take, drop, get_or, Bor, refl, sym, ap, ◌∙◌, ◌||◌, subst, arith}
 use Rattle.std.specs.Prelude.{◌↔◌, All}
-use Rattle.std.proofs.lemmas.List.{drop_all, get_or-map, length-map}
+use Rattle.std.proofs.lemmas.List.{drop_all, get_or-map, length-append, length-drop, length-map}
 use Rattle.std.proofs.lemmas.List.Concat.{flat_map-cons}
 use Rattle.std.proofs.lemmas.List.Folds.{list_any-append}
-use Rattle.xet_core_structures.specs.declared.error.CoreError.{CoreError}
+use Rattle.xet_base.specs.Hash.{all_ones}
+use Rattle.xet_base.proofs.Lists.{front_is}
+use Rattle.xet_records.specs.declared.record_reader.FormatVersion.{FormatVersion}
+use Rattle.xet_records.specs.RecordKind.{IsHeaderRow}
+use Rattle.xet_records.specs.FileRow.{header_row}
+use Rattle.xet_records.specs.Rows.{ReadsRow}
+use Rattle.xet_records.proofs.RecordKinds.{file_laws}
+use Rattle.xet_core_structures.specs.declared.file_structs.FileDataSequenceHeader.{FileDataSequenceHeader}
 use Rattle.xet_core_structures.specs.declared.file_structs.MDBFileInfo.{MDBFileInfo}
 use Rattle.xet_core_structures.specs.declared.merklehash.DataHash.{DataHash}
-use Rattle.xet_core_structures.specs.declared.shard_format.MDBShardInfo.{MDBShardInfo}
-use Rattle.xet_core_structures.specs.Ends.{HasHeaderAndFooter}
-use Rattle.xet_core_structures.specs.FileRecord.{file_records, has_aux_ext}
+use Rattle.xet_core_structures.specs.FileRecord.{file_records, file_records_in, file_record_bytes, has_aux_ext, rows_after}
 use Rattle.xet_core_structures.specs.InARow.{ShardPart, bytes_of_part, options_in, IsPartUnder, files_in}
-use Rattle.xet_core_structures.specs.Layout.{info_of}
+use Rattle.xet_core_structures.specs.SectionReading.{IsSection}
 use Rattle.xet_core_structures.specs.Steps.InVersions.{AreNumbered, with_number_2}
 use Rattle.xet_core_structures.specs.Trees.Filling.{Fills}
-use Rattle.xet_core_structures.specs.TwoShards.ByteResults.{LoadRefusal}
+use Rattle.xet_core_structures.proofs.Records.Items.{below_or_at}
 use Rattle.xet_core_structures.proofs.Trees.InVersions.{filled_numbered}
-use Rattle.xet_shards.proofs.Ends.EndsUnique.{not_unsupported, not_too_short, only_info}
-use Rattle.xet_shards.proofs.Export.PartSplit.{ends_of_part}
 use Rattle.xet_shards.proofs.Export.Rewriting.{sections_of_layout}
 use Rattle.xet_shards.proofs.Write.Sections.{fits_ever}
-use Rattle.xet_shards.proofs.Write.Tables.{length-starts}
 use Rattle.shard_bytes.specs.Steps.Checking.{BeginsWith}
 use Rattle.shard_bytes.specs.Versions.{have_aux_rows}
-use Rattle.shard_bytes.proofs.Malformed.{drop_one, some_of}
+use Rattle.shard_bytes.proofs.Malformed.{Left, drop_one, enough_rows, has_rows, left_after, left_from_it, same, same_tail, some_of, the_record}
 
 -- files, of which these are left
 module _ (files : List MDBFileInfo) (i : ℕ) (so_far : have_aux_rows files ≡ have_aux_rows (drop i files)) where
@@ -56,26 +58,120 @@ module _ (parts : List ShardPart) (i : ℕ) (so_far : have_aux_rows (files_in pa
     pub part_has_none : false ≡ have_aux_rows p.files → have_aux_rows (files_in parts) ≡ have_aux_rows (files_in (drop (i + 1) parts))
     part_has_none has = either_has ∙ ap (λ v. v || have_aux_rows (files_in (drop (i + 1) parts))) (sym has)
 
--- the bytes of a part
-module _ (key : DataHash) (part : ShardPart) (bytes : List ℕ) (fits : IsPartUnder key part) (are : bytes ≡ bytes_of_part part) where
-  abbrev info : MDBShardInfo
-  info = info_of part.files part.xorbs (options_in part)
+-- a section in a version is one
+pub section_ever : (version : FormatVersion) (bytes : List ℕ) (files : List MDBFileInfo) → IsSection (file_records_in version) bytes files → IsSection file_records bytes files
+section_ever version bytes files s =
+    let fits = fits_ever file_records version files (record { stored = s.records.are_stored; rows = s.records.rows }) in
+    record {
+      rest = s.rest;
+      records = record { are_stored = fits.stored; rows = fits.rows; bytes_are = s.records.bytes_are };
+      bookend = record { header = s.bookend.header; rest = s.bookend.rest; widths = s.bookend.widths; is_bookend = s.bookend.is_bookend; bytes_are = s.bookend.bytes_are };
+    }
 
-  ends : HasHeaderAndFooter bytes info
-  ends = ends_of_part key part bytes fits are
+-- the files of a part are in a section after the header
+pub section_of_part : (key : DataHash) (part : ShardPart) (bytes : List ℕ) → IsPartUnder key part → bytes ≡ bytes_of_part part → IsSection file_records (drop 48 bytes) part.files
+section_of_part key part bytes fits are =
+    let sections = sections_of_layout part.files part.xorbs (options_in part) fits.files_fit fits.xorbs_fit in
+    section_ever sections.header.version (drop 48 bytes) part.files (subst (λ bs. IsSection (file_records_in sections.header.version) (drop 48 bs) part.files) (sym are) sections.file_section)
 
-  pub part_loads : (e : CoreError) → ¬ LoadRefusal bytes e
-  part_loads e (inl (is, unsupported)) = not_unsupported bytes info ends unsupported
-  part_loads e (inr (is, short)) = not_too_short bytes info ends short
+-- a section has a row at least
+pub section_has_row : (bytes : List ℕ) (files : List MDBFileInfo) → IsSection file_records bytes files → 48 ≤ length bytes
+section_has_row bytes files s =
+    omega (
+      arith,
+      ap length s.records.bytes_are,
+      length-append (flat_map file_record_bytes files) s.rest,
+      ap length s.bookend.bytes_are,
+      length-append (header_row s.bookend.header) s.bookend.rest,
+      file_laws.header_size s.bookend.header,
+    )
 
-  pub begins_with_files : (found : MDBShardInfo) → HasHeaderAndFooter bytes found → BeginsWith file_records (drop 48 bytes) part.files found.metadata.file_lookup_num_entry
-  begins_with_files found found_ends =
-      let section = (sections_of_layout part.files part.xorbs (options_in part) fits.files_fit fits.xorbs_fit).file_section in
-      let stored = fits_ever file_records part.version part.files fits.files_fit in
-      record {
-        rest = section.rest;
-        held = record { are_stored = stored.stored; rows = stored.rows; bytes_are = ap (drop 48) are ∙ section.records.bytes_are };
-        count_is = sym (length-starts file_records part.files) ∙ ap (λ (i : MDBShardInfo). i.metadata.file_lookup_num_entry) (only_info bytes info found ends found_ends);
+-- so bytes without a header have none after it
+pub none_without_header : (bytes : List ℕ) (files : List MDBFileInfo) → length bytes < 48 → ¬ IsSection file_records (drop 48 bytes) files
+none_without_header bytes files short s = omega (arith, section_has_row (drop 48 bytes) files s, length-drop 48 bytes, short)
+
+-- the rows of a section after some of its files, which have no auxiliary row
+pub record RowsAfter (bytes : List ℕ) (files : List MDBFileInfo) (s : IsSection file_records bytes files) (i : ℕ) (rest : List ℕ) : Type 0 where
+  pub within : i ≤ length files
+  pub bytes_are : rest ≡ flat_map file_record_bytes (drop i files) ++ s.rest
+  pub so_far : have_aux_rows files ≡ have_aux_rows (drop i files)
+
+pub all_rows : (bytes : List ℕ) (files : List MDBFileInfo) (s : IsSection file_records bytes files) → RowsAfter bytes files s 0 bytes
+all_rows bytes files s = record { within = omega arith; bytes_are = s.records.bytes_are; so_far = refl }
+
+module _ (bytes : List ℕ) (files : List MDBFileInfo) (s : IsSection file_records bytes files) (i : ℕ) (rest : List ℕ) (rows : RowsAfter bytes files s i rest) where
+  pub begins : BeginsWith file_records bytes files (length files)
+  begins = record { rest = s.rest; held = s.records; count_is = refl }
+
+  abbrev pub left : Left file_records files i rest
+  left = record { tail = s.rest; bytes_are = rows.bytes_are }
+
+  pub enough_left : 48 ≤ length rest
+  enough_left =
+      omega (
+        arith,
+        ap length rows.bytes_are,
+        length-append (flat_map file_record_bytes (drop i files)) s.rest,
+        ap length s.bookend.bytes_are,
+        length-append (header_row s.bookend.header) s.bookend.rest,
+        file_laws.header_size s.bookend.header,
+      )
+
+  at_bookend : length files ≤ i → rest ≡ header_row s.bookend.header ++ s.bookend.rest
+  at_bookend past = rows.bytes_are ∙ ap (λ l. flat_map file_record_bytes l ++ s.rest) (drop_all i files past) ∙ s.bookend.bytes_are
+
+  -- the next header was read
+  module _ (row_bytes : FileDataSequenceHeader → List ℕ) (Fits : FileDataSequenceHeader → Type 0) (as_read : FileDataSequenceHeader → FileDataSequenceHeader) (is_row : IsHeaderRow file_records row_bytes Fits as_read)
+      (header : FileDataSequenceHeader) (read : ReadsRow row_bytes Fits as_read (λ row. row ≡ take 48 (drop (48 * 0) rest)) header) where
+    is_bookend : length files ≤ i → header.file_hash ≡ all_ones
+    is_bookend past =
+        let b = s.bookend.header in
+        let bytes_are = sym (is_row.bytes read.stored) ∙ read.taken ∙ front_is 48 rest (header_row b) s.bookend.rest (file_laws.header_size b) (at_bookend past) in
+        let front = file_laws.header_front read.stored b [] [] (is_row.widths read.stored read.widths) s.bookend.widths (ap (λ bs. bs ++ []) bytes_are) in
+        ap (λ (h : FileDataSequenceHeader). h.file_hash) (sym read.returned ∙ is_row.same read.stored ∙ front.0) ∙ s.bookend.is_bookend
+
+    is_no_bookend : i < length files → header.file_hash ≢ all_ones
+    is_no_bookend low = λ ones.
+        let stored = (has_rows file_records file_laws bytes files (length files) begins i low rest left row_bytes Fits as_read is_row header read).is_stored in
+        let is = same file_records file_laws bytes files (length files) begins i low rest left row_bytes Fits as_read is_row header read in
+        file_laws.is_record _ stored (ap (λ (h : FileDataSequenceHeader). h.file_hash) (sym is) ∙ ones)
+
+    -- a bookend comes after all files
+    pub none_after : header.file_hash ≡ all_ones → false ≡ have_aux_rows files
+    none_after ones = of (below_or_at i (length files) (omega (arith, rows.within)))
+      where
+        of : (i < length files) ⊎ (i ≡ length files) → false ≡ have_aux_rows files
+        of (inl low) = absurd (is_no_bookend low ones)
+        of (inr at) = none_left files i rows.so_far (omega (arith, at))
+
+    -- and another header before the last
+    pub is_low : header.file_hash ≢ all_ones → i < length files
+    is_low other = of (below_or_at i (length files) (omega (arith, rows.within)))
+      where
+        of : (i < length files) ⊎ (i ≡ length files) → i < length files
+        of (inl low) = low
+        of (inr at) = absurd (other (is_bookend (omega (arith, at))))
+
+    module _ (low : i < length files) where
+      next : drop i files ≡ the_record file_records file_laws bytes files (length files) begins i low rest left ∷ drop (i + 1) files
+      next = left_from_it file_records file_laws bytes files (length files) begins i low rest left
+
+      is_of : header ≡ (the_record file_records file_laws bytes files (length files) begins i low rest left).metadata
+      is_of = same file_records file_laws bytes files (length files) begins i low rest left row_bytes Fits as_read is_row header read
+
+      pub this_has : has_aux_ext header.file_flags ≡ true → true ≡ have_aux_rows files
+      this_has has =
+          file_has files i rows.so_far (the_record file_records file_laws bytes files (length files) begins i low rest left) next (ap (λ (h : FileDataSequenceHeader). has_aux_ext h.file_flags) (sym is_of) ∙ has)
+
+      pub enough_after : 48 * rows_after header + 48 ≤ length rest
+      enough_after = enough_rows file_records file_laws bytes files (length files) begins i low rest left row_bytes Fits as_read is_row header read
+
+      pub rows_after_it : has_aux_ext header.file_flags ≡ false → (after : List ℕ) → after ≡ drop (48 * rows_after header) (drop 48 rest) → RowsAfter bytes files s (i + 1) after
+      rows_after_it has after is = record {
+        within = omega (arith, low);
+        bytes_are = is ∙ (left_after file_records file_laws bytes files (length files) begins i low rest left row_bytes Fits as_read is_row header read).bytes_are
+            ∙ ap (λ t. flat_map file_record_bytes (drop (i + 1) files) ++ t) (same_tail file_records file_laws bytes files (length files) begins i low rest left row_bytes Fits as_read is_row header read);
+        so_far = file_has_none files i rows.so_far (the_record file_records file_laws bytes files (length files) begins i low rest left) next (ap (λ (h : FileDataSequenceHeader). has_aux_ext h.file_flags) (sym is_of) ∙ has);
       }
 
 -- the part at an index of a list of byte strings

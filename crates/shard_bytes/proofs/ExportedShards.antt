@@ -1,5 +1,5 @@
 -- An export of bytes in which a shard follows the header holds the shard that is exported of it.
-use Rattle.std.proofs.Common.{◌≡◌, inl, inr, ℕ, ◌+◌, ◌^◌, ◌<◌, ◌≤◌, Bool, true, false, List, [], ◌∷◌, map, drop, Option, None, Some, Ok, Err, refl, sym, ap, ◌∙◌, subst, arith}
+use Rattle.std.proofs.Common.{◌≡◌, inl, inr, ℕ, ◌+◌, ◌^◌, ◌<◌, ◌≤◌, Bool, true, false, List, [], ◌∷◌, length, map, drop, Option, None, Some, Ok, Err, refl, sym, ap, ◌∙◌, subst, arith}
 use Rattle.std.specs.Prelude.{slice_get, option_to_list, MatchResult, IfErr}
 use Rattle.std.specs.FinMap.{values}
 use Rattle.std.proofs.lemmas.List.{map-id}
@@ -50,7 +50,10 @@ use Rattle.xet_shards.proofs.Read.WholeSections.{layout_ends, files_not_cut, fil
 use Rattle.xet_shards.proofs.Write.Sections.{fits_ever}
 use Rattle.shard_bytes.specs.declared.export.Export.{Export}
 use Rattle.shard_bytes.specs.Exporting.{ExportsBytes, FollowsHeader, HoldsExport, RefusesExport, exported_shard, shard_with_files_if}
+use Rattle.shard_bytes.specs.Sizes.{IsRewriteSize}
+use Rattle.shard_bytes.specs.Versions.{AreBytesIn3}
 use Rattle.shard_bytes.proofs.Checking.{header_in}
+use Rattle.shard_bytes.proofs.RewriteSizes.{size_of_export}
 
 -- reading a file and leaving out its auxiliary row can be exchanged
 metadata_row : (m : Option HashRow)
@@ -218,3 +221,25 @@ follows_by_footer s bytes has files_at xorbs_at = record {
   files = subst (λ n. IsSectionOf (file_records_in (header_in bytes has.info has.ends).version) (drop n bytes) s.files) files_at has.holds.files;
   xorbs = subst (λ n. IsSectionOf xorb_records (drop n bytes) s.xorbs) xorbs_at has.holds.xorbs;
 }
+
+-- the bytes of an export are a layout in version 3
+module _ (x : Export) (bytes out : List ℕ) (e : ExportsBytes x bytes out) where
+  abbrev pub files_out : List MDBFileInfo
+  files_out = if_included x.parts.files (all_with_aux_if x.parts.aux_ext e.files)
+
+  abbrev pub xorbs_out : List MDBXorbInfo
+  xorbs_out = keyed_xorbs x.key e.xorbs
+
+  abbrev pub options_out : LayoutOptions
+  options_out = export_options x.key x.now x.valid_seconds x.parts.files x.parts.xorb_table x.parts.chunk_table
+
+  pub export_in_3 : AreBytesIn3 files_out xorbs_out options_out out
+  export_in_3 =
+      let read = fits_ever file_records e.header.version e.files (record { stored = e.file_section.records.are_stored; rows = e.file_section.records.rows }) in
+      let fit = included_fits x.parts.files (all_with_aux_if x.parts.aux_ext e.files) (section-with_aux_if x.parts.aux_ext e.files read) in
+      record { fit = record { stored = fit.stored; rows = fit.rows }; bytes_are = e.written }
+
+  pub export_size : IsRewriteSize bytes (length out)
+  export_size =
+      subst (λ (zs : List ℕ). IsRewriteSize bytes (length zs)) (sym e.written)
+      (size_of_export bytes e.header.version e.files e.xorbs e.file_section e.xorb_section x.parts.aux_ext options_out)

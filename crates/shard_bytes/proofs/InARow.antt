@@ -1,5 +1,5 @@
 -- The bytes that shards in a row append to an empty vector are the concatenation.
-use Rattle.std.proofs.Common.{◌≡◌, ◌⊎◌, inl, inr, ℕ, ◌≤◌, ◌<◌, Bor, Bool, true, false, List, [], ◌++◌, length, map, take, drop, None, Some, refl, sym, ap, ◌∙◌, subst, append-nil, true≢false, arith}
+use Rattle.std.proofs.Common.{◌≡◌, ◌⊎◌, inl, inr, ℕ, ◌≤◌, ◌<◌, Bor, true, false, List, [], ◌++◌, length, map, take, drop, None, Some, refl, sym, ap, ◌∙◌, subst, append-nil, true≢false, arith}
 use Rattle.std.specs.Prelude.{⊤, All}
 use Rattle.std.specs.List.{AllZip}
 use Rattle.std.specs.FinMap.{values}
@@ -25,10 +25,10 @@ use Rattle.xet_core_structures.proofs.Trees.InVersions.{in_version_2}
 use Rattle.xet_core_structures.proofs.Trees.RangeParts.{ranges_concatenate}
 use Rattle.xet_shards.proofs.Export.InARow.{ArePartsOf, parts_of, parts_in_a_row}
 use Rattle.xet_shards.proofs.Export.KeyedExport.{footer_last}
-use Rattle.shard_bytes.specs.InARow.{has_new_files, IsLayoutIn, FailsIn, IsConcatenationIn, Concatenates}
+use Rattle.shard_bytes.specs.InARow.{IsLayoutIn, FailsIn, IsConcatenationIn, Concatenates}
 use Rattle.shard_bytes.specs.Outcomes.{InMemory}
 use Rattle.shard_bytes.specs.Steps.Versions.{IsNumberedIn}
-use Rattle.shard_bytes.specs.Versions.{have_aux_rows}
+use Rattle.shard_bytes.specs.Versions.{have_aux_rows, has_new_files}
 
 -- after bytes were appended to nothing, they are all that is there
 pub appended_is : (items old now : List ℕ) → old ≡ [] → Appends (Some old) (Some now) items → now ≡ items

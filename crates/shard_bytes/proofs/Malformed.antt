@@ -180,6 +180,10 @@ module _ {H R : Type 0} (K : RecordKind H R) (laws : KindLaws K) (stored : List 
     pub left_after : Left K rs (i + 1) (drop (48 * K.rows_after header) (drop 48 rest))
     left_after = record { tail = left.tail; bytes_are = rest_is (48 * K.rows_after header) (drop 48 rest) rows_after_it after_it size rows_left }
 
+    pub same_tail : left_after.tail ≡ left.tail
+    unfolding left_after
+    same_tail = refl
+
 -- a file is well-formed exactly if its header is plain and the rows of its parts have no reserved words
 module _ (header : FileDataSequenceHeader) (rows : List ℕ) (r : MDBFileInfo) (has : HasRows file_records header rows r) where
   pub plain_if_formed : IsWellFormed r → IsPlainHeader header

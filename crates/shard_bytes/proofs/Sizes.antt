@@ -1,6 +1,6 @@
 -- How large unions and differences of byte strings are.
 use Rattle.std.proofs.Common.{◌≡◌, inl, inr, ℕ, zero, suc, ◌+◌, ◌-◌, ◌/◌, List, [], ◌∷◌, length, Some, Ok, Err, refl, sym, ap, subst, arith}
-use Rattle.std.specs.Prelude.{IfOk, MatchResult, sum_by, slice_get, slice_index_or}
+use Rattle.std.specs.Prelude.{IfErr, IfOk, MatchResult, sum_by, slice_get, slice_index_or}
 use Rattle.std.specs.declared.result.Result.{Result}
 use Rattle.std.proofs.lemmas.List.Sums.{sum_by-append, sum_by-cons}
 use Rattle.xet_core_structures.specs.declared.error.CoreError.{CoreError}
@@ -99,6 +99,11 @@ size_of_range range inputs (Both' p left q right) out (inr (more, balanced)) wri
 pub if_made : {T E : Type 0} (r : Result T E) (P Q : T → Type 0) (Refused : E → Type 0) → ((v : T) → P v → Q v) → MatchResult r P Refused → IfOk r Q
 if_made (Ok v) P Q Refused weaker is = weaker v is
 if_made (Err e) P Q Refused weaker is = tt
+
+-- and a fact on each error
+pub if_refused : {T E : Type 0} (r : Result T E) (Made : T → Type 0) (P Q : E → Type 0) → ((e : E) → P e → Q e) → MatchResult r Made P → IfErr r Q
+if_refused (Ok v) Made P Q weaker is = tt
+if_refused (Err e) Made P Q weaker is = weaker e is
 
 -- what is said of the size of the bytes is said of the number that is returned
 pub size_returned : (IsMade : List ℕ → Type 0) (IsCause : CoreError → Type 0) (inputs : List (List ℕ)) (old new : List ℕ) (r : Result ℕ CoreError) → ((bytes : List ℕ) → IsMade bytes → IsResultSize inputs (length bytes))

@@ -1,5 +1,5 @@
 -- Concatenation in a version of the format.
-use Rattle.std.specs.Prelude.{◌≡◌, ◌⊎◌, ◌<◌, ⊤, true, false, ℕ, List, All, Bool, None, map, length}
+use Rattle.std.specs.Prelude.{◌≡◌, ◌⊎◌, ◌<◌, ⊤, true, false, ℕ, List, All, None, map, length}
 use Rattle.std.specs.FinMap.{values}
 use Rattle.std.specs.List.{AllZip}
 use Rattle.xet_core_structures.specs.declared.error.CoreError.{CoreError}
@@ -17,11 +17,6 @@ use Rattle.xet_core_structures.specs.Trees.RangeTrees.{IsHeldLayout}
 use Rattle.xet_core_structures.specs.WrittenShard.{HasFilesIn}
 use Rattle.shard_bytes.specs.Outcomes.{InMemory}
 use Rattle.shard_bytes.specs.Versions.{have_aux_rows}
-
--- whether a version does not have one of the files
-abbrev pub has_new_files : FormatVersion → List MDBFileInfo → Bool
-has_new_files V2 files = have_aux_rows files
-has_new_files V3 files = false
 
 -- the bytes of files and xorbs under a key in a version, which has the files: all tables, creation 0
 -- and no expiry

@@ -1,15 +1,12 @@
 //! Files with an auxiliary row, which version 2 of the format does not have, found where they lie.
 
-ghost use Rattle.std.specs.Prelude.{◌≡◌, List, All, map};
+ghost use Rattle.std.specs.Prelude.{◌≡◌, List, All, drop, map};
 ghost use Rattle.xet_core_structures.specs.declared.merklehash.DataHash.{DataHash};
 ghost use Rattle.xet_core_structures.specs.FileRecord.{file_records};
 ghost use Rattle.xet_core_structures.specs.InARow.{ShardPart, bytes_of_part, IsPartUnder, files_in};
-ghost use Rattle.shard_bytes.specs.InARow.{has_new_files};
-ghost use Rattle.shard_bytes.specs.Steps.Checking.{BeginsWith};
-ghost use Rattle.shard_bytes.specs.Versions.{have_aux_rows};
+ghost use Rattle.xet_core_structures.specs.SectionReading.{IsSection};
+ghost use Rattle.shard_bytes.specs.Versions.{have_aux_rows, has_new_files};
 
-use crate::load::load_bytes;
-use std::alloc::Global;
 use xet_core_structures::file_structs::{FileDataSequenceHeader, MDBFileInfo};
 use xet_core_structures::set_operations::FormatVersion;
 use xet_records::record_bytes::row;
@@ -18,25 +15,25 @@ use xet_records::rows::ROW_SIZE;
 
 /// Whether a version does not have a file of one of these shards. Nothing is said of bytes that are
 /// no shard.
-pub(crate) fn have_new_files(alloc: Global, shards: &[&[u8]], version: FormatVersion) -> bool
+pub(crate) fn have_new_files(shards: &[&[u8]], version: FormatVersion) -> bool
     ensures { (key : DataHash) → (parts : List ShardPart) → All (IsPartUnder key) parts
         → map bytes_of_part parts ≡ map (λ x. x.now) shards.now
         → result ≡ has_new_files version (files_in parts) }
 {
     match version {
-        FormatVersion::V2 => have_aux_rows(alloc, shards),
+        FormatVersion::V2 => have_aux_rows(shards),
         FormatVersion::V3 => false,
     }
 }
 
 // Whether a file of one of the shards has an auxiliary row.
-fn have_aux_rows(alloc: Global, shards: &[&[u8]]) -> bool
+fn have_aux_rows(shards: &[&[u8]]) -> bool
     ensures { (key : DataHash) → (parts : List ShardPart) → All (IsPartUnder key) parts
         → map bytes_of_part parts ≡ map (λ x. x.now) shards.now
         → result ≡ have_aux_rows (files_in parts) }
 {
     for index in 0..shards.len() {
-        if has_aux_rows(alloc, shards[index]) {
+        if has_aux_rows(shards[index]) {
             return true;
         }
     }
@@ -44,31 +41,32 @@ fn have_aux_rows(alloc: Global, shards: &[&[u8]]) -> bool
 }
 
 /// Whether a file of a shard has an auxiliary row.
-pub(crate) fn has_aux_rows(alloc: Global, bytes: &[u8]) -> bool
-    ensures { (key : DataHash) → (part : ShardPart) → IsPartUnder key part
-        → bytes.now ≡ bytes_of_part part → result ≡ have_aux_rows part.files }
+pub(crate) fn has_aux_rows(bytes: &[u8]) -> bool
+    ensures { (files : List MDBFileInfo) → IsSection file_records (drop 48 bytes.now) files
+        → result ≡ have_aux_rows files }
 {
-    match load_bytes(alloc, bytes) {
-        Ok(info) => {
-            let (_header, stored) = bytes.split_at(ROW_SIZE);
-            begin_with_aux_rows(stored, info.metadata.file_lookup_num_entry)
-        }
-        Err(_) => false,
+    if bytes.len() < ROW_SIZE {
+        return false;
     }
+    let (_header, sections) = bytes.split_at(ROW_SIZE);
+    begin_with_aux_rows(sections)
 }
 
-// Whether one of so many files at the front of bytes has an auxiliary row, if they are there.
-fn begin_with_aux_rows(stored: &[u8], count: u64) -> bool
-    ensures { (files : List MDBFileInfo) → BeginsWith file_records stored.now files count
+// Whether a file of the section at the front of bytes has an auxiliary row, if there is a section.
+fn begin_with_aux_rows(sections: &[u8]) -> bool
+    ensures { (files : List MDBFileInfo) → IsSection file_records sections.now files
         → result ≡ have_aux_rows files }
 {
     MDBFileInfo::laws();
-    let mut rest = stored;
-    for _index in 0..count {
+    let mut rest = sections;
+    for _index in 0..sections.len() {
         if rest.len() < ROW_SIZE {
             return false;
         }
         let header: FileDataSequenceHeader = row(rest, 0);
+        if header.is_bookend() {
+            return false;
+        }
         if header.contains_aux_ext() {
             return true;
         }

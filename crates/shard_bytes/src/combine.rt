@@ -2,23 +2,18 @@
 
 ghost use Rattle.std.specs.Prelude.{◌≡◌, ◌⊎◌, length, IfOk, MatchResult};
 ghost use Rattle.xet_core_structures.specs.Errors.{IsWriteError};
-ghost use Rattle.xet_core_structures.specs.Shard.{Shard};
 ghost use Rattle.xet_core_structures.specs.Trees.InVersions.{MadeIn, RefusedIn};
-ghost use Rattle.xet_core_structures.specs.TwoShards.ByteResults.{keyed_info, WritesResult, InputsFail};
-ghost use Rattle.xet_core_structures.specs.TwoShards.Readable.{IsBytesUnderKey};
-ghost use Rattle.xet_core_structures.specs.declared.merklehash.DataHash.{DataHash};
+ghost use Rattle.xet_core_structures.specs.TwoShards.ByteResults.{WritesResult, InputsFail};
 ghost use Rattle.shard_bytes.specs.Combining.{IsResultOf, RefusalOf, CombinesBytes, CombiningRefusal};
 ghost use Rattle.shard_bytes.specs.Sizes.{IsResultSize, sources_of};
 
-use crate::aux_rows::has_aux_rows;
 use crate::memory::in_memory;
+use crate::number::in_version;
 use crate::room::with_room;
 use std::alloc::Global;
 use std::io::Write;
-use xet_core_structures::error::{CoreError, Result};
-use xet_core_structures::set_operations::{
-    FormatVersion, put_number, shard_set_difference, shard_set_union,
-};
+use xet_core_structures::error::Result;
+use xet_core_structures::set_operations::{FormatVersion, shard_set_difference, shard_set_union};
 use xet_core_structures::shard_format::MDBShardInfo;
 use xet_core_structures::source::{MemorySource, ShardSource};
 
@@ -79,27 +74,7 @@ pub fn combine_bytes_in(
         (λ bytes. IsResultSize (sources_of operation first.now second.now) (length bytes.items)) }
 {
     let bytes = combine_bytes(alloc, operation, first, second)?;
-    in_version(alloc, bytes, version)
-}
-
-// The bytes in a version of a shard, whose bytes in version 3 these are.
-fn in_version(alloc: Global, mut bytes: Vec<u8>, version: FormatVersion) -> Result<Vec<u8>>
-    requires { (key : DataHash) × (c : Shard)
-        × IsBytesUnderKey key c bytes.items (keyed_info c key) }
-    ensures { MatchResult result
-        (λ out. MadeIn version (λ made. made ≡ bytes.items) out.items)
-        (RefusedIn version (λ made. made ≡ bytes.items) (λ e. ⊥)) }
-{
-    match version {
-        FormatVersion::V2 => {
-            if has_aux_rows(alloc, bytes.as_slice()) {
-                return Err(CoreError::InvalidArguments);
-            }
-            put_number(true, bytes.as_mut_slice());
-            Ok(bytes)
-        }
-        FormatVersion::V3 => Ok(bytes),
-    }
+    in_version(bytes, version)
 }
 
 // How many bytes memory is reserved for. A result of shards that have their tables has no more.

@@ -13,13 +13,16 @@ ghost use Rattle.shard_bytes.specs.Checking.{IsIntact};
 ghost use Rattle.shard_bytes.specs.Exporting.{ExportsBytes, RefusesExport, FollowsHeader, HoldsExport};
 ghost use Rattle.shard_bytes.specs.Sizes.{IsRewriteSize};
 ghost use Rattle.shard_bytes.specs.Steps.Exporting.{WritesExport};
+ghost use Rattle.shard_bytes.specs.Versions.{LaidOutIn, NotLaidOutIn};
 
 use crate::memory::in_memory;
+use crate::number::in_version;
 use crate::room::with_room;
 use std::alloc::Global;
 use std::io::Write;
 use xet_core_structures::error::Result;
 use xet_core_structures::merklehash::HMACKey;
+use xet_core_structures::set_operations::FormatVersion;
 use xet_core_structures::shard_format::MDBShardInfo;
 use xet_core_structures::source::{MemorySource, ShardSource};
 
@@ -66,6 +69,34 @@ pub fn export_bytes(alloc: Global, bytes: &[u8], export: &Export) -> Result<Vec<
         Ok(_) => Ok(exported),
         Err(error) => Err(in_memory(error)),
     }
+}
+
+/// The bytes of a keyed export of a shard in a version of the format, as [`export_bytes`] makes
+/// those in version 3.
+///
+/// `InvalidArguments` also if a file of the export has an auxiliary row, and the version is 2, which
+/// has none. Else the errors are the same.
+pub fn export_bytes_in(
+    alloc: Global,
+    bytes: &[u8],
+    export: &Export,
+    version: FormatVersion,
+) -> Result<Vec<u8>>
+    ensures exported { MatchResult result
+        (λ exported. LaidOutIn version (ExportsBytes export.entry.now bytes.now) exported.items)
+        (NotLaidOutIn version (ExportsBytes export.entry.now bytes.now)
+        (RefusesExport export.entry.now bytes.now)) }
+    ensures of_shard { (s : Shard) → IsShard s → FollowsHeader s bytes.now
+        → IfOk result (λ exported. LaidOutIn version (HoldsExport export.entry.now s)
+        exported.items) }
+    ensures succeeds { (s : Shard) → HoldsShard no_key s bytes.now → FollowsHeader s bytes.now
+        → export.entry.now.now + export.entry.now.valid_seconds < 2 ^ 64
+        → IfErr result (NotLaidOutIn version (HoldsExport export.entry.now s)
+        (λ e. e ≡ CoreError.OutOfMemory)) }
+    ensures size { IfOk result (λ exported. IsRewriteSize bytes.now (length exported.items)) }
+{
+    let exported = export_bytes(alloc, bytes, export)?;
+    in_version(exported, version)
 }
 
 /// Does nothing. Its contract says what a shard's export holds, of any bytes in which the shard

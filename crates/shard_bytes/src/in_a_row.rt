@@ -1,17 +1,16 @@
 //! Concatenation: one shard made of many whose records follow one another.
 
-ghost use Rattle.std.specs.Prelude.{ℕ, List, map, MatchResult};
-ghost use Rattle.xet_core_structures.specs.Trees.Filling.{Fills, FillsWith};
+ghost use Rattle.std.specs.Prelude.{map, MatchResult};
+ghost use Rattle.xet_core_structures.specs.Trees.Filling.{FillsWith};
 ghost use Rattle.shard_bytes.specs.InARow.{Concatenates};
-ghost use Rattle.shard_bytes.specs.Steps.Versions.{IsNumberedIn};
 
 use crate::aux_rows::have_new_files;
 use crate::memory::in_memory;
+use crate::number::put_version;
 use crate::room::with_room;
 use std::alloc::Global;
 use xet_core_structures::error::{CoreError, Result};
-use xet_core_structures::rows::ROW_SIZE;
-use xet_core_structures::set_operations::{FormatVersion, put_number};
+use xet_core_structures::set_operations::FormatVersion;
 use xet_shards::shard_writer::{shards_in_a_row, shards_in_a_row_into};
 
 /// The bytes of the shard that has the records of one shard or more, in their order, in a version
@@ -31,7 +30,7 @@ pub fn concatenate(alloc: Global, shards: &[&[u8]], version: FormatVersion) -> R
     ensures { Concatenates version (map (λ x. x.now) shards.now)
         (λ IsMade IsCause. MatchResult result (λ bytes. IsMade bytes.items) IsCause) }
 {
-    if have_new_files(alloc, shards, version) {
+    if have_new_files(shards, version) {
         return Err(CoreError::InvalidArguments);
     }
     let mut bytes = with_room(alloc, total_length(shards))?;
@@ -58,7 +57,7 @@ pub fn concatenate_into(
     ensures { Concatenates version (map (λ x. x.now) shards.now)
         (λ IsMade IsCause. FillsWith IsMade IsCause out.old out.new result) }
 {
-    if have_new_files(alloc, shards, version) {
+    if have_new_files(shards, version) {
         return Err(CoreError::InvalidArguments);
     }
     match shards_in_a_row_into(alloc, shards, out) {
@@ -67,23 +66,6 @@ pub fn concatenate_into(
             Ok(size)
         }
         Err(error) => Err(in_memory(error)),
-    }
-}
-
-// Puts the number of a version into the header of so many bytes in version 3 that were put to the
-// front of a slice, if they fit.
-fn put_version(version: FormatVersion, size: usize, out: &mut [u8])
-    ensures { (bytes before : List ℕ) → Fills bytes before out.old size
-        → (numbered : List ℕ) × IsNumberedIn version bytes numbered
-        × Fills numbered before out.new size }
-{
-    match version {
-        FormatVersion::V2 => {
-            let has_header = ROW_SIZE <= size;
-            let fits = size <= out.len();
-            put_number(has_header & fits, out);
-        }
-        FormatVersion::V3 => {}
     }
 }
 

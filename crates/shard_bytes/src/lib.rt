@@ -17,6 +17,7 @@ pub mod load;
 mod memory;
 pub mod merge;
 pub mod minimal;
+mod number;
 pub mod parts;
 pub mod query;
 pub mod records;

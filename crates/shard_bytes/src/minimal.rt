@@ -9,8 +9,10 @@ ghost use Rattle.shard_bytes.specs.Minimal.{HoldsMinimal, RefusesMinimal, Minima
 ghost use Rattle.shard_bytes.specs.Steps.Minimal.{FiltersAs};
 ghost use Rattle.shard_bytes.specs.Outcomes.{InMemory};
 ghost use Rattle.shard_bytes.specs.Sizes.{IsMinimalSize};
+ghost use Rattle.shard_bytes.specs.Versions.{LaidOutIn, NotLaidOutIn};
 
 use crate::memory::in_memory;
+use crate::number::in_version;
 use crate::room::with_room;
 use crate::sorted_hashes::SortedHashes;
 use std::alloc::{AllocError, Global};
@@ -18,6 +20,7 @@ use std::io::{self, ErrorKind, Write};
 use xet_core_structures::error::{CoreError, Result};
 use xet_core_structures::file_structs::KeptParts;
 use xet_core_structures::merklehash::MerkleHash;
+use xet_core_structures::set_operations::FormatVersion;
 use xet_core_structures::streaming_shard::MDBMinimalShard;
 use xet_core_structures::xorb_structs::MDBXorbInfoView;
 
@@ -88,6 +91,28 @@ pub fn minimal_bytes(alloc: Global, bytes: &[u8], now: u64, kept: KeptParts) -> 
     }
 }
 
+/// The bytes of the minimal shard of a shard in a version of the format, as [`minimal_bytes`] makes
+/// those in version 3.
+///
+/// `InvalidArguments` if a file would have an auxiliary row, and the version is 2, which has none.
+/// Else the errors are the same.
+pub fn minimal_bytes_in(
+    alloc: Global,
+    bytes: &[u8],
+    now: u64,
+    kept: KeptParts,
+    version: FormatVersion,
+) -> Result<Vec<u8>>
+    ensures minimal { MatchResult result
+        (λ minimal. LaidOutIn version (MinimalBytes kept now bytes.now) minimal.items)
+        (NotLaidOutIn version (MinimalBytes kept now bytes.now)
+        (RefusesMinimalBytes kept bytes.now)) }
+    ensures size { IfOk result (λ minimal. IsMinimalSize bytes.now (length minimal.items)) }
+{
+    let minimal = minimal_bytes(alloc, bytes, now, kept)?;
+    in_version(minimal, version)
+}
+
 // Whether a file has no verification rows.
 fn lacks_verification(shard: &MDBMinimalShard) -> bool
     ensures { IsTrue result ↔ Any (LacksVerification true) shard.now.files }
@@ -149,6 +174,24 @@ pub fn subset_bytes(alloc: Global, bytes: &[u8], subset: &Subset) -> Result<Vec<
         // Writing to a vector fails only if it is out of memory.
         Err(_) => Err(CoreError::OutOfMemory),
     }
+}
+
+/// The bytes of a shard with some of the xorbs and none of the files of a shard in a version of the
+/// format, as [`subset_bytes`] makes those in version 3. The errors are the same: without files, each
+/// version has all records.
+pub fn subset_bytes_in(
+    alloc: Global,
+    bytes: &[u8],
+    subset: &Subset,
+    version: FormatVersion,
+) -> Result<Vec<u8>>
+    ensures subset { MatchResult result
+        (λ written. LaidOutIn version (SubsetBytes subset.entry.now bytes.now) written.items)
+        (InMemory (RefusesMinimal bytes.now)) }
+    ensures size { IfOk result (λ written. IsMinimalSize bytes.now (length written.items)) }
+{
+    let written = subset_bytes(alloc, bytes, subset)?;
+    in_version(written, version)
 }
 
 /// The given hashes that no xorb of a shard has, in their order, from the shard's bytes.

@@ -1,13 +1,10 @@
-use Rattle.std.proofs.Common.{◌≡◌, inl, ℕ, List, length, sym, ap, ◌∙◌, subst, arith}
+use Rattle.std.proofs.Common.{◌≡◌, inl, sym, ap, ◌∙◌, subst, arith}
 use Rattle.std.proofs.lemmas.Result.{err_from_is_err_and}
 use Rattle.xet_core_structures.specs.Ends.{HasHeaderAndFooter}
 use Rattle.shard_bytes.proofs.Exporting.{export_refused, export_made}
-use Rattle.shard_bytes.proofs.ExportedShards.{export_held, refused, export_succeeds}
+use Rattle.shard_bytes.proofs.ExportedShards.{export_held, export_size, export_succeeds, refused}
 use Rattle.xet_core_structures.specs.Source.{Source}
-use Rattle.xet_core_structures.specs.KeyedExport.{export_options}
 use Rattle.shard_bytes.specs.Exporting.{ExportsBytes}
-use Rattle.shard_bytes.specs.Sizes.{IsRewriteSize}
-use Rattle.shard_bytes.proofs.RewriteSizes.{size_of_export}
 use Rattle.shard_bytes.proofs.export.export_bytes.Goals as goal
 
 pub returns-in_err-exported-clause-exported : goal.returns-in_err-exported-clause-exported
@@ -30,12 +27,7 @@ returns-in-Err-clause-exported c =
     c.in_ok-seek_to.ensures c.in-Err.ensures.made c.in-Err.ensures.refused c.in_memory.ensures
 
 pub returns-in-Ok-clause-size : goal.returns-in-Ok-clause-size
-returns-in-Ok-clause-size c =
-    let made = returns-in-Ok-clause-exported c in
-    let x = c.args.export.now in
-    subst (λ (zs : List ℕ). IsRewriteSize c.args.bytes.now (length zs)) (sym made.written)
-    (size_of_export c.args.bytes.now made.header.version made.files made.xorbs made.file_section made.xorb_section x.parts.aux_ext
-    (export_options x.key x.now x.valid_seconds x.parts.files x.parts.xorb_table x.parts.chunk_table))
+returns-in-Ok-clause-size c = export_size c.args.export.now c.args.bytes.now c.write_export.new.writer.items (returns-in-Ok-clause-exported c)
 
 pub returns-in-Ok-clause-of_shard : goal.returns-in-Ok-clause-of_shard
 returns-in-Ok-clause-of_shard c = λ s shard follows.

@@ -3,7 +3,7 @@ use Rattle.std.proofs.lemmas.Bool.{leb-true, le-leb}
 use Rattle.xet_core_structures.specs.Trees.Filling.{Fills}
 use Rattle.shard_bytes.specs.Steps.Versions.{IsNumberedIn}
 use Rattle.shard_bytes.proofs.AuxRows.{version_put}
-use Rattle.shard_bytes.proofs.in_a_row.put_version.Goals as goal
+use Rattle.shard_bytes.proofs.number.put_version.Goals as goal
 
 pub returns-in-V2 : goal.returns-in-V2
 returns-in-V2 c = λ bytes before fills.
