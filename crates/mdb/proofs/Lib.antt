@@ -1,3 +1,4 @@
+pub mod AddedParts
 pub mod Earliest
 pub mod Keys
 pub mod Parts

@@ -1,15 +1,16 @@
 //! A shard that is written in parts: first the rows of all its files, then those of all its xorbs,
 //! then the tables, whose rows wait in another file.
 
-ghost use Rattle.std.specs.Prelude.{◌≡◌, ◌+◌, ◌-◌, ◌/◌, ◌++◌, ◌≤◌, ℕ, List, All, length, map, flat_map, drop, slice_range, true, false, IfOk, OnOk};
+ghost use Rattle.std.specs.Prelude.{◌≡◌, ◌+◌, ◌-◌, ◌++◌, ◌<◌, ◌≤◌, ◌^◌, ℕ, List, All, length, map, flat_map, drop, slice_range, true, false, IfOk, IfErr, OnOk};
 ghost use Rattle.std.specs.Io.KnownBytes.{Appends};
+ghost use Rattle.xet_base.specs.Errors.{IsDeviceError};
 ghost use Rattle.xet_records.specs.XorbRow.{xorb_header_row};
 ghost use Rattle.xet_records.specs.XorbRecord.{xorb_bookend};
 ghost use Rattle.xet_shards.specs.Read.TableReading.{FitsStart, FitsTriple, triple_of};
 ghost use Rattle.xet_shards.specs.Write.Ranges.{start_later, chunk_row_later};
 ghost use Rattle.xet_shards.specs.Write.Tables.{start_row, chunk_table_row_bytes};
 ghost use Rattle.xet_shards.specs.declared.shard_format.write.xorb_writer.ChunkTableRow.{ChunkTableRow};
-ghost use Rattle.mdb.specs.Assembly.{WithFiles, WithXorbs};
+ghost use Rattle.mdb.specs.Assembly.{AddFails, AddsFiles, AddsPart, AddsXorbs, EndsWith, FitFiles, FitTable, FitXorbs, HasChunkRows, HasStarts, NoneWritten, StepFails, bytes_in, missing_header, written};
 
 use super::counts::{Counts, sum, with_rows};
 use super::part_ranges::{before_bookend, check_range, range};
@@ -59,7 +60,9 @@ pub struct Assembly<F: Read + Write + Seek + Drop> {
 
 impl<F: Read + Write + Seek + Drop> Assembly<F> {
     /// A shard of which nothing is written. The rows of its tables wait in a file of their own.
-    pub fn new(alloc: Global, output: F, tables: F) -> Assembly<F> {
+    pub fn new(alloc: Global, output: F, tables: F) -> Assembly<F>
+        ensures { NoneWritten (F.contents output) (F.contents tables) (written F.contents result) }
+    {
         Assembly {
             alloc,
             output,
@@ -73,9 +76,17 @@ impl<F: Read + Write + Seek + Drop> Assembly<F> {
         }
     }
 
-    /// Writes the next part of a section, from the bytes of the shard that has it. `InvalidShard`
-    /// if there are more rows than a section may have.
-    pub fn add(&mut self, section: Section, part: &mut [u8]) -> Result<()> {
+    /// Writes the next part of a section, from the bytes of the shard that has it: its header, unless
+    /// one is written, and its rows. Those of its tables wait.
+    ///
+    /// The errors are those of [`load_bytes`], `InvalidShard` if the part lacks what its footer names
+    /// or there are more rows than a section may have, and those of the files.
+    pub fn add(&mut self, section: Section, part: &mut [u8]) -> Result<()>
+        ensures added { OnOk result
+            (AddsPart section part.old (written F.contents self.old) (written F.contents self.new)) }
+        ensures causes { IfErr result
+            (AddFails section part.old (written F.contents self.old)) }
+    {
         let footer = load_bytes(self.alloc, part)?.metadata;
         self.write_header(part)?;
         self.counts = self.counts.with_sums(self.alloc, &footer)?;
@@ -87,13 +98,15 @@ impl<F: Read + Write + Seek + Drop> Assembly<F> {
 
     // Writes the header of a part, unless one is written.
     fn write_header(&mut self, part: &[u8]) -> Result<()>
-        ensures first { self.old.has_header ≡ false → OnOk result
+        ensures header { OnOk result
             (Appends (F.contents self.old.output) (F.contents self.new.output)
-            (slice_range part.now 0 48)) }
-        ensures later { self.old.has_header ≡ true
-            → OnOk result (self.new.output ≡ self.old.output) }
+            (missing_header self.old.has_header part.now)) }
         ensures written { OnOk result (self.new.has_header ≡ true) }
-        ensures others { (self.new.tables ≡ self.old.tables) × (self.new.counts ≡ self.old.counts) }
+        ensures others { self.new ≡ record self.old {
+          has_header = self.new.has_header;
+          output = self.new.output;
+        } }
+        ensures causes { IfErr result (StepFails (48 ≤ length part.now)) }
     {
         if !self.has_header {
             let header = range(self.alloc, part, 0, HEADER_SIZE as u64)?;
@@ -105,20 +118,11 @@ impl<F: Read + Write + Seek + Drop> Assembly<F> {
 
     // Writes the rows of the files of a part with this footer, and keeps those of its file table.
     fn add_files(&mut self, footer: &MDBShardFileFooter, part: &mut [u8]) -> Result<()>
-        ensures rows { OnOk result
-            (Appends (F.contents self.old.output) (F.contents self.new.output)
-            (slice_range part.old footer.now.file_info_offset
-            (footer.now.xorb_info_offset - 48))) }
-        ensures table { (starts : List (ℕ × ℕ)) → All FitsStart starts
-            → slice_range part.old footer.now.file_lookup_offset footer.now.xorb_lookup_offset
-            ≡ flat_map start_row starts
-            → OnOk result
-            (Appends (F.contents self.old.tables) (F.contents self.new.tables)
-            (flat_map start_row (map (start_later self.old.counts.file_rows) starts))) }
-        ensures counts { OnOk result
-            (WithFiles (footer.now.xorb_info_offset - 48 - footer.now.file_info_offset)
-            (footer.now.xorb_lookup_offset - footer.now.file_lookup_offset)
-            self.old.counts self.new.counts) }
+        ensures added { OnOk result
+            (AddsFiles footer.now part.old (written F.contents self.old)
+            (written F.contents self.new)) }
+        ensures causes { IfErr result
+            (StepFails (FitFiles footer.now part.old (written F.contents self.old))) }
     {
         let before = self.counts;
         let rows = self.write_rows(part, footer.file_info_offset, footer.xorb_info_offset)?;
@@ -136,26 +140,11 @@ impl<F: Read + Write + Seek + Drop> Assembly<F> {
     // Writes the rows of the xorbs of a part with this footer, and keeps those of its xorb table and
     // of its chunk table.
     fn add_xorbs(&mut self, footer: &MDBShardFileFooter, part: &mut [u8]) -> Result<()>
-        ensures rows { OnOk result
-            (Appends (F.contents self.old.output) (F.contents self.new.output)
-            (slice_range part.old footer.now.xorb_info_offset
-            (footer.now.file_lookup_offset - 48))) }
-        ensures tables { (starts : List (ℕ × ℕ)) → (chunks : List ChunkTableRow)
-            → All FitsStart starts → All (λ row. FitsTriple (triple_of row)) chunks
-            → slice_range part.old footer.now.xorb_lookup_offset footer.now.chunk_lookup_offset
-            ≡ flat_map start_row starts
-            → slice_range part.old footer.now.chunk_lookup_offset footer.now.footer_offset
-            ≡ flat_map chunk_table_row_bytes chunks
-            → OnOk result
-            (Appends (F.contents self.old.tables) (F.contents self.new.tables)
-            (flat_map start_row (map (start_later self.old.counts.xorb_rows) starts)
-            ++ flat_map chunk_table_row_bytes
-            (map (chunk_row_later self.old.counts.xorb_rows) chunks))) }
-        ensures counts { OnOk result
-            (WithXorbs (footer.now.file_lookup_offset - 48 - footer.now.xorb_info_offset)
-            (footer.now.chunk_lookup_offset - footer.now.xorb_lookup_offset)
-            (footer.now.footer_offset - footer.now.chunk_lookup_offset)
-            self.old.counts self.new.counts) }
+        ensures added { OnOk result
+            (AddsXorbs footer.now part.old (written F.contents self.old)
+            (written F.contents self.new)) }
+        ensures causes { IfErr result
+            (StepFails (FitXorbs footer.now part.old (written F.contents self.old))) }
     {
         let before = self.counts;
         let rows = self.write_rows(part, footer.xorb_info_offset, footer.file_lookup_offset)?;
@@ -181,7 +170,9 @@ impl<F: Read + Write + Seek + Drop> Assembly<F> {
             (Appends (F.contents self.old.output) (F.contents self.new.output)
             (slice_range part.now from (end - 48))) }
         ensures size { IfOk result (λ size. size ≡ end - 48 - from) }
-        ensures others { (self.new.tables ≡ self.old.tables) × (self.new.counts ≡ self.old.counts) }
+        ensures others { self.new ≡ record self.old { output = self.new.output } }
+        ensures causes { IfErr result
+            (StepFails ((from + 48 ≤ end) × (end ≤ length part.now + 48))) }
     {
         let end = before_bookend(self.alloc, end)?;
         let rows = range(self.alloc, part, from, end)?;
@@ -197,9 +188,16 @@ impl<F: Read + Write + Seek + Drop> Assembly<F> {
             → OnOk result
             (Appends (F.contents self.old.tables) (F.contents self.new.tables)
             (flat_map start_row (map (start_later first) starts))) }
-        ensures size { IfOk result (λ extent. extent.size ≡ to - from) }
+        ensures extent { IfOk result (λ extent. (extent.start ≡ self.old.tables_size)
+            × (extent.size ≡ to - from)
+            × (self.new.tables_size ≡ self.old.tables_size + (to - from))) }
         ensures elsewhere { (i : ℕ) → to ≤ i → drop i part.new ≡ drop i part.old }
-        ensures others { (self.new.output ≡ self.old.output) × (self.new.counts ≡ self.old.counts) }
+        ensures others { self.new ≡ record self.old {
+          tables = self.new.tables;
+          tables_size = self.new.tables_size;
+        } }
+        ensures causes { IfErr result (StepFails (FitTable part.old self.old.tables_size from to
+            × HasStarts (slice_range part.old from to) first)) }
     {
         check_range(self.alloc, part.len(), from, to)?;
         let rows = &mut part[from as usize..to as usize];
@@ -215,8 +213,15 @@ impl<F: Read + Write + Seek + Drop> Assembly<F> {
             → OnOk result
             (Appends (F.contents self.old.tables) (F.contents self.new.tables)
             (flat_map chunk_table_row_bytes (map (chunk_row_later first) chunks))) }
-        ensures size { IfOk result (λ extent. extent.size ≡ to - from) }
-        ensures others { (self.new.output ≡ self.old.output) × (self.new.counts ≡ self.old.counts) }
+        ensures extent { IfOk result (λ extent. (extent.start ≡ self.old.tables_size)
+            × (extent.size ≡ to - from)
+            × (self.new.tables_size ≡ self.old.tables_size + (to - from))) }
+        ensures others { self.new ≡ record self.old {
+          tables = self.new.tables;
+          tables_size = self.new.tables_size;
+        } }
+        ensures causes { IfErr result (StepFails (FitTable part.old self.old.tables_size from to
+            × HasChunkRows (slice_range part.old from to) first)) }
     {
         check_range(self.alloc, part.len(), from, to)?;
         let rows = &mut part[from as usize..to as usize];
@@ -231,7 +236,11 @@ impl<F: Read + Write + Seek + Drop> Assembly<F> {
         ensures extent { IfOk result (λ extent. (extent.start ≡ self.old.tables_size)
             × (extent.size ≡ length rows.now)
             × (self.new.tables_size ≡ self.old.tables_size + length rows.now)) }
-        ensures others { (self.new.output ≡ self.old.output) × (self.new.counts ≡ self.old.counts) }
+        ensures others { self.new ≡ record self.old {
+          tables = self.new.tables;
+          tables_size = self.new.tables_size;
+        } }
+        ensures causes { IfErr result (StepFails (self.old.tables_size + length rows.now < 2 ^ 64)) }
     {
         self.tables.write_all(rows)?;
         let extent = Extent {
@@ -244,17 +253,23 @@ impl<F: Read + Write + Seek + Drop> Assembly<F> {
 
     /// Ends a section, whose parts are all written.
     pub fn end_section(&mut self) -> Result<()>
-        ensures { OnOk result
+        ensures bookend { OnOk result
             (Appends (F.contents self.old.output) (F.contents self.new.output)
             (xorb_header_row xorb_bookend)) }
+        ensures causes { IfErr result IsDeviceError }
     {
         XorbChunkSequenceHeader::bookend().serialize(&mut self.output)?;
         Ok(())
     }
 
     /// Writes the tables and the footer of the shard, with this key and this expiry in seconds, and
-    /// returns its file. The chunk tables take about a quarter of `memory`, in bytes.
-    pub fn finish(self, key: HMACKey, expiry: Option<u64>, memory: u64) -> Result<F> {
+    /// returns its file. The chunk tables take about a quarter of `memory`, in bytes. The errors are
+    /// those of the files.
+    pub fn finish(self, key: HMACKey, expiry: Option<u64>, memory: u64) -> Result<F>
+        ensures written { IfOk result
+            (λ file. EndsWith (written F.contents self) key expiry (F.contents file)) }
+        ensures causes { IfErr result IsDeviceError }
+    {
         let Assembly {
             alloc,
             output,
@@ -266,12 +281,8 @@ impl<F: Read + Write + Seek + Drop> Assembly<F> {
             ..
         } = self;
         let mut output = BufWriter::with_capacity(alloc, OUTPUT_SIZE, output)?;
-        for extent in &file_tables {
-            copy(&mut tables, *extent, &mut output)?;
-        }
-        for extent in &xorb_tables {
-            copy(&mut tables, *extent, &mut output)?;
-        }
+        copy_all(&mut tables, file_tables.as_slice(), &mut output)?;
+        copy_all(&mut tables, xorb_tables.as_slice(), &mut output)?;
         let each = share_of(memory / MEMORY_PARTS, runs.len() as u64)
             .max(LEAST_READ)
             .min(MOST_READ);
@@ -284,10 +295,27 @@ impl<F: Read + Write + Seek + Drop> Assembly<F> {
     }
 }
 
+// Copies ranges of the tables to the output.
+fn copy_all<F: Read + Seek, W: Write>(
+    tables: &mut F,
+    extents: &[Extent],
+    output: &mut W,
+) -> Result<()>
+    ensures copied { OnOk result ((bytes : List ℕ) × (length bytes ≡ bytes_in extents.now)
+        × Appends (W.contents output.old) (W.contents output.new) bytes) }
+    ensures causes { IfErr result IsDeviceError }
+{
+    for extent in extents {
+        copy(tables, *extent, output)?;
+    }
+    Ok(())
+}
+
 // Copies a range of the tables to the output.
 fn copy<F: Read + Seek, W: Write>(tables: &mut F, extent: Extent, output: &mut W) -> Result<()>
-    ensures { OnOk result ((bytes : List ℕ) × (length bytes ≡ extent.size)
+    ensures copied { OnOk result ((bytes : List ℕ) × (length bytes ≡ extent.size)
         × Appends (W.contents output.old) (W.contents output.new) bytes) }
+    ensures causes { IfErr result IsDeviceError }
 {
     let mut block = [0u8; LEAST_READ as usize];
     tables.seek(SeekFrom::Start(extent.start))?;

@@ -1,12 +1,8 @@
 //! What is counted of a shard that is written in parts, and the footer with these numbers.
 
-ghost use Rattle.std.specs.Prelude.{◌≡◌, ◌+◌, ◌/◌, ◌<◌, ◌≤◌, ◌^◌, List, [], All, MatchResult};
+ghost use Rattle.std.specs.Prelude.{◌≡◌, ◌+◌, ◌/◌, ◌<◌, ◌≤◌, ◌^◌, [], MatchResult};
 ghost use Rattle.xet_base.specs.Errors.{IsInvalidShard};
-ghost use Rattle.xet_records.specs.FileRecord.{FitsRecord};
-ghost use Rattle.xet_records.specs.declared.file_structs.MDBFileInfo.{MDBFileInfo};
-ghost use Rattle.xet_records.specs.declared.xorb_structs.MDBXorbInfo.{MDBXorbInfo};
-ghost use Rattle.xet_shards.specs.Write.Layout.{footer_value};
-ghost use Rattle.mdb.specs.Assembly.{CountsRecords, options_with, AddsSums, FitSums};
+ghost use Rattle.mdb.specs.Assembly.{CountsRecords, IsFooterOf, AddsSums, FitSums};
 
 use super::part_ranges::invalid_shard;
 use super::row_numbers::TABLE_ROW_SIZE;
@@ -73,9 +69,7 @@ impl Counts {
 
     /// The footer of the shard with these counts, with a key and an expiry in seconds or none.
     pub fn footer(&self, key: HMACKey, expiry: Option<u64>) -> MDBShardFileFooter
-        ensures { (files : List MDBFileInfo) → (xorbs : List MDBXorbInfo) → All FitsRecord files
-            → CountsRecords self.now files xorbs
-            → result ≡ footer_value files xorbs (options_with key expiry) }
+        ensures { IsFooterOf self.now key expiry result }
     {
         let row_size = ROW_SIZE as u64;
         let table_row_size = TABLE_ROW_SIZE as u64;

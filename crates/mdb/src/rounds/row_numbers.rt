@@ -1,6 +1,6 @@
 //! The row numbers in tables of a part, raised by the rows before the part.
 
-ghost use Rattle.std.specs.Prelude.{◌≡◌, ◌+◌, ◌<◌, ◌≤◌, ◌^◌, ◌++◌, ℕ, List, All, length, map, flat_map, MatchResult};
+ghost use Rattle.std.specs.Prelude.{◌≡◌, ◌+◌, ◌<◌, ◌≤◌, ◌^◌, ◌++◌, ℕ, List, All, length, map, flat_map, IfErr, MatchResult};
 ghost use Rattle.xet_base.specs.Bytes.{u32_bytes};
 ghost use Rattle.xet_base.specs.Errors.{IsInvalidShard};
 ghost use Rattle.xet_shards.specs.Read.TableReading.{FitsStart, FitsTriple, triple_of};
@@ -23,21 +23,23 @@ const NUMBER_OFFSET: usize = 8;
 /// Adds a number of rows to the row number in each row of a file table or a xorb table.
 /// `InvalidShard` exactly if one passes 32 bits.
 pub fn shift_starts(alloc: Global, rows: &mut [u8], first: u32) -> Result<()>
-    ensures { (starts : List (ℕ × ℕ)) → rows.old ≡ flat_map start_row starts → All FitsStart starts
+    ensures raised { (starts : List (ℕ × ℕ)) → rows.old ≡ flat_map start_row starts → All FitsStart starts
         → MatchResult result (λ _. rows.new ≡ flat_map start_row (map (start_later first) starts))
         (λ e. IsInvalidShard e × (All (λ start. first + start.1 < 2 ^ 32) starts → ⊥)) }
+    ensures causes { IfErr result IsInvalidShard }
 {
     shift_row_numbers(alloc, rows, TABLE_ROW_SIZE, first)
 }
 
 /// The same of a chunk table.
 pub fn shift_chunk_rows(alloc: Global, rows: &mut [u8], first: u32) -> Result<()>
-    ensures { (table : List ChunkTableRow) → rows.old ≡ flat_map chunk_table_row_bytes table
+    ensures raised { (table : List ChunkTableRow) → rows.old ≡ flat_map chunk_table_row_bytes table
         → All (λ row. FitsTriple (triple_of row)) table
         → MatchResult result
         (λ _. rows.new ≡ flat_map chunk_table_row_bytes (map (chunk_row_later first) table))
         (λ e. IsInvalidShard e
         × (All (λ (row : ChunkTableRow). first + row.row < 2 ^ 32) table → ⊥)) }
+    ensures causes { IfErr result IsInvalidShard }
 {
     shift_row_numbers(alloc, rows, CHUNK_ROW_SIZE, first)
 }
@@ -45,11 +47,12 @@ pub fn shift_chunk_rows(alloc: Global, rows: &mut [u8], first: u32) -> Result<()
 // Adds a number of rows to the row number in each row of a table.
 fn shift_row_numbers(alloc: Global, rows: &mut [u8], row_size: usize, first: u32) -> Result<()>
     requires { 12 ≤ row_size }
-    ensures { (table : List NumberedRow) → rows.old ≡ flat_map row_bytes table
+    ensures raised { (table : List NumberedRow) → rows.old ≡ flat_map row_bytes table
         → All (IsRowOf row_size) table
         → MatchResult result
         (λ _. rows.new ≡ flat_map row_bytes (map (row_later first) table))
         (λ e. IsInvalidShard e × (All (λ row. first + row.number < 2 ^ 32) table → ⊥)) }
+    ensures causes { IfErr result IsInvalidShard }
 {
     let mut at = 0;
     while rows.len() - at >= row_size {

@@ -14,14 +14,14 @@ loop-rows-preserved c =
           (c.loop-rows.invariant.2 table are fit) c.requires within c.shift_row_number.new.rows c.in_ok-shift_row_number.ensures.value,
     )
 
-pub returns : goal.returns
-returns c = λ table are fit.
+pub returns-clause-raised : goal.returns-clause-raised
+returns-clause-raised c = λ table are fit.
     all_raised c.args.row_size c.args.first c.loop-rows.at table c.loop-rows.rows
     (c.loop-rows.invariant.2 table are fit) c.loop-rows-test.false
 
 -- a number of this row, and so of the table, passes `u32`
-pub returns-in_err-shift_row_number : goal.returns-in_err-shift_row_number
-returns-in_err-shift_row_number c = λ table are fit.
+pub returns-in_err-shift_row_number-clause-raised : goal.returns-in_err-shift_row_number-clause-raised
+returns-in_err-shift_row_number-clause-raised c = λ table are fit.
     let p = err_from_is_err_and c.from_residual.result c.from_residual.ensures.1 in
     let within : c.loop-rows.at + c.args.row_size ≤ length c.loop-rows.rows =
     omega (arith, c.loop-rows-test.true, c.loop-rows.invariant.0) in
