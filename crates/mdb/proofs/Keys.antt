@@ -1,11 +1,18 @@
 -- Values under a key, and keys without repetitions, one after the other.
-use Rattle.std.proofs.Common.{arith, ◌≡◌, ℕ, ◌+◌, ◌<◌, Bool, true, false, ◌||◌, not, List, [], ◌∷◌, ◌++◌}
+use Rattle.std.proofs.Common.{arith, Bor, Some, Option, ◌≡◌, ℕ, ◌+◌, ◌<◌, Bool, true, false, ◌||◌, not, List, [], ◌∷◌, ◌++◌}
 use Rattle.std.proofs.Common.{map, filter, zip, take, length, get_or, cond, ap, refl, sym, subst, ◌∙◌}
-use Rattle.std.proofs.lemmas.List.{map-append}
+use Rattle.std.proofs.iter.Yields.{fronts}
+use Rattle.std.proofs.lemmas.Iterator.{zips}
+use Rattle.std.proofs.lemmas.List.{map-append, length-append}
 use Rattle.std.proofs.lemmas.List.Elements.{filter_more, filter-append}
-use Rattle.std.proofs.lemmas.Slice.Zip.{length-zip, get_or-zip}
+use Rattle.std.proofs.lemmas.Slice.Zip.{length-zip, get_or-zip, zip_turn}
 use Rattle.std.proofs.lemmas.Map.Views.{any-filter_same}
+use Rattle.std.specs.Iterator.{Yields}
+use Rattle.std.specs.Iterator.Adapters.{zip_first, zip_second}
 use Rattle.std.specs.Set.{is_member}
+use Rattle.std.specs.Slice.Iter.{iter_rest}
+use Rattle.std.specs.declared.iter.Zip.{Zip}
+use Rattle.std.specs.declared.slice.Iter.{Iter}
 use Rattle.xet_base.specs.declared.merklehash.DataHash.{DataHash}
 use Rattle.xet_base.specs.Hash.{hash_eq}
 use Rattle.xet_base.proofs.HashOrder.{same_hash}
@@ -41,6 +48,22 @@ module _ {T : Type 0} (key : DataHash) (values : List T) (keys : List DataHash) 
       )
       ∙ map-append (λ (p : T × DataHash). p.0) (filter under_key so_far) (cond (hash_eq its key) ((value, its) ∷ []) [])
       ∙ ap (λ l. values_of_key key so_far ++ l) (first_of (hash_eq its key))
+
+-- the next turn of a loop over values and keys keeps the value if its key is this one
+pub kept_at_turn : {T : Type 0} (key : DataHash) (values : List T) (keys : List DataHash) (yielded : List (Bor T × Bor DataHash))
+    (start now next : Zip (Iter T) (Iter DataHash)) (result : Option (Bor T × Bor DataHash))
+    → iter_rest (zip_first start) ≡ values → iter_rest (zip_second start) ≡ keys
+    → Yields (zips fronts fronts) start yielded now → (pair : Bor T × Bor DataHash) → result ≡ Some pair
+    → zips fronts fronts now result next → (found : List T)
+    → found ≡ values_of_key key (take (length yielded) (zip values keys))
+    → found ++ cond (hash_eq pair.1.now key) (pair.0.now ∷ []) []
+    ≡ values_of_key key (take (length (yielded ++ pair ∷ [])) (zip values keys))
+kept_at_turn key values keys yielded start now next result first second yields pair is steps found before =
+    let turn = zip_turn values keys yielded start now next result first second yields pair is steps in
+    let more =
+    kept_more key values keys (length yielded) pair.0.now pair.1.now turn.0 turn.1 (turn.2 pair.0.now) (turn.3 pair.1.now) in
+    ap (λ l. l ++ cond (hash_eq pair.1.now key) (pair.0.now ∷ []) []) before ∙ sym more
+    ∙ ap (λ n. values_of_key key (take n (zip values keys))) (sym (length-append yielded (pair ∷ [])))
 
 -- one more key is added exactly if it is not among those before
 pub distinct_more : (keys : List DataHash) (key : DataHash)
