@@ -1,9 +1,10 @@
 //! Records from the lines of JSON in which they are printed whole.
 
-ghost use Rattle.std.specs.Prelude.{◌≡◌, true, IfOk, map};
+ghost use Rattle.std.specs.Prelude.{◌≡◌, true, IfOk, IfErr, OnOk, IsUtf8, MatchResult, map};
 ghost use Rattle.xet_records.specs.FileRecord.{FitsItsHeader};
 ghost use Rattle.xet_records.specs.XorbRecord.{HasItsChunks};
-ghost use Rattle.mdb_report.specs.Records.{ReportsFile, ReportsXorb, segment_report, chunk_row_of};
+ghost use Rattle.mdb_report.specs.Records.{ReportsFile, ReportsRows, ReportsXorb, segment_report, chunk_row_of};
+ghost use Rattle.mdb_report.specs.RecordLines.{IsWhole, NoFile, NoXorb};
 
 use crate::hex::Hex;
 use crate::records::{ChunkRow, FileReport, FileRows, SegmentReport, XorbReport};
@@ -43,12 +44,22 @@ pub enum LineFault {
 }
 
 impl From<AllocError> for LineFault {
+    ghost use Rattle.std.specs.Prelude.{◌≡◌};
+    ghost use Rattle.mdb_report.specs.declared.record_line.LineFault.TheVariants.{OutOfMemory};
+
+    ghost from_gives = { λ _ fault. fault ≡ OutOfMemory };
+
     fn from(_error: AllocError) -> LineFault {
         LineFault::OutOfMemory
     }
 }
 
 impl<T: Drop> From<AllocFailed<T>> for LineFault {
+    ghost use Rattle.std.specs.Prelude.{◌≡◌};
+    ghost use Rattle.mdb_report.specs.declared.record_line.LineFault.TheVariants.{OutOfMemory};
+
+    ghost from_gives = { λ _ fault. fault ≡ OutOfMemory };
+
     fn from(_error: AllocFailed<T>) -> LineFault {
         LineFault::OutOfMemory
     }
@@ -93,8 +104,12 @@ struct Kind {
     xorb: Option<Hex>,
 }
 
-/// The record of a line that has it as JSON, with its rows.
-pub fn record_of(alloc: Global, line: &[u8]) -> Result<Record, LineFault> {
+/// The record of a line that has it as JSON, with its rows. The line is UTF-8, and the record has the
+/// rows that its header announces.
+pub fn record_of(alloc: Global, line: &[u8]) -> Result<Record, LineFault>
+    ensures text { OnOk result (IsUtf8 line.now) }
+    ensures whole { IfOk result IsWhole }
+{
     let kind: Kind = serde_json::from_slice(alloc, line)?;
     match (kind.file, kind.xorb) {
         (Some(_), None) => {
@@ -111,15 +126,32 @@ pub fn record_of(alloc: Global, line: &[u8]) -> Result<Record, LineFault> {
 
 /// The file of which a report with rows is.
 ///
-/// `NoRows` if it has none, `Mismatch` if no file has this report.
+/// `NoRows` exactly if it has none, `Mismatch` exactly if no file that fits its header has this
+/// report, and `OutOfMemory` if memory is lacking.
 pub fn file_of(alloc: Global, report: &FileReport) -> Result<MDBFileInfo, LineFault>
     ensures report { IfOk result (λ file. ReportsFile file true report.now) }
     ensures fits { IfOk result FitsItsHeader }
+    ensures causes { IfErr result (NoFile report.now) }
 {
     let Some(rows) = &report.rows else {
         return Err(LineFault::NoRows);
     };
-    let file = MDBFileInfo {
+    let file = made_of(alloc, report, rows)?;
+    if file.fits_its_header() && file.file_size() == report.bytes {
+        Ok(file)
+    } else {
+        Err(LineFault::Mismatch)
+    }
+}
+
+// A file with what a report says, and with these rows.
+fn made_of(alloc: Global, report: &FileReport, rows: &FileRows) -> Result<MDBFileInfo, AllocError>
+    ensures header { IfOk result (λ file. (file.metadata.file_hash ≡ report.now.file.0)
+        × (file.metadata.file_flags ≡ report.now.flags)
+        × (file.metadata.num_entries ≡ report.now.segments)) }
+    ensures rows { IfOk result (λ file. ReportsRows file rows.now) }
+{
+    Ok(MDBFileInfo {
         metadata: FileDataSequenceHeader {
             file_hash: report.file.0,
             file_flags: report.flags,
@@ -130,12 +162,7 @@ pub fn file_of(alloc: Global, report: &FileReport) -> Result<MDBFileInfo, LineFa
         verification: verification_of(alloc, rows.verification.as_slice())?,
         metadata_ext: rows.sha256.map(|hash| FileMetadataExt::new(hash.0)),
         aux_ext: rows.aux.map(|hash| FileAuxExt::new(hash.0)),
-    };
-    if file.fits_its_header() && file.file_size() == report.bytes {
-        Ok(file)
-    } else {
-        Err(LineFault::Mismatch)
-    }
+    })
 }
 
 fn segments_of(
@@ -170,10 +197,12 @@ fn verification_of(alloc: Global, hashes: &[Hex]) -> Result<Rows<FileVerificatio
 
 /// The xorb of which a report with rows is.
 ///
-/// `NoRows` if it has none, `Mismatch` if no xorb has this report.
+/// `NoRows` exactly if it has none, `Mismatch` exactly if no xorb that has its chunks has this report,
+/// and `OutOfMemory` if memory is lacking.
 pub fn xorb_of(alloc: Global, report: &XorbReport) -> Result<MDBXorbInfo, LineFault>
     ensures report { IfOk result (λ xorb. ReportsXorb xorb true report.now) }
     ensures whole { IfOk result HasItsChunks }
+    ensures causes { IfErr result (NoXorb report.now) }
 {
     let Some(rows) = &report.rows else {
         return Err(LineFault::NoRows);
