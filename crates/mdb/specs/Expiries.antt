@@ -1,24 +1,17 @@
 -- The expiry of a shard, and the earliest of some.
-use Rattle.std.specs.Prelude.{ℕ, ◌≡◌, ◌≤◌, ◌-◌, ◌^◌, ◌==◌, ◌||◌, Option, Some, None, if◌then◌else◌}
+use Rattle.std.specs.Prelude.{ℕ, ◌≡◌, ◌≤◌, Option, Some, None}
 use Rattle.std.specs.Prelude.{List, All, Contains, IfSome, IsNone, map, min}
 use Rattle.std.specs.Borrow.{Bor}
 use Rattle.std.specs.List.{AllZip}
 use Rattle.xet_core_structures.specs.declared.shard_format.MDBShardInfo.{MDBShardInfo}
 use Rattle.xet_core_structures.specs.Ends.{HasHeaderAndFooter}
+use Rattle.mdb_report.specs.Expiries.{expiry_in}
 use Rattle.mdb.specs.declared.request.NewExpiry.{NewExpiry}
 use Rattle.mdb.specs.declared.request.NewExpiry.TheVariants.{Unset, At, Earliest}
 
--- the expiry that a footer says: 0 and the greatest number stand for none
-abbrev pub expiry_in : MDBShardInfo → Option ℕ
-expiry_in info =
-    if (info.metadata.shard_key_expiry == 0) || (info.metadata.shard_key_expiry == 2 ^ 64 - 1)
-    then None
-    else Some info.metadata.shard_key_expiry
-
--- an expiry has come by a time
-abbrev pub HasCome : Option ℕ → ℕ → Type 0
-HasCome None now = ⊥
-HasCome (Some expiry) now = expiry ≤ now
+-- the expiry that a footer says
+abbrev pub shard_expiry : MDBShardInfo → Option ℕ
+shard_expiry info = expiry_in info.metadata.shard_key_expiry
 
 -- the earlier of two expiries, where none is later than any
 abbrev pub earlier_of : Option ℕ → Option ℕ → Option ℕ
@@ -39,4 +32,4 @@ IsNewExpiry Unset inputs expiry = expiry ≡ None
 IsNewExpiry (At time) inputs expiry = expiry ≡ Some time
 IsNewExpiry Earliest inputs expiry =
     (infos : List MDBShardInfo) × AllZip (λ p info. HasHeaderAndFooter p.1.now info) inputs infos
-    × IsEarliest (map expiry_in infos) expiry
+    × IsEarliest (map shard_expiry infos) expiry

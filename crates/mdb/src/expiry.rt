@@ -1,10 +1,10 @@
 //! Expiries: which shards have expired, and the earliest expiry of several.
 
-ghost use Rattle.std.specs.Prelude.{◌≡◌, ◌↔◌, map, zip, IsTrue, IfOk, MatchResult};
+ghost use Rattle.std.specs.Prelude.{◌≡◌, map, zip, IfOk, MatchResult};
 ghost use Rattle.xet_core_structures.specs.Layout.{layout};
 ghost use Rattle.xet_core_structures.specs.Shard.{Shard};
 ghost use Rattle.xet_core_structures.specs.WrittenShard.{IsBytesWithoutExpiry};
-ghost use Rattle.mdb.specs.Expiries.{expiry_in, earlier_of, HasCome, IsEarliest, IsNewExpiry};
+ghost use Rattle.mdb.specs.Expiries.{shard_expiry, earlier_of, IsEarliest, IsNewExpiry};
 ghost use Rattle.mdb.specs.Writing.{HasExpiry, RefusesExpiry};
 
 use crate::failure::Failure;
@@ -13,6 +13,7 @@ use crate::infos::infos_of;
 use crate::input_failure::failure_on_all;
 use crate::progress::Progress;
 use crate::request::NewExpiry;
+use mdb_report::expiry::{expiry_of, has_come};
 use mdb_report::fault::Fault;
 use mdb_report::moment::Moment;
 use mdb_report::shown::ShownText;
@@ -24,26 +25,11 @@ use std::rt::Files;
 use xet_core_structures::error::CoreError;
 use xet_core_structures::shard_format::MDBShardInfo;
 
-/// The expiry that a footer says. 0 and the greatest number stand for none.
-pub fn expiry_of(info: &MDBShardInfo) -> Option<u64>
-    ensures { result ≡ expiry_in info.now }
+/// The expiry that a footer says.
+pub fn shard_expiry(info: &MDBShardInfo) -> Option<u64>
+    ensures { result ≡ shard_expiry info.now }
 {
-    let expiry = info.metadata.shard_key_expiry;
-    if expiry == 0 || expiry == u64::MAX {
-        None
-    } else {
-        Some(expiry)
-    }
-}
-
-/// Whether an expiry has come by a time, in seconds.
-pub fn has_come(expiry: Option<u64>, now: u64) -> bool
-    ensures { IsTrue result ↔ HasCome expiry now }
-{
-    match expiry {
-        Some(expiry) => expiry <= now,
-        None => false,
-    }
+    expiry_of(info.metadata.shard_key_expiry)
 }
 
 /// The earlier of two expiries. None is later than any.
@@ -59,11 +45,11 @@ pub fn earlier(one: Option<u64>, other: Option<u64>) -> Option<u64>
 
 // The earliest of the expiries that some footers say.
 fn earliest_in(infos: &[MDBShardInfo]) -> Option<u64>
-    ensures { IsEarliest (map expiry_in infos.now) result }
+    ensures { IsEarliest (map shard_expiry infos.now) result }
 {
     let mut found = None;
     for info in infos {
-        found = earlier(found, expiry_of(info));
+        found = earlier(found, shard_expiry(info));
     }
     found
 }
@@ -134,7 +120,7 @@ pub fn expiry_at<R: Files + AllocGlobal>(rt: &R, file: &str) -> Option<u64> {
         return None;
     }
     let ends = read_ends(rt, file).ok()?;
-    expiry_of(&load_bytes(rt.alloc(), ends.as_slice()).ok()?)
+    shard_expiry(&load_bytes(rt.alloc(), ends.as_slice()).ok()?)
 }
 
 /// Says of a file that is used that its shard has expired, if that is known.
@@ -145,7 +131,7 @@ pub fn report_expired<R: Eprint + AllocGlobal>(
     now: Option<u64>,
     progress: &mut Progress,
 ) {
-    let (Some(now), Some(expiry)) = (now, expiry_of(info)) else {
+    let (Some(now), Some(expiry)) = (now, shard_expiry(info)) else {
         return;
     };
     if !has_come(Some(expiry), now) {

@@ -1,10 +1,11 @@
 //! The days on which shards expire.
 
 ghost use Rattle.std.specs.Prelude.{◌≡◌, ◌/◌, IfOk, OnOk};
-ghost use Rattle.mdb_overview.specs.Expiries.{expiry_in, has_come, ExpireAs, AddsExpiry};
+ghost use Rattle.mdb_overview.specs.Expiries.{has_expired, ExpireAs, AddsExpiry};
 
 use crate::counts::{Counts, count_one};
 use mdb_report::brief::Brief;
+use mdb_report::expiry::{expiry_of, has_come};
 use std::alloc::{AllocError, Global};
 use std::collections::BTreeMap;
 
@@ -29,26 +30,13 @@ pub fn day_of(seconds: u64) -> u64
     seconds / DAY
 }
 
-/// The expiry of a shard, in seconds since the start of 1970; 0 and the greatest number stand for
-/// none.
-pub fn expiry_of(shard: &Brief<'_>) -> Option<u64>
-    ensures { result ≡ expiry_in shard.now }
-{
-    let expiry = shard.expires.seconds;
-    if expiry == 0 || expiry == u64::MAX {
-        None
-    } else {
-        Some(expiry)
-    }
-}
-
 /// Whether the expiry of a shard has come by a time, if one is given.
 pub fn has_expired(shard: &Brief<'_>, now: Option<u64>) -> bool
-    ensures { result ≡ has_come now shard.now }
+    ensures { result ≡ has_expired now shard.now }
 {
-    match (expiry_of(shard), now) {
-        (Some(expiry), Some(now)) => expiry <= now,
-        _ => false,
+    match now {
+        Some(now) => has_come(expiry_of(shard.expires.seconds), now),
+        None => false,
     }
 }
 
@@ -78,7 +66,7 @@ fn add_expiry(
 ) -> Result<(), AllocError>
     ensures { OnOk result (AddsExpiry shard.now now expiries.old expiries.new) }
 {
-    match expiry_of(shard) {
+    match expiry_of(shard.expires.seconds) {
         Some(expiry) => count_one(&mut expiries.by_day, day_of(expiry))?,
         None => expiries.without = expiries.without.saturating_add(1),
     }

@@ -1,5 +1,6 @@
 pub mod Answers
 pub mod Brief
+pub mod Expiries
 pub mod Faults
 pub mod Lookups
 pub mod Pages

@@ -4,6 +4,7 @@
 
 pub mod brief;
 pub mod counting;
+pub mod expiry;
 pub mod fault;
 pub mod file_finding;
 pub mod flags;

@@ -1,14 +1,14 @@
 //! The rounds of a merge: the next records of all shards, and their union.
 
 ghost use Rattle.std.specs.Prelude.{map};
-ghost use Rattle.mdb.specs.Expiries.{expiry_in, IsEarliest};
+ghost use Rattle.mdb.specs.Expiries.{shard_expiry, IsEarliest};
 
 use super::assembly::Assembly;
 use super::block::{Block, Mark};
 use super::findings::Findings;
 use super::shard_file::{Cursor, ShardFile};
 use super::{RoundFault, share_of};
-use crate::expiry::{earlier, expiry_of};
+use crate::expiry::{earlier, shard_expiry};
 use crate::failure::Failure;
 use crate::input_failure::{
     failure_in_files, failure_of_two_keys, failure_on_all, lacks_files, union_failure,
@@ -266,11 +266,11 @@ impl<'a, F: Read + Write + Seek + Drop> Rounds<'a, F> {
 
 // The earliest of the expiries of some shards.
 fn earliest_of(shards: &[ShardFile<'_>]) -> Option<u64>
-    ensures { IsEarliest (map (λ s. expiry_in s.info) shards.now) result }
+    ensures { IsEarliest (map (λ s. shard_expiry s.info) shards.now) result }
 {
     let mut found = None;
     for shard in shards {
-        found = earlier(found, expiry_of(&shard.info));
+        found = earlier(found, shard_expiry(&shard.info));
     }
     found
 }

@@ -1,11 +1,11 @@
 use Rattle.std.proofs.Common.{ap, ◌∙◌}
-use Rattle.mdb.specs.Expiries.{expiry_in, earlier_of}
+use Rattle.mdb.specs.Expiries.{shard_expiry, earlier_of}
 use Rattle.mdb.proofs.Earliest.{earliest_with}
 use Rattle.mdb.proofs.expiry.earliest_in.Goals as goal
 
 -- one more footer
 pub loop-info-preserved : goal.loop-info-preserved
 loop-info-preserved c =
-    earliest_with expiry_in c.args.infos.now c.loop-info.info-index _ c.loop-info.found c.earlier-found.result
+    earliest_with shard_expiry c.args.infos.now c.loop-info.info-index _ c.loop-info.found c.earlier-found.result
     c.loop-info-test.true c.loop-info.invariant
-    (c.earlier-found.ensures ∙ ap (earlier_of c.loop-info.found) c.expiry_of.ensures)
+    (c.earlier-found.ensures ∙ ap (earlier_of c.loop-info.found) c.shard_expiry.ensures)

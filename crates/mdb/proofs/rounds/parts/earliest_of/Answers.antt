@@ -1,12 +1,12 @@
 use Rattle.std.proofs.Common.{ap, ◌∙◌}
 use Rattle.mdb.specs.declared.rounds.shard_file.ShardFile.{ShardFile}
-use Rattle.mdb.specs.Expiries.{expiry_in, earlier_of}
+use Rattle.mdb.specs.Expiries.{shard_expiry, earlier_of}
 use Rattle.mdb.proofs.Earliest.{earliest_with}
 use Rattle.mdb.proofs.rounds.parts.earliest_of.Goals as goal
 
 -- one more shard
 pub loop-shard-preserved : goal.loop-shard-preserved
 loop-shard-preserved c =
-    earliest_with (λ (s : ShardFile). expiry_in s.info) c.args.shards.now c.loop-shard.shard-index _
+    earliest_with (λ (s : ShardFile). shard_expiry s.info) c.args.shards.now c.loop-shard.shard-index _
     c.loop-shard.found c.earlier-found.result c.loop-shard-test.true c.loop-shard.invariant
-    (c.earlier-found.ensures ∙ ap (earlier_of c.loop-shard.found) c.expiry_of.ensures)
+    (c.earlier-found.ensures ∙ ap (earlier_of c.loop-shard.found) c.shard_expiry.ensures)
