@@ -6,6 +6,8 @@ use Rattle.std.specs.List.{AllZip}
 use Rattle.xet_core_structures.specs.declared.shard_format.MDBShardInfo.{MDBShardInfo}
 use Rattle.xet_core_structures.specs.Ends.{HasHeaderAndFooter}
 use Rattle.mdb_report.specs.Expiries.{expiry_in}
+use Rattle.mdb.specs.Keys.{NoInfos}
+use Rattle.mdb.specs.declared.failure.Failure.{Failure}
 use Rattle.mdb.specs.declared.request.NewExpiry.{NewExpiry}
 use Rattle.mdb.specs.declared.request.NewExpiry.TheVariants.{Unset, At, Earliest}
 
@@ -33,3 +35,8 @@ IsNewExpiry (At time) inputs expiry = expiry ≡ Some time
 IsNewExpiry Earliest inputs expiry =
     (infos : List MDBShardInfo) × AllZip (λ p info. HasHeaderAndFooter p.1.now info) inputs infos
     × IsEarliest (map shard_expiry infos) expiry
+
+-- why the expiry of what is made of inputs is not known: it is theirs, and not all have header and
+-- footer, or memory is lacking
+abbrev pub NoNewExpiry : NewExpiry → List (Bor (List ℕ) × Bor (List ℕ)) → Failure → Type 0
+NoNewExpiry wanted inputs failure = (wanted ≡ Earliest) × NoInfos inputs failure

@@ -1,10 +1,10 @@
 //! Expiries: which shards have expired, and the earliest expiry of several.
 
-ghost use Rattle.std.specs.Prelude.{◌≡◌, map, zip, IfOk, MatchResult};
+ghost use Rattle.std.specs.Prelude.{◌≡◌, map, zip, MatchResult};
 ghost use Rattle.xet_core_structures.specs.Layout.{layout};
 ghost use Rattle.xet_core_structures.specs.Shard.{Shard};
 ghost use Rattle.xet_core_structures.specs.WrittenShard.{IsBytesWithoutExpiry};
-ghost use Rattle.mdb.specs.Expiries.{shard_expiry, earlier_of, IsEarliest, IsNewExpiry};
+ghost use Rattle.mdb.specs.Expiries.{shard_expiry, earlier_of, IsEarliest, IsNewExpiry, NoNewExpiry};
 ghost use Rattle.mdb.specs.Writing.{HasExpiry, RefusesExpiry};
 
 use crate::failure::Failure;
@@ -54,14 +54,16 @@ fn earliest_in(infos: &[MDBShardInfo]) -> Option<u64>
     found
 }
 
-/// The expiry of what is made of the shards in some inputs.
+/// The expiry of what is made of the shards in some inputs. It fails only if it is the earliest of
+/// theirs, and then if an input has no header and footer, or memory is lacking.
 pub fn new_expiry<'a>(
     alloc: Global,
     wanted: NewExpiry,
     files: &[&'a str],
     inputs: &[&[u8]],
 ) -> Result<Option<u64>, Failure<'a>>
-    ensures { IfOk result (IsNewExpiry wanted (zip files.now inputs.now)) }
+    ensures { MatchResult result (IsNewExpiry wanted (zip files.now inputs.now))
+        (NoNewExpiry wanted (zip files.now inputs.now)) }
 {
     match wanted {
         NewExpiry::Unset => Ok(None),
