@@ -6,7 +6,7 @@
 #include <stdlib.h>
 #include <string.h>
 
-enum { ROOM = 1 << 20, CALLS = 41 };
+enum { ROOM = 1 << 20, CALLS = 44 };
 
 void *__real_malloc(size_t size);
 void *__real_realloc(void *block, size_t size);
@@ -94,7 +94,7 @@ static uint32_t call(int number, size_t *count) {
     size_t differing = 0;
     const char *name = "0000000000000001000000000000000200000000000000030000000000000004.mdb";
     /* These write no count. */
-    if (number == 6 || (number > 25 && number < 30) || number > 36)
+    if (number == 6 || (number > 25 && number < 30) || number > 39)
         *count = 0;
     switch (number) {
     case 0:
@@ -185,10 +185,16 @@ static uint32_t call(int number, size_t *count) {
     case 36:
         return xet_merge_agreeing_in(twice, 2, 3, out.agreeing.bytes, ROOM, count, &differing, &out.agreeing.first);
     case 37:
-        return xet_hash_from_hex((const uint8_t *)name, 64, out.hashes);
+        return xet_export_in(second, second_length, &options, 2, out.bytes, ROOM, count);
     case 38:
-        return xet_parse_shard_name((const uint8_t *)name, 68, out.hashes);
+        return xet_minimal_in(first, first_length, 9, true, false, 2, out.bytes, ROOM, count);
     case 39:
+        return xet_subset_in(first, first_length, &times, &xorb, 1, 2, out.bytes, ROOM, count);
+    case 40:
+        return xet_hash_from_hex((const uint8_t *)name, 64, out.hashes);
+    case 41:
+        return xet_parse_shard_name((const uint8_t *)name, 68, out.hashes);
+    case 42:
         return xet_hash_bytes(&file, first, first_length, out.hashes) | xet_hmac(&file, chunks, out.hashes);
     default:
         return xet_version() == XET_VERSION_NUMBER ? xet_load(first, first_length, &out.info) : XET_OTHER;

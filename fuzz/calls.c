@@ -230,9 +230,20 @@ static uint32_t call_export(const struct input *input, void *out, size_t capacit
     return within(xet_export_room(input->shards[0].length), error, *written);
 }
 
+static uint32_t call_export_in(const struct input *input, void *out, size_t capacity, size_t *written) {
+    uint32_t error = xet_export_in(SHARD(0), &input->export, 2, out, capacity, written);
+    return within(xet_export_room(input->shards[0].length), error, *written);
+}
+
 static uint32_t call_minimal(const struct input *input, void *out, size_t capacity, size_t *written) {
     uint64_t now = input->subset.now;
     uint32_t error = xet_minimal(SHARD(0), now, input->verification, input->aux_rows, out, capacity, written);
+    return within(xet_minimal_room(input->shards[0].length), error, *written);
+}
+
+static uint32_t call_minimal_in(const struct input *input, void *out, size_t capacity, size_t *written) {
+    uint64_t now = input->subset.now;
+    uint32_t error = xet_minimal_in(SHARD(0), now, input->verification, input->aux_rows, 2, out, capacity, written);
     return within(xet_minimal_room(input->shards[0].length), error, *written);
 }
 
@@ -240,6 +251,13 @@ static uint32_t call_subset(const struct input *input, void *out, size_t capacit
     const void *xorbs = input->xorbs.bytes;
     size_t count = input->xorbs.length / sizeof(xet_hash);
     uint32_t error = xet_subset(SHARD(0), &input->subset, xorbs, count, out, capacity, written);
+    return within(xet_minimal_room(input->shards[0].length), error, *written);
+}
+
+static uint32_t call_subset_in(const struct input *input, void *out, size_t capacity, size_t *written) {
+    const void *xorbs = input->xorbs.bytes;
+    size_t count = input->xorbs.length / sizeof(xet_hash);
+    uint32_t error = xet_subset_in(SHARD(0), &input->subset, xorbs, count, 2, out, capacity, written);
     return within(xet_minimal_room(input->shards[0].length), error, *written);
 }
 
@@ -406,8 +424,11 @@ static const struct filling fillings[] = {
     {"xet_merge_agreeing_in", 1, OF_MERGING | BIT(XET_DISAGREE) | BIT(XET_MALFORMED), call_merge_agreeing_in, 2},
     {"xet_find_disagreements", sizeof(xet_disagreement), OF_SECTIONS, call_find_disagreements, 0},
     {"xet_export", 1, OF_MERGING, call_export, 3},
+    {"xet_export_in", 1, OF_MERGING, call_export_in, 2},
     {"xet_minimal", 1, OF_SECTIONS, call_minimal, 3},
+    {"xet_minimal_in", 1, OF_MERGING, call_minimal_in, 2},
     {"xet_subset", 1, OF_SECTIONS, call_subset, 3},
+    {"xet_subset_in", 1, OF_SECTIONS, call_subset_in, 2},
     {"xet_write_v2", 1, OF_MERGING, call_write_v2, 2},
     {"xet_complete", 1, OF_SECTIONS, call_complete, 3},
     {"xet_records and xet_write", 1, OF_MERGING, call_write, 3},

@@ -362,6 +362,10 @@ uint32_t xet_difference_in(const uint8_t *first, size_t first_length, const uint
 uint32_t xet_export(const uint8_t *shard, size_t length, const xet_export_options *options, uint8_t *out,
                     size_t capacity, size_t *written);
 
+/* The same in a version of the format, as xet_union_in. */
+uint32_t xet_export_in(const uint8_t *shard, size_t length, const xet_export_options *options, uint64_t version,
+                       uint8_t *out, size_t capacity, size_t *written);
+
 /* Writes the records of a shard without tables, created at `now`, in seconds, with expiry 0, and with a mark at each
  * chunk at which a file starts. So it agrees with the shard, and so does a subset of it, only if each such chunk had
  * its mark before. Files keep verification rows and auxiliary rows if these are asked for. Only the header and the
@@ -373,6 +377,12 @@ uint32_t xet_export(const uint8_t *shard, size_t length, const xet_export_option
  * XET_OUT_OF_MEMORY, XET_SHORT. */
 uint32_t xet_minimal(const uint8_t *shard, size_t length, uint64_t now, bool verification, bool aux_rows, uint8_t *out,
                      size_t capacity, size_t *written);
+
+/* The same in a version of the format, 2 or 3.
+ *
+ * XET_INVALID_ARGUMENTS: it is another version, or 2, and a file of the minimal shard has an auxiliary row. */
+uint32_t xet_minimal_in(const uint8_t *shard, size_t length, uint64_t now, bool verification, bool aux_rows,
+                        uint64_t version, uint8_t *out, size_t capacity, size_t *written);
 
 /* What a subset is to have. */
 typedef struct xet_subset_options {
@@ -390,6 +400,12 @@ typedef struct xet_subset_options {
  * XET_OUT_OF_MEMORY, XET_SHORT. */
 uint32_t xet_subset(const uint8_t *shard, size_t length, const xet_subset_options *options, const xet_hash *xorbs,
                     size_t xorb_count, uint8_t *out, size_t capacity, size_t *written);
+
+/* The same in a version of the format, 2 or 3.
+ *
+ * XET_INVALID_ARGUMENTS: it is another version. */
+uint32_t xet_subset_in(const uint8_t *shard, size_t length, const xet_subset_options *options, const xet_hash *xorbs,
+                       size_t xorb_count, uint64_t version, uint8_t *out, size_t capacity, size_t *written);
 
 /* Writes the same shard in version 2, for readers that do not know version 3: its records in their order, with its key
  * and its times, and the tables of which the footer says that they have rows.

@@ -896,6 +896,31 @@ def test_two_shards_in_version_2():
     assert text.startswith("the keys of the shards differ, or a file has a row that the version does not have"), text
 
 
+def test_other_forms_in_version_2():
+    shard = Shard()
+    shard.add_file("100", "v=365", "x=777", "200:0:5:5")
+    shard.add_xorb("10", "21:5")
+    shard = shard.written()
+    key, xorbs = hash_text("7"), [hash_text("10")]
+    forms = (
+        lambda **options: xet_shards.export(shard, key, 1000, 60, aux_rows=False, **options),
+        lambda **options: xet_shards.export(shard, key, 1000, 60, files=False, **options),
+        lambda **options: xet_shards.minimal(shard, 9, aux_rows=False, **options),
+        lambda **options: xet_shards.minimal(shard, 9, verification=True, aux_rows=False, **options),
+        lambda **options: xet_shards.subset(shard, 9, 11, xorbs, **options),
+        lambda **options: xet_shards.subset(shard, 9, **options),
+    )
+    for form in forms:
+        made = form()
+        assert made[32] == 3 and made == form(version=3)
+        assert form(version=2) == in_version_2(made)
+        refused("InvalidArguments", form, version=4)
+    refused("InvalidArguments", xet_shards.minimal, shard, 9, version=2)
+    text = str(refused("InvalidArguments", xet_shards.export, shard, key, 1000, 60, version=2))
+    assert "2^64 or more, or a file has a row that the version does not have" in text, text
+    refused("Io", xet_shards.export, shard[:199], key, 1000, 60, version=2)
+
+
 def test_concatenate_in_version_2():
     shards = [Shard() for _ in range(3)]
     for it, name in zip(shards, ("100", "101", "102")):

@@ -128,6 +128,10 @@ class MalformedError(XetError):
         return MalformedError, (self.record,)
 
 
+def _or_new_rows(version: int) -> str:
+    return "" if version == 3 else f", or {_NEW_ROWS}"
+
+
 def _check(number: int, reason: Optional[str] = None) -> None:
     """Raises the error with this number, if it is one. `reason` says what `InvalidArguments` of the call means."""
     if number:

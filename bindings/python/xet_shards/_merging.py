@@ -8,7 +8,7 @@ from ._arguments import _number, _text, _words
 from ._calls import _library
 from ._errors import (
     _DISAGREE, _INVALID_ARGUMENTS, _MALFORMED, _NEW_ROWS, _OTHER_KEYS, _SHORT, Disagreement, DisagreementError,
-    MalformedError, MalformedRecord, XetError, _check,
+    MalformedError, MalformedRecord, XetError, _check, _or_new_rows,
 )
 from ._lookups import load
 from ._memory import Buffer, WritableBuffer, _Addresses, _filled, _list, _made, _output_apart, _written_bytes
@@ -35,10 +35,6 @@ def _combined(operation: Callable[..., Any], first: Buffer, second: Buffer, vers
             lambda out, room, written: operation(*one, *other, _number(version), out, room, byref(written)),
             _OTHER_KEYS + _or_new_rows(version),
         )
-
-
-def _or_new_rows(version: int) -> str:
-    return "" if version == 3 else f", or {_NEW_ROWS}"
 
 
 def merge(

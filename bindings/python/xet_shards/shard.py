@@ -166,18 +166,22 @@ class Shard(_Mapped):
 
     def export(
         self, key: str, now: int, valid_seconds: int, files: bool = True, aux_rows: bool = True,
-        xorb_table: bool = True, chunk_table: bool = True,
+        xorb_table: bool = True, chunk_table: bool = True, version: int = 3,
     ) -> bytes:
         """Returns a keyed export."""
-        return export(self.buffer, key, now, valid_seconds, files, aux_rows, xorb_table, chunk_table)
+        return export(self.buffer, key, now, valid_seconds, files, aux_rows, xorb_table, chunk_table, version)
 
-    def minimal(self, now: int, verification: bool = False, aux_rows: bool = True) -> bytes:
+    def minimal(
+        self, now: int, verification: bool = False, aux_rows: bool = True, version: int = 3
+    ) -> bytes:
         """Returns the records without tables."""
-        return minimal(self.buffer, now, verification, aux_rows)
+        return minimal(self.buffer, now, verification, aux_rows, version)
 
-    def subset(self, now: int, expiry: Optional[int] = None, xorbs: Optional[Sequence[str]] = None) -> bytes:
+    def subset(
+        self, now: int, expiry: Optional[int] = None, xorbs: Optional[Sequence[str]] = None, version: int = 3
+    ) -> bytes:
         """Returns the xorbs with these hashes, or all, without files and tables."""
-        return subset(self.buffer, now, expiry, xorbs)
+        return subset(self.buffer, now, expiry, xorbs, version)
 
     def write_v2(self) -> bytes:
         """Returns the same shard in version 2."""

@@ -68,10 +68,17 @@ library! {
     fn xet_difference(first: &[u8], second: &[u8], out: &mut [u8], written: &mut usize) -> u32;
     fn xet_difference_in(first: &[u8], second: &[u8], version: u64, out: &mut [u8], written: &mut usize) -> u32;
     fn xet_export(shard: &[u8], options: &Export, out: &mut [u8], written: &mut usize) -> u32;
+    fn xet_export_in(shard: &[u8], options: &Export, version: u64, out: &mut [u8], written: &mut usize) -> u32;
     fn xet_minimal(
         shard: &[u8], now: u64, verification: bool, aux_rows: bool, out: &mut [u8], written: &mut usize,
     ) -> u32;
+    fn xet_minimal_in(
+        shard: &[u8], now: u64, verification: bool, aux_rows: bool, version: u64, out: &mut [u8], written: &mut usize,
+    ) -> u32;
     fn xet_subset(shard: &[u8], options: &Subset, xorbs: &[Hash], out: &mut [u8], written: &mut usize) -> u32;
+    fn xet_subset_in(
+        shard: &[u8], options: &Subset, xorbs: &[Hash], version: u64, out: &mut [u8], written: &mut usize,
+    ) -> u32;
     fn xet_write_v2(shard: &[u8], out: &mut [u8], written: &mut usize) -> u32;
     fn xet_complete(shard: &[u8], key: &Hash, out: &mut [u8], written: &mut usize) -> u32;
     fn xet_query_chunks(shard: &[u8], hashes: &[Hash], count: &mut usize, run: &mut Segment) -> u32;

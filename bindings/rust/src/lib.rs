@@ -49,7 +49,9 @@ pub use parts::{file_in, find_places, find_rows, xorb_in, ChunkPlace};
 pub use records::{records, write_records, write_records_in, Records, WITH_AUX, WITH_SHA256, WITH_VERIFICATION};
 pub use threads::{merge_agreeing_in_threads, merge_in_threads};
 pub use walk::{file_at, files, xorb_at, xorbs, Chunk, FileIter, ListedFile, Xorb, XorbIter};
-pub use write::{complete, export, minimal, subset, write_v2, Export, Minimal, Subset, Xorbs};
+pub use write::{
+    complete, export, export_in, minimal, minimal_in, subset, subset_in, write_v2, Export, Minimal, Subset, Xorbs,
+};
 
 /// The version of the library that is linked: 10000 times the first of its three numbers, 100 times the second, and the
 /// third.

@@ -94,6 +94,28 @@ pub fn export(shard: &[u8], options: &Export) -> Result<Vec<u8>> {
     bytes_of(shard.len(), |out, written| calls::xet_export(shard, options, out, written))
 }
 
+/// What [`export`] makes, in a version of the format, 2 or 3.
+///
+/// # Errors
+///
+/// Those of [`export`]; `InvalidArguments` also if it is another version, or 2, and a file of the export has an
+/// auxiliary row.
+///
+/// ```
+/// use xet_shards::Export;
+///
+/// # fn main() -> Result<(), Box<dyn std::error::Error>> {
+/// let shard = std::fs::read("examples/a.mdb")?;
+/// let options = Export::new([7, 1, 0, 0].into(), 1_700_000_000, 3600);
+/// let exported = xet_shards::export(&shard, &options)?;
+/// assert_eq!(xet_shards::export_in(&shard, &options, 2)?, xet_shards::write_v2(&exported)?);
+/// # Ok(())
+/// # }
+/// ```
+pub fn export_in(shard: &[u8], options: &Export, version: u64) -> Result<Vec<u8>> {
+    bytes_of(shard.len(), |out, written| calls::xet_export_in(shard, options, version, out, written))
+}
+
 /// The records of the shard without tables, with expiry 0, and with a mark at each chunk at which a file starts.
 ///
 /// # Errors
@@ -120,6 +142,31 @@ pub fn minimal(shard: &[u8], options: &Minimal) -> Result<Vec<u8>> {
     bytes_of(shard.len(), |out, written| calls::xet_minimal(shard, now, verification, aux_rows, out, written))
 }
 
+/// What [`minimal`] makes, in a version of the format, 2 or 3.
+///
+/// # Errors
+///
+/// Those of [`minimal`]; `InvalidArguments` if it is another version, or 2, and a file of the minimal shard has an
+/// auxiliary row.
+///
+/// ```
+/// use xet_shards::Minimal;
+///
+/// # fn main() -> Result<(), Box<dyn std::error::Error>> {
+/// let shard = std::fs::read("examples/a.mdb")?;
+/// let options = Minimal { now: 1_700_000_000, verification: false, aux_rows: false };
+/// let minimal = xet_shards::minimal(&shard, &options)?;
+/// assert_eq!(xet_shards::minimal_in(&shard, &options, 2)?, xet_shards::write_v2(&minimal)?);
+/// # Ok(())
+/// # }
+/// ```
+pub fn minimal_in(shard: &[u8], options: &Minimal, version: u64) -> Result<Vec<u8>> {
+    let Minimal { now, verification, aux_rows } = *options;
+    bytes_of(shard.len(), |out, written| {
+        calls::xet_minimal_in(shard, now, verification, aux_rows, version, out, written)
+    })
+}
+
 /// Xorbs of the shard, without files and tables, and with a mark at each chunk at which a file starts.
 ///
 /// # Errors
@@ -141,12 +188,39 @@ pub fn minimal(shard: &[u8], options: &Minimal) -> Result<Vec<u8>> {
 /// # }
 /// ```
 pub fn subset(shard: &[u8], options: &Subset<'_>) -> Result<Vec<u8>> {
+    let (times, listed) = asked_for(options);
+    bytes_of(shard.len(), |out, written| calls::xet_subset(shard, &times, listed, out, written))
+}
+
+/// What [`subset`] makes, in a version of the format, 2 or 3.
+///
+/// # Errors
+///
+/// Those of [`subset`]; `InvalidArguments` if it is another version.
+///
+/// ```
+/// use xet_shards::{Subset, Xorbs};
+///
+/// # fn main() -> Result<(), Box<dyn std::error::Error>> {
+/// let shard = std::fs::read("examples/a.mdb")?;
+/// let options = Subset { now: 1_700_000_000, expiry: None, xorbs: Xorbs::All };
+/// let subset = xet_shards::subset(&shard, &options)?;
+/// assert_eq!(xet_shards::subset_in(&shard, &options, 2)?, xet_shards::write_v2(&subset)?);
+/// # Ok(())
+/// # }
+/// ```
+pub fn subset_in(shard: &[u8], options: &Subset<'_>, version: u64) -> Result<Vec<u8>> {
+    let (times, listed) = asked_for(options);
+    bytes_of(shard.len(), |out, written| calls::xet_subset_in(shard, &times, listed, version, out, written))
+}
+
+/// What the library is asked for by these options.
+fn asked_for<'a>(options: &Subset<'a>) -> (calls::Subset, &'a [Hash]) {
     let (all, listed) = match options.xorbs {
         Xorbs::All => (true, &[][..]),
         Xorbs::Listed(listed) => (false, listed),
     };
-    let times = calls::Subset { now: options.now, expiry: options.expiry.unwrap_or(0), all };
-    bytes_of(shard.len(), |out, written| calls::xet_subset(shard, &times, listed, out, written))
+    (calls::Subset { now: options.now, expiry: options.expiry.unwrap_or(0), all }, listed)
 }
 
 /// The same shard in version 2, for readers that do not know version 3: its records in their order, with its key and

@@ -7,8 +7,8 @@ use std::error::Error as _;
 use std::slice::from_ref;
 use std::thread;
 use xet_shards::{
-    Disagreement, Error, Export, File, Finding, Hash, ListedFile, MalformedRecord, Minimal, Part, RecordHash, Xorb,
-    NO_EXPIRY, NO_KEY,
+    Disagreement, Error, Export, File, Finding, Hash, ListedFile, MalformedRecord, Minimal, Part, RecordHash, Subset,
+    Xorb, Xorbs, NO_EXPIRY, NO_KEY,
 };
 
 /// The bytes of a shard of `file` and `xorb` lines.
@@ -202,6 +202,7 @@ fn version_2_without_auxiliary_rows() {
     assert_eq!(xet_shards::difference_in(&shard_of(&[]), &new, 2).as_ref(), Ok(&old));
     assert_eq!(xet_shards::concatenate_in(&[&new], 2).as_ref(), Ok(&old));
     assert_eq!(xet_shards::concatenate_in(&[&old], 3).as_ref(), Ok(&new));
+    other_forms_in_version_2(&new);
     shard.add_file(&["101", "x=777", "200:0:5:5"]);
     assert_eq!(xet_shards::write_v2(&shard.written(7, 3)), Err(Error::InvalidArguments));
     let aux = shard.written(NO_EXPIRY, 3);
@@ -210,6 +211,48 @@ fn version_2_without_auxiliary_rows() {
         assert_eq!(xet_shards::union_in(shard, &new, version), Err(Error::InvalidArguments));
         assert_eq!(xet_shards::difference_in(&new, shard, version), Err(Error::InvalidArguments));
         assert_eq!(xet_shards::concatenate_in(&[shard], version), Err(Error::InvalidArguments));
+        assert_eq!(xet_shards::export_in(shard, &EXPORT, version), Err(Error::InvalidArguments));
+        assert_eq!(xet_shards::minimal_in(shard, &MINIMAL, version), Err(Error::InvalidArguments));
+    }
+    assert_eq!(xet_shards::subset_in(&new, &SUBSET, 4), Err(Error::InvalidArguments));
+    other_forms_in_version_2(&old);
+    let verified = Minimal { verification: true, ..MINIMAL };
+    assert_eq!(xet_shards::minimal_in(&aux, &verified, 2), Err(Error::Io));
+    let plain = Minimal { aux_rows: false, ..MINIMAL };
+    for shard in [&old, &aux] {
+        let minimal = xet_shards::minimal(shard, &plain).expect("it is a shard");
+        assert_eq!(xet_shards::minimal_in(shard, &plain, 2), Ok(in_version_2(&minimal)));
+        let subset = xet_shards::subset(shard, &SUBSET).expect("it is a shard");
+        assert_eq!(xet_shards::subset_in(shard, &SUBSET, 2), Ok(in_version_2(&subset)));
+    }
+}
+
+const EXPORT: Export = Export {
+    key: Hash([7, 1, 0, 0]),
+    now: 1000,
+    valid_seconds: 60,
+    files: true,
+    aux_rows: true,
+    xorb_table: true,
+    chunk_table: true,
+};
+const MINIMAL: Minimal = Minimal { now: 9, verification: false, aux_rows: true };
+const SUBSET: Subset<'_> = Subset { now: 9, expiry: Some(11), xorbs: Xorbs::All };
+
+fn in_version_2(shard: &[u8]) -> Vec<u8> {
+    let mut bytes = shard.to_vec();
+    bytes[32] = 2;
+    bytes
+}
+
+fn other_forms_in_version_2(shard: &[u8]) {
+    let exported = xet_shards::export(shard, &EXPORT).expect("it is a shard");
+    let minimal = xet_shards::minimal(shard, &MINIMAL).expect("it is a shard");
+    let subset = xet_shards::subset(shard, &SUBSET).expect("it is a shard");
+    for (version, form) in [(2, in_version_2 as fn(&[u8]) -> Vec<u8>), (3, <[u8]>::to_vec)] {
+        assert_eq!(xet_shards::export_in(shard, &EXPORT, version), Ok(form(&exported)));
+        assert_eq!(xet_shards::minimal_in(shard, &MINIMAL, version), Ok(form(&minimal)));
+        assert_eq!(xet_shards::subset_in(shard, &SUBSET, version), Ok(form(&subset)));
     }
 }
 

@@ -4,14 +4,17 @@ ghost use Rattle.std.specs.Prelude.{◌≡◌, ◌⊎◌, length, MatchResult, I
 ghost use Rattle.shard_bytes.specs.Minimal.{RefusesMinimal};
 ghost use Rattle.shard_bytes.specs.Outcomes.{InMemory};
 ghost use Rattle.shard_bytes.specs.Sizes.{IsMinimalSize};
+ghost use Rattle.shard_bytes.specs.Versions.{LaidOutIn};
 ghost use Rattle.xet_c.specs.Arguments.{KeepsXorbs, WritesSubset};
 ghost use Rattle.xet_c.specs.Output.{Outcome};
+ghost use Rattle.xet_c.specs.Versions.{InNumber, NotInNumber};
 
 use crate::hash::{XetHash, hashes_of};
 use crate::output::deliver;
-use shard_bytes::minimal::{KeptXorbs, Subset, subset_bytes};
+use shard_bytes::minimal::{KeptXorbs, Subset, subset_bytes_in};
 use std::alloc::Global;
 use xet_core_structures::error::{CoreError, Result};
+use xet_core_structures::set_operations::FormatVersion;
 
 /// The times of a subset in seconds, where an expiry of 0 means none, and whether it has all xorbs
 /// or only those that are listed.
@@ -37,13 +40,60 @@ pub extern "C" fn xet_subset(
         (InMemory (RefusesMinimal shard.now)) out.old out.new written.new result }
     ensures size { IsMinimalSize shard.now written.new }
 {
-    let subset = subset(alloc, shard, options, xorbs);
+    let subset = subset(alloc, shard, options, xorbs, FormatVersion::V3);
     deliver(subset, out, written)
 }
 
-fn subset(alloc: Global, shard: &[u8], options: &XetSubset, xorbs: &[XetHash]) -> Result<Vec<u8>>
+/// The same in a version of the format, by its number.
+#[unsafe(no_mangle)]
+pub extern "C" fn xet_subset_in(
+    alloc: Global,
+    shard: &[u8],
+    options: &XetSubset,
+    xorbs: &[XetHash],
+    version: u64,
+    out: &mut [u8],
+    written: &mut usize,
+) -> u32
+    ensures subset { Outcome
+        (InNumber version
+        (λ v. LaidOutIn v (WritesSubset options.entry.now xorbs.now shard.now)))
+        (NotInNumber version (λ v. InMemory (RefusesMinimal shard.now))) out.old out.new
+        written.new result }
+    ensures size { IsMinimalSize shard.now written.new }
+{
+    let subset = subset_in(alloc, shard, options, xorbs, version);
+    deliver(subset, out, written)
+}
+
+fn subset_in(
+    alloc: Global,
+    shard: &[u8],
+    options: &XetSubset,
+    xorbs: &[XetHash],
+    version: u64,
+) -> Result<Vec<u8>>
     ensures subset { MatchResult result
-        (λ bytes. WritesSubset options.entry.now xorbs.now shard.now bytes.items)
+        (λ bytes. InNumber version
+        (λ v. LaidOutIn v (WritesSubset options.entry.now xorbs.now shard.now)) bytes.items)
+        (NotInNumber version (λ v. InMemory (RefusesMinimal shard.now))) }
+    ensures size { IfOk result (λ bytes. IsMinimalSize shard.now (length bytes.items)) }
+{
+    match FormatVersion::of_number(version) {
+        Some(version) => subset(alloc, shard, options, xorbs, version),
+        None => Err(CoreError::InvalidArguments),
+    }
+}
+
+fn subset(
+    alloc: Global,
+    shard: &[u8],
+    options: &XetSubset,
+    xorbs: &[XetHash],
+    version: FormatVersion,
+) -> Result<Vec<u8>>
+    ensures subset { MatchResult result
+        (λ bytes. LaidOutIn version (WritesSubset options.entry.now xorbs.now shard.now) bytes.items)
         (InMemory (RefusesMinimal shard.now)) }
     ensures size { IfOk result (λ bytes. IsMinimalSize shard.now (length bytes.items)) }
 {
@@ -52,7 +102,7 @@ fn subset(alloc: Global, shard: &[u8], options: &XetSubset, xorbs: &[XetHash]) -
         expiry: Some(options.expiry),
         kept: kept_xorbs(alloc, options.all, xorbs)?,
     };
-    subset_bytes(alloc, shard, &subset)
+    subset_bytes_in(alloc, shard, &subset, version)
 }
 
 fn kept_xorbs(alloc: Global, all: bool, listed: &[XetHash]) -> Result<KeptXorbs>
