@@ -48,7 +48,7 @@ pub fn combine_failure<'a>(
 
 /// Why a union or a difference in the version of a target failed: the version lacks a file, or else as
 /// [`combine_failure`] says.
-pub fn blamed_in<'a>(
+pub fn combine_failure_in<'a>(
     alloc: Global,
     files: &[&'a str],
     inputs: &[&[u8]],

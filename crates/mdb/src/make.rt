@@ -7,7 +7,7 @@ use crate::beside::leftovers;
 use crate::expiry::{new_expiry, with_expiry_if_any};
 use crate::failure::Failure;
 use crate::files::{Contents, STANDARD_STREAM, read_shard, write};
-use crate::input_failure::blamed_in;
+use crate::input_failure::combine_failure_in;
 use crate::record_lines::shard_of_lines;
 use crate::record_removal::remove_records;
 use crate::request::{MakeCommand, NewExpiry, Target};
@@ -39,8 +39,8 @@ pub fn make<'a, R: Files + Input + Print + Eprint + RandomSource + AllocGlobal +
     put(rt, target.path, bytes.as_slice())
 }
 
-// The bytes of a shard in the version of a target, from those in version 3. For exports, minimal
-// shards and subsets, since the library writes these in version 3 alone.
+// The bytes of a shard in the version of a target, from those in version 3. Exports, minimal shards
+// and subsets are made so.
 fn in_version<'a>(alloc: Global, bytes: Vec<u8>, target: Target<'a>) -> Result<Vec<u8>, Failure<'a>>
     ensures { MatchResult result
         (λ out. IsInVersion target.entry.version bytes.items out.items)
@@ -219,6 +219,6 @@ fn combine_files<'a, R: Files + Input + AllocGlobal>(
     let inputs = [one.as_slice(), other.as_slice()];
     match combine_bytes_in(alloc, operation, inputs[0], inputs[1], target.version) {
         Ok(bytes) => Ok(bytes),
-        Err(error) => Err(blamed_in(alloc, &[first, second], &inputs, target, error)),
+        Err(error) => Err(combine_failure_in(alloc, &[first, second], &inputs, target, error)),
     }
 }

@@ -15,8 +15,8 @@ use crate::files::{Contents, STANDARD_STREAM, is_worth_reading, open_sized, read
 use crate::free_memory::free_memory;
 use crate::infos::{infos_of, keys_in};
 use crate::input_failure::{
-    blamed_in, disagreement, disagreement_under, failure_on_all, failure_on_malformed, lacks_files,
-    malformed_failure,
+    combine_failure_in, disagreement, disagreement_under, failure_on_all, failure_on_malformed,
+    lacks_files, malformed_failure,
 };
 use crate::make::{contents_of, put};
 use crate::progress::{Progress, Stage};
@@ -311,7 +311,7 @@ fn unite_agreeing<'a>(
             Err(disagreement_under(files, &found[0], found.len()))
         }
         Ok(AgreeingMerge::Malformed(malformed)) => Err(failure_on_malformed(files, &malformed)),
-        Err(error) => Err(blamed_in(alloc, files, inputs, target, error)),
+        Err(error) => Err(combine_failure_in(alloc, files, inputs, target, error)),
     }
 }
 
@@ -340,7 +340,7 @@ fn unite_leniently<'a, R: Eprint + AllocGlobal>(
             if lacks_files(alloc, inputs, target.version, &error) {
                 report_findings(rt, &oddity, &choice, progress);
             }
-            Err(blamed_in(alloc, files, inputs, target, error))
+            Err(combine_failure_in(alloc, files, inputs, target, error))
         }
     }
 }

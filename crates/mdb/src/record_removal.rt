@@ -2,7 +2,7 @@
 
 use crate::expiry::{new_expiry, with_expiry_if_any};
 use crate::failure::Failure;
-use crate::input_failure::{blamed_in, combine_failure};
+use crate::input_failure::{combine_failure, combine_failure_in};
 use crate::make::bytes_in_file;
 use crate::request::{Removal, Target};
 use crate::rounds::block::{put_bookend, put_footer};
@@ -49,7 +49,7 @@ pub fn remove_records<'a, R: Files + Input + Eprint + AllocGlobal>(
             Ok(rest) => Ok(rest),
             Err(_) => Err(Failure::on_file(file, Fault::OutOfMemory)),
         },
-        Err(error) => Err(blamed_in(alloc, &[file], &[bytes], target, error)),
+        Err(error) => Err(combine_failure_in(alloc, &[file], &[bytes], target, error)),
     }
 }
 

@@ -9,4 +9,4 @@ returns-in_err-choice g c =
     rw (p.1, p.2) (c.in_err-choice.ensures.0, inl c.in_err-choice.ensures.1, c.in_err-choice.ensures.2)
 
 pub returns : goal.returns
-returns g c = (c.in-Err.error, inr c.in-Err.ensures.any_bytes, c.blamed_in.ensures)
+returns g c = (c.in-Err.error, inr c.in-Err.ensures.any_bytes, c.combine_failure_in.ensures)
