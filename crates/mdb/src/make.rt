@@ -1,7 +1,11 @@
 //! The commands that write a shard.
 
-ghost use Rattle.std.specs.Prelude.{MatchResult};
-ghost use Rattle.mdb.specs.Writing.{IsInVersion, RefusesVersion};
+ghost use Rattle.std.specs.Prelude.{◌≡◌, MatchResult};
+ghost use Rattle.xet_core_structures.specs.declared.error.CoreError.{CoreError};
+ghost use Rattle.shard_bytes.specs.Exporting.{ExportsBytes, RefusesExport};
+ghost use Rattle.shard_bytes.specs.Minimal.{MinimalBytes, RefusesMinimalBytes};
+ghost use Rattle.shard_bytes.specs.Versions.{LaidOutIn, NotLaidOutIn};
+ghost use Rattle.mdb_report.specs.Faults.{IsExportFault, IsMinimalFault};
 
 use crate::beside::leftovers;
 use crate::expiry::{new_expiry, with_expiry_if_any};
@@ -11,18 +15,18 @@ use crate::input_failure::combine_failure_in;
 use crate::record_lines::shard_of_lines;
 use crate::record_removal::remove_records;
 use crate::request::{MakeCommand, NewExpiry, Target};
-use mdb_report::fault::{Fault, export_fault, fault_of, minimal_fault, version_2_fault};
+use mdb_report::fault::{Fault, export_fault, fault_of, minimal_fault};
 use shard_bytes::combine::{Operation, combine_bytes_in};
-use shard_bytes::export::{Export, export_bytes};
-use shard_bytes::minimal::{KeptXorbs, Subset, hashes_without_xorb, minimal_bytes, subset_bytes};
-use shard_bytes::version::version_2_bytes;
+use shard_bytes::export::{Export, export_bytes_in};
+use shard_bytes::minimal::{
+    KeptXorbs, Subset, hashes_without_xorb, minimal_bytes_in, subset_bytes_in,
+};
 use std::alloc::Global;
 use std::fs;
 use std::random::RandomSource;
 use std::rt::Files;
 use xet_core_structures::file_structs::KeptParts;
 use xet_core_structures::merklehash::MerkleHash;
-use xet_records::record_reader::FormatVersion;
 
 /// Writes the shard that a command makes to a target. Reports on standard error what runs that were
 /// ended have left there. Standard output is a terminal or not.
@@ -37,25 +41,6 @@ pub fn make<'a, R: Files + Input + Print + Eprint + RandomSource + AllocGlobal +
     }
     let bytes = make_bytes(rt, making, target)?;
     put(rt, target.path, bytes.as_slice())
-}
-
-// The bytes of a shard in the version of a target, from those in version 3. Exports, minimal shards
-// and subsets are made so.
-fn in_version<'a>(alloc: Global, bytes: Vec<u8>, target: Target<'a>) -> Result<Vec<u8>, Failure<'a>>
-    ensures { MatchResult result
-        (λ out. IsInVersion target.entry.version bytes.items out.items)
-        (λ failure. RefusesVersion target.entry.version bytes.items failure.fault) }
-{
-    match target.version {
-        FormatVersion::V3 => Ok(bytes),
-        FormatVersion::V2 => match version_2_bytes(alloc, bytes.as_slice()) {
-            Ok(bytes) => Ok(bytes),
-            Err(error) => {
-                let fault = version_2_fault(alloc, bytes.as_slice(), error);
-                Err(Failure::on_target(target.path, fault))
-            }
-        },
-    }
 }
 
 /// Writes bytes to a path, or to standard output, and reports what is left there.
@@ -97,17 +82,16 @@ fn make_bytes<'a, R: Files + Input + Eprint + AllocGlobal>(
     making: &MakeCommand<'a>,
     target: Target<'a>,
 ) -> Result<Vec<u8>, Failure<'a>> {
-    let bytes = match making {
+    match making {
         MakeCommand::Combine(operation, first, second) => {
-            return combine_files(rt, *operation, first, second, target);
+            combine_files(rt, *operation, first, second, target)
         }
-        MakeCommand::Drop(removal) => return remove_records(rt, removal, target),
-        MakeCommand::Records(list, expiry) => return shard_of_lines(rt, list, *expiry, target),
-        MakeCommand::Export(file, export) => export_file(rt, file, export)?,
-        MakeCommand::Minimal(file, now, kept) => minimal(rt, file, *now, *kept)?,
-        MakeCommand::Subset(file, kept, _, expiry) => subset(rt, file, kept, *expiry)?,
-    };
-    in_version(rt.alloc(), bytes, target)
+        MakeCommand::Drop(removal) => remove_records(rt, removal, target),
+        MakeCommand::Records(list, expiry) => shard_of_lines(rt, list, *expiry, target),
+        MakeCommand::Export(file, export) => export_file(rt, file, export, target),
+        MakeCommand::Minimal(file, now, kept) => minimal(rt, file, *now, *kept, target),
+        MakeCommand::Subset(file, kept, _, expiry) => subset(rt, file, kept, *expiry, target),
+    }
 }
 
 /// What is read of the shard in a file, or in standard input if it is `-`.
@@ -133,15 +117,43 @@ fn export_file<'a, R: Files + Input + AllocGlobal>(
     rt: &R,
     file: &'a str,
     export: &Export,
+    target: Target<'a>,
 ) -> Result<Vec<u8>, Failure<'a>> {
-    let alloc = rt.alloc();
     let bytes = bytes_in_file(rt, file)?;
-    match export_bytes(alloc, bytes.as_slice(), export) {
-        Ok(exported) => Ok(exported),
+    exported(rt.alloc(), file, bytes.as_slice(), export, target)
+}
+
+// The bytes of an export, in the version of a target, of the shard of which a file has these bytes.
+fn exported<'a>(
+    alloc: Global,
+    file: &'a str,
+    bytes: &[u8],
+    export: &Export,
+    target: Target<'a>,
+) -> Result<Vec<u8>, Failure<'a>>
+    ensures { MatchResult result
+        (λ out. LaidOutIn target.entry.version (ExportsBytes export.entry.now bytes.now) out.items)
+        (λ failure. (e : CoreError)
+        × NotLaidOutIn target.entry.version (ExportsBytes export.entry.now bytes.now)
+        (RefusesExport export.entry.now bytes.now) e
+        × IsExportFault export.entry.now bytes.now e failure.fault) }
+{
+    match export_bytes_in(alloc, bytes, export, target.version) {
+        Ok(out) => Ok(out),
         Err(error) => {
-            let fault = export_fault(alloc, bytes.as_slice(), error);
-            Err(Failure::on_file(file, fault))
+            let fault = export_fault(alloc, bytes, export, error);
+            Err(failure(file, target, fault))
         }
+    }
+}
+
+// The failure of a command by a fault of a file, or of what is to be written.
+fn failure<'a>(file: &'a str, target: Target<'a>, fault: Fault) -> Failure<'a>
+    ensures { result.fault ≡ fault }
+{
+    match fault {
+        Fault::HasAuxRow => Failure::on_target(target.path, fault),
+        fault => Failure::on_file(file, fault),
     }
 }
 
@@ -150,14 +162,34 @@ fn minimal<'a, R: Files + Input + AllocGlobal>(
     file: &'a str,
     now: u64,
     kept: KeptParts,
+    target: Target<'a>,
 ) -> Result<Vec<u8>, Failure<'a>> {
-    let alloc = rt.alloc();
     let bytes = bytes_in_file(rt, file)?;
-    match minimal_bytes(alloc, bytes.as_slice(), now, kept) {
-        Ok(minimal) => Ok(minimal),
+    minimal_of(rt.alloc(), file, bytes.as_slice(), now, kept, target)
+}
+
+// The bytes of a minimal shard, in the version of a target, of the shard of which a file has these
+// bytes.
+fn minimal_of<'a>(
+    alloc: Global,
+    file: &'a str,
+    bytes: &[u8],
+    now: u64,
+    kept: KeptParts,
+    target: Target<'a>,
+) -> Result<Vec<u8>, Failure<'a>>
+    ensures { MatchResult result
+        (λ out. LaidOutIn target.entry.version (MinimalBytes kept now bytes.now) out.items)
+        (λ failure. (e : CoreError)
+        × NotLaidOutIn target.entry.version (MinimalBytes kept now bytes.now)
+        (RefusesMinimalBytes kept bytes.now) e
+        × IsMinimalFault kept bytes.now e failure.fault) }
+{
+    match minimal_bytes_in(alloc, bytes, now, kept, target.version) {
+        Ok(out) => Ok(out),
         Err(error) => {
-            let fault = minimal_fault(alloc, bytes.as_slice(), kept, error);
-            Err(Failure::on_file(file, fault))
+            let fault = minimal_fault(alloc, bytes, kept, error);
+            Err(failure(file, target, fault))
         }
     }
 }
@@ -167,6 +199,7 @@ fn subset<'a, R: Files + Input + Eprint + AllocGlobal>(
     file: &'a str,
     kept: &Subset,
     expiry: NewExpiry,
+    target: Target<'a>,
 ) -> Result<Vec<u8>, Failure<'a>> {
     let alloc = rt.alloc();
     let bytes = bytes_in_file(rt, file)?;
@@ -174,7 +207,7 @@ fn subset<'a, R: Files + Input + Eprint + AllocGlobal>(
         report_missing_xorb(rt, file, bytes.as_slice(), hashes.as_slice())?;
     }
     let bytes = bytes.as_slice();
-    let subset = match subset_bytes(alloc, bytes, kept) {
+    let subset = match subset_bytes_in(alloc, bytes, kept, target.version) {
         Ok(subset) => subset,
         Err(error) => return Err(Failure::on_file(file, fault_of(alloc, bytes, error))),
     };

@@ -1,15 +1,18 @@
 -- The fault that is reported for an error.
-use Rattle.std.specs.Prelude.{◌≡◌, ◌≢◌, ⊤, ℕ, List}
+use Rattle.std.specs.Prelude.{◌≡◌, ◌≢◌, ⊤, true, ℕ, List}
 use Rattle.xet_core_structures.specs.declared.error.CoreError.{CoreError}
-use Rattle.xet_core_structures.specs.declared.error.CoreError.TheVariants.{TruncatedHashCollision}
+use Rattle.xet_core_structures.specs.declared.error.CoreError.TheVariants.{InvalidArguments, TruncatedHashCollision}
 use Rattle.xet_core_structures.specs.declared.shard_format.MDBShardInfo.{MDBShardInfo}
+use Rattle.xet_core_structures.specs.declared.file_structs.KeptParts.{KeptParts}
 use Rattle.xet_core_structures.specs.Ends.{HasHeaderAndFooter}
+use Rattle.xet_core_structures.specs.KeyedExport.{ExpiresTooLate}
 use Rattle.xet_core_structures.specs.KeyedHash.{no_key}
+use Rattle.shard_bytes.specs.declared.export.Export.{Export}
 use Rattle.shard_bytes.specs.declared.check.Finding.{Finding}
 use Rattle.shard_bytes.specs.declared.check.Finding.TheVariants.{Malformed, Differs, Reordered, Size}
 use Rattle.shard_bytes.specs.Checking.{IsFinding}
 use Rattle.mdb_report.specs.declared.fault.Fault.{Fault}
-use Rattle.mdb_report.specs.declared.fault.Fault.TheVariants.{OutOfMemory, Bytes, Collision, Other}
+use Rattle.mdb_report.specs.declared.fault.Fault.TheVariants.{OutOfMemory, Bytes, Collision, Other, HasKey, LateExpiry, HasAuxRow, NoVerification}
 
 -- a finding may be the cause of an error: it is more than a record that no shard may have, or another
 -- order of rows, over which calls pass
@@ -50,3 +53,21 @@ IsUnderKey bytes =
 abbrev pub IsUnderNoKey : List ℕ → Type 0
 IsUnderNoKey bytes =
     (info : MDBShardInfo) × HasHeaderAndFooter bytes info × (info.metadata.chunk_hash_hmac_key ≡ no_key)
+
+-- the fault of an export that is refused: the key that the shard has, or an expiry that is too late,
+-- or an auxiliary row that the version does not have, or that of any other error
+abbrev pub IsExportFault : Export → List ℕ → CoreError → Fault → Type 0
+IsExportFault export bytes error HasKey = (error ≡ InvalidArguments) × IsUnderKey bytes
+IsExportFault export bytes error LateExpiry =
+    (error ≡ InvalidArguments) × IsUnderNoKey bytes × ExpiresTooLate export.now export.valid_seconds
+IsExportFault export bytes error HasAuxRow =
+    (error ≡ InvalidArguments) × IsUnderNoKey bytes × (¬ ExpiresTooLate export.now export.valid_seconds)
+IsExportFault export bytes error fault = IsFaultOf bytes error fault
+
+-- the fault of a minimal shard that is refused: a file without verification rows, which are to be
+-- kept, or an auxiliary row that the version does not have, or that of any other error
+abbrev pub IsMinimalFault : KeptParts → List ℕ → CoreError → Fault → Type 0
+IsMinimalFault kept bytes error NoVerification =
+    (error ≢ InvalidArguments) × (kept.verification ≡ true)
+IsMinimalFault kept bytes error HasAuxRow = error ≡ InvalidArguments
+IsMinimalFault kept bytes error fault = (error ≢ InvalidArguments) × IsFaultOf bytes error fault

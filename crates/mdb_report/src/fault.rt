@@ -1,13 +1,15 @@
 //! Why a command failed, in words.
 
 ghost use Rattle.std.specs.Prelude.{◌≡◌, ◌≢◌, ◌⊎◌, ◌↔◌, ℕ, All, Contains, IsTrue, MatchOption, MatchResult};
+ghost use Rattle.xet_core_structures.specs.KeyedExport.{ExpiresTooLate};
 ghost use Rattle.shard_bytes.specs.Checking.{IsFinding};
-ghost use Rattle.mdb_report.specs.Faults.{IsFaultOf, MayBeCause, KeepsFrom, IsBlocking, IsUnderKey, IsUnderNoKey};
+ghost use Rattle.mdb_report.specs.Faults.{IsFaultOf, MayBeCause, KeepsFrom, IsBlocking, IsUnderKey, IsUnderNoKey, IsExportFault, IsMinimalFault};
 
 use crate::file_finding::InWords;
 use crate::record_line::LineFault;
 use crate::tables::Table;
 use shard_bytes::check::{Finding, Part, Section, check_bytes};
+use shard_bytes::export::Export;
 use shard_bytes::load::load_bytes;
 use std::alloc::{AllocError, AllocFailed, Global};
 use std::{fmt, io};
@@ -325,61 +327,50 @@ pub fn has_wrong_footer(alloc: Global, bytes: &[u8]) -> Result<bool, Fault>
 }
 
 /// The fault behind an error of an export: of one that is refused for its arguments, the key that
-/// the shard has, or else the expiry.
-pub fn export_fault(alloc: Global, bytes: &[u8], error: CoreError) -> Fault
-    ensures is { (result ≡ Fault.HasKey) ⊎ (result ≡ Fault.LateExpiry)
-        ⊎ IsFaultOf bytes.now error result }
-    ensures key { result ≡ Fault.HasKey
-        → (error ≡ CoreError.InvalidArguments) × IsUnderKey bytes.now }
-    ensures expiry { result ≡ Fault.LateExpiry
-        → (error ≡ CoreError.InvalidArguments) × IsUnderNoKey bytes.now }
+/// the shard has, or else the expiry if it is too late, or else the auxiliary row of a file, which
+/// the version does not have.
+pub fn export_fault(alloc: Global, bytes: &[u8], export: &Export, error: CoreError) -> Fault
+    ensures { IsExportFault export.entry.now bytes.now error result }
 {
     match error {
-        CoreError::InvalidArguments => refused_export(alloc, bytes),
+        CoreError::InvalidArguments => refused_export(alloc, bytes, export),
         error => fault_of(alloc, bytes, error),
     }
 }
 
 // The fault of a shard that is not exported with the arguments that were given.
-fn refused_export(alloc: Global, bytes: &[u8]) -> Fault
-    ensures { ((result ≡ Fault.HasKey) × IsUnderKey bytes.now)
-        ⊎ ((result ≡ Fault.LateExpiry) × IsUnderNoKey bytes.now)
-        ⊎ (result ≡ Fault.OutOfMemory) }
+fn refused_export(alloc: Global, bytes: &[u8], export: &Export) -> Fault
+    ensures { IsExportFault export.entry.now bytes.now CoreError.InvalidArguments result }
 {
     match load_bytes(alloc, bytes) {
         Ok(info) if info.chunk_hashes_protected() => Fault::HasKey,
-        Ok(_) => Fault::LateExpiry,
+        Ok(_) if u64::MAX - export.now < export.valid_seconds => Fault::LateExpiry,
+        Ok(_) => Fault::HasAuxRow,
         // They were loaded before, so only memory is lacking.
         Err(_) => Fault::OutOfMemory,
     }
 }
 
-/// The fault behind an error of a minimal shard.
+/// The fault behind an error of a minimal shard: of one that is refused for its arguments, the
+/// auxiliary row of a file, which the version does not have.
 pub fn minimal_fault(alloc: Global, bytes: &[u8], kept: KeptParts, error: CoreError) -> Fault
-    ensures is { (result ≡ Fault.NoVerification) ⊎ IsFaultOf bytes.now error result }
-    ensures verification { result ≡ Fault.NoVerification → IsTrue kept.verification }
+    ensures { IsMinimalFault kept bytes.now error result }
 {
     if kept.verification && lacks_verification(&error) {
         return Fault::NoVerification;
     }
-    fault_of(alloc, bytes, error)
-}
-
-// Whether the error of a minimal shard is that of a file without verification rows.
-fn lacks_verification(error: &CoreError) -> bool {
-    match error {
-        CoreError::Io(error) => error.kind() == io::ErrorKind::Other,
-        _ => false,
-    }
-}
-
-/// The fault behind an error of writing a shard's bytes in version 2.
-pub fn version_2_fault(alloc: Global, bytes: &[u8], error: CoreError) -> Fault
-    ensures aux_row { (result ≡ Fault.HasAuxRow) ↔ (error ≡ CoreError.InvalidArguments) }
-    ensures others { error ≢ CoreError.InvalidArguments → IsFaultOf bytes.now error result }
-{
     match error {
         CoreError::InvalidArguments => Fault::HasAuxRow,
         error => fault_of(alloc, bytes, error),
+    }
+}
+
+// Whether the error of a minimal shard is that of a file without verification rows.
+fn lacks_verification(error: &CoreError) -> bool
+    ensures { IsTrue result → error.now ≢ CoreError.InvalidArguments }
+{
+    match error {
+        CoreError::Io(error) => error.kind() == io::ErrorKind::Other,
+        _ => false,
     }
 }
