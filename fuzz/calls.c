@@ -122,6 +122,34 @@ static uint32_t call_merge_range_in(const struct input *input, void *out, size_t
     return within_room(error, bytes_of(list, input->count), *written);
 }
 
+/* The rows of the same range, as the tables of the shards have them. */
+static uint32_t call_merge_rows(const struct input *input, void *out, size_t capacity, size_t *written) {
+    xet_bytes list[SHARDS];
+    list_shards(input, list);
+    xet_range range = {.has_from = input->verification, .has_to = input->aux_rows};
+    memcpy(range.from, input->file.words, sizeof range.from);
+    memcpy(range.to, input->file.words, sizeof range.to);
+    xet_range before = {.has_to = true};
+    memcpy(before.to, range.from, sizeof before.to);
+    xet_rows starts[SHARDS] = {{0, 0}};
+    xet_rows ends[SHARDS] = {{0, 0}};
+    size_t count;
+    if (range.has_from)
+        xet_find_ends(list, input->count, &before, starts, SHARDS, &count);
+    xet_find_ends(list, input->count, &range, ends, SHARDS, &count);
+    uint32_t error = xet_merge_rows(list, input->count, starts, input->count, ends, input->count, &range, out, capacity,
+                                    written);
+    return within_room(error, bytes_of(list, input->count), *written);
+}
+
+static uint32_t call_find_ends(const struct input *input, void *out, size_t capacity, size_t *written) {
+    xet_bytes list[SHARDS];
+    list_shards(input, list);
+    xet_range range = {.has_to = input->aux_rows};
+    memcpy(range.to, input->file.words, sizeof range.to);
+    return xet_find_ends(list, input->count, &range, out, capacity, written);
+}
+
 static uint32_t call_concatenate(const struct input *input, void *out, size_t capacity, size_t *written) {
     xet_bytes list[SHARDS];
     list_shards(input, list);
@@ -416,6 +444,8 @@ static const struct filling fillings[] = {
     {"xet_difference_in", 1, OF_MERGING, call_difference_in, 2},
     {"xet_merge", 1, OF_MERGING, call_merge, 3},
     {"xet_merge_range", 1, OF_MERGING, call_merge_range, 3},
+    {"xet_merge_rows", 1, OF_MERGING, call_merge_rows, 3},
+    {"xet_find_ends", sizeof(xet_rows), OF_LOADING, call_find_ends, 0},
     {"xet_merge_in", 1, OF_MERGING, call_merge_in, 2},
     {"xet_merge_range_in", 1, OF_MERGING, call_merge_range_in, 2},
     {"xet_concatenate", 1, OF_MERGING, call_concatenate, 3},

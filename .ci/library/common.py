@@ -6,6 +6,8 @@ import subprocess
 TOP = os.path.dirname(os.path.dirname(os.path.dirname(os.path.realpath(__file__))))
 BINDINGS = f"{TOP}/bindings"
 SOURCES = f"{TOP}/crates/xet_c/src"
+# It has a struct that calls take.
+BELOW = f"{TOP}/crates/xet_core_structures/src/set_operations/rows.rt"
 # From nothing, `rt lib` proves the crate again.
 SECONDS = 3600
 
@@ -38,8 +40,9 @@ def sources():
 
 
 def structs():
-    """Returns the structs of crates/xet_c: of each its name, and its fields with their types."""
-    found = re.findall(r"#\[repr\(C\)\]\n(?:#[^\n]*\n)*pub struct (\w+) \{\n(.*?)\n\}", sources(), re.S)
+    """Returns the structs of the calls of crates/xet_c: of each its name, and its fields with their types."""
+    text = sources() + read(BELOW)
+    found = re.findall(r"#\[repr\(C\)\]\n(?:#[^\n]*\n)*pub struct (\w+) \{\n(.*?)\n\}", text, re.S)
     return {name: re.findall(r"^    pub (\w+): (.*),$", body, re.M) for name, body in found}
 
 

@@ -31,6 +31,7 @@ STRUCTS = {
     "XetFinding": ("_Finding", "xet_finding"), "XetXorb": ("_Xorb", "xet_xorb"), "XetChunk": ("_Chunk", "xet_chunk"),
     "XetListedFile": ("_ListedFile", "xet_listed_file"), "XetListedXorb": ("_ListedXorb", "xet_listed_xorb"),
     "XetCounts": ("_Counts", "xet_counts"), "XetRange": ("_Range", "xet_range"),
+    "SectionRows": ("_Rows", "xet_rows"),
     "XetChunkRow": ("_ChunkRow", "xet_chunk_row"), "XetChunkPlace": ("_ChunkPlace", "xet_chunk_place"),
 }
 

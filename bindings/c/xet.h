@@ -254,6 +254,36 @@ uint32_t xet_merge_range(const xet_bytes *shards, size_t count, const xet_range 
 uint32_t xet_merge_range_in(const xet_bytes *shards, size_t count, const xet_range *range, uint64_t version,
                             uint8_t *out, size_t capacity, size_t *written);
 
+/* A row of the file section and a row of the xorb section of a shard. The first row of a section is 0. */
+typedef struct xet_rows {
+    uint32_t file;
+    uint32_t xorb;
+} xet_rows;
+
+/* Writes the rows before which the records of a range are, in each of `count` shards, to `ends`: by the tables of a
+ * shard, those of the first file and of the first xorb whose hash has a first word that is not below that of `range->to`.
+ * Where there is none, or with no `to`, it is the last row for which the section has room, where its bookend is.
+ *
+ * Nothing is checked but the header and the footer of each shard: the errors are those of xet_load, and
+ * XET_OUT_OF_MEMORY, XET_SHORT. */
+uint32_t xet_find_ends(const xet_bytes *shards, size_t count, const xet_range *range, xet_rows *ends, size_t capacity,
+                       size_t *written);
+
+/* Writes what xet_merge_range writes, but reads of each shard only the records from its rows in `starts` on, and before
+ * its rows in `ends`. So where threads merge ranges, not each has to read all records of all shards.
+ *
+ * The rows may come from xet_find_ends or anywhere else: they are not trusted. Make calls for ranges that follow one
+ * another, the first without `from` and the last without `to`, and let `ends` of each call be `starts` of the next. If
+ * all of them succeed, each has written what xet_merge_range writes. If one fails, call xet_merge, or xet_merge_range for
+ * all ranges: they give the error, or the bytes of shards without tables.
+ *
+ * XET_INVALID_ARGUMENTS: there are too few rows, or some shard has in its rows anything but whole records of the range
+ * with ascending hashes, or the first range does not start at rows 0, or the last one does not end at the bookends.
+ * Other errors are those of xet_merge_range. */
+uint32_t xet_merge_rows(const xet_bytes *shards, size_t count, const xet_rows *starts, size_t start_count,
+                        const xet_rows *ends, size_t end_count, const xet_range *range, uint8_t *out, size_t capacity,
+                        size_t *written);
+
 /* Writes the shard that has the records of one shard or more, in their order, with all tables, under the key of all, in
  * version 3 and without timestamps. The hashes of files have to ascend from each shard to the next, and so have those
  * of xorbs; a shard may have none of either. So it puts together what xet_merge_range writes of well-formed shards that

@@ -8,7 +8,7 @@ from ctypes import POINTER, c_bool, c_char, c_char_p, c_size_t, c_uint32, c_uint
 from . import __version__
 from ._structs import (
     _Chunk, _ChunkPlace, _ChunkRow, _Counts, _Disagreement, _Export, _File, _FileSegment, _Finding, _Hash, _Info,
-    _Place, _Range, _Segment, _ShardBytes, _Subset, _Xorb,
+    _Place, _Range, _Rows, _Segment, _ShardBytes, _Subset, _Xorb,
 )
 
 _SHARD = [c_void_p, c_size_t]
@@ -26,6 +26,8 @@ _CALLS = {
     "xet_merge_in": [*_LIST, c_uint64, *_OUT],
     "xet_merge_range": [*_LIST, POINTER(_Range), *_OUT],
     "xet_merge_range_in": [*_LIST, POINTER(_Range), c_uint64, *_OUT],
+    "xet_find_ends": [*_LIST, POINTER(_Range), POINTER(_Rows), c_size_t, POINTER(c_size_t)],
+    "xet_merge_rows": [*_LIST, POINTER(_Rows), c_size_t, POINTER(_Rows), c_size_t, POINTER(_Range), *_OUT],
     "xet_concatenate": [*_LIST, *_OUT],
     "xet_concatenate_in": [*_LIST, c_uint64, *_OUT],
     "xet_merge_agreeing": [*_LIST, *_OUT, POINTER(c_size_t), POINTER(_Disagreement)],

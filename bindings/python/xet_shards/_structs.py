@@ -50,6 +50,10 @@ class _Range(ctypes.Structure):
     _fields_ = [("from", _Words), ("to", _Words), ("has_from", c_bool), ("has_to", c_bool)]
 
 
+class _Rows(ctypes.Structure):
+    _fields_ = [("file", c_uint32), ("xorb", c_uint32)]
+
+
 class _File(ctypes.Structure):
     _fields_ = [
         ("found", c_bool), ("has_verification", c_bool), ("has_sha256", c_bool), ("has_aux", c_bool),

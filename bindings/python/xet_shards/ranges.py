@@ -10,16 +10,16 @@ from typing import Any, Iterator, List, NamedTuple, Optional, Sequence, Tuple
 
 from ._arguments import _words
 from ._calls import _library
-from ._errors import _check
+from ._errors import XetError, _check
 from ._memory import Buffer, WritableBuffer, _Addresses, _advise_large_pages, _list, _output_apart
 from ._merging import _merge_in_to, _range, find_disagreement, find_malformed
-from ._structs import _ROW, _Info, _Range
+from ._structs import _ROW, _Info, _Range, _Rows
 
 # The four words of a hash, by which hashes are ordered.
 Words = Tuple[int, ...]
 
 # How many hashes of the inputs are looked at to find cuts.
-_SAMPLE = 1024
+_SAMPLE = 256
 # The bytes of a row of the tables of files and xorbs.
 _TABLE_ROW = 12
 # The bytes of a hash.
@@ -72,16 +72,45 @@ def range_merges(
         ranges = [_range(*it) for it in zip(bounds, bounds[1:])]
         # As in xet_union_room of xet.h.
         room = 352 + sum(length for _, length in data) // 3 * 8
-        merges = [pool.submit(_range_merge, _list(data), len(data), it, room) for it in ranges]
-        return [it.result() for it in merges] if all(it.result() is None for it in checks) else []
+
+        def merged(calls: Sequence[Any]) -> List[memoryview]:
+            merges = [pool.submit(_range_merge, call, (_list(data), len(data), *of), room) for call, of in calls]
+            return [it.result() for it in merges] if all(it.result() is None for it in checks) else []
+
+        if start is None and stop is None:
+            try:
+                return merged(_row_calls(data, ranges, pool))
+            except XetError:
+                # A shard lacks tables, they are wrong, or a cut is not the least hash with its first word.
+                pass
+        return merged([(_library.xet_merge_range, (byref(it),)) for it in ranges])
 
 
-def _range_merge(listed: Any, count: int, asked: _Range, room: int) -> memoryview:
+def _row_calls(data: Sequence[Tuple[int, int]], ranges: Sequence[_Range], pool: ThreadPoolExecutor) -> List[Any]:
+    """Returns for each range the call that merges its rows, which are those between its end and that of the one before.
+
+    The tables that say where ranges end are not trusted. A call refuses rows with anything else than the records of its
+    range. If none does, they have written what merges of the ranges are.
+    """
+    count = len(data)
+    ends = [(_Rows * count)(), *pool.map(lambda it: _range_ends(_list(data), count, it), ranges)]
+    return [
+        (_library.xet_merge_rows, (start, count, end, count, byref(it))) for start, end, it in zip(ends, ends[1:], ranges)
+    ]
+
+
+def _range_ends(listed: Any, count: int, asked: _Range) -> Any:
+    ends, written = (_Rows * count)(), c_size_t()
+    _check(_library.xet_find_ends(listed, count, byref(asked), ends, count, byref(written)))
+    return ends
+
+
+def _range_merge(call: Any, arguments: Sequence[Any], room: int) -> memoryview:
     # Pages that no one writes to cost nothing, and the system reserves no memory for them.
     out, written = mmap.mmap(-1, room, flags=mmap.MAP_PRIVATE | mmap.MAP_ANONYMOUS | _MAP_NORESERVE), c_size_t()
     array = (c_char * room).from_buffer(out)
     _advise_large_pages(ctypes.addressof(array), room)
-    _check(_library.xet_merge_range(listed, count, byref(asked), array, room, byref(written)))
+    _check(call(*arguments, array, room, byref(written)))
     return memoryview(out)[: written.value]
 
 

@@ -53,6 +53,10 @@ library! {
     fn xet_merge_range_in(
         shards: &[Bytes], range: &Range, version: u64, out: &mut [u8], written: &mut usize,
     ) -> u32;
+    fn xet_find_ends(shards: &[Bytes], range: &Range, ends: &mut [SectionRows], written: &mut usize) -> u32;
+    fn xet_merge_rows(
+        shards: &[Bytes], starts: &[SectionRows], ends: &[SectionRows], range: &Range, out: &mut [u8], written: &mut usize,
+    ) -> u32;
     fn xet_concatenate(shards: &[Bytes], out: &mut [u8], written: &mut usize) -> u32;
     fn xet_concatenate_in(shards: &[Bytes], version: u64, out: &mut [u8], written: &mut usize) -> u32;
     fn xet_find_disagreement(shards: &[Bytes], differing: &mut usize, found: &mut Disagreement) -> u32;
@@ -167,6 +171,13 @@ pub struct Range {
     pub to: Hash,
     pub has_from: bool,
     pub has_to: bool,
+}
+
+#[repr(C)]
+#[derive(Clone, Copy, Default)]
+pub struct SectionRows {
+    pub file: u32,
+    pub xorb: u32,
 }
 
 #[repr(C)]

@@ -270,6 +270,28 @@ pub fn merge_range_in<T: AsRef<[u8]>>(shards: &[T], range: impl RangeBounds<Hash
     bytes_of(length, |out, written| calls::xet_merge_range_in(&list, &range, version, out, written))
 }
 
+/// The rows before which the records of a range are in each shard, by its tables. Nothing checks them.
+pub(crate) fn find_ends<T: AsRef<[u8]>>(
+    shards: &[T],
+    range: impl RangeBounds<Hash>,
+) -> Result<Vec<calls::SectionRows>> {
+    let range = range_of(range);
+    let (list, _) = listed(shards)?;
+    filled(list.len(), |ends, written| calls::xet_find_ends(&list, &range, ends, written))
+}
+
+/// What [`merge_range`] makes, if the records of the range are between these rows of the shards.
+pub(crate) fn merge_rows<T: AsRef<[u8]>>(
+    shards: &[T],
+    range: impl RangeBounds<Hash>,
+    starts: &[calls::SectionRows],
+    ends: &[calls::SectionRows],
+) -> Result<Vec<u8>> {
+    let range = range_of(range);
+    let (list, length) = listed(shards)?;
+    bytes_of(length, |out, written| calls::xet_merge_rows(&list, starts, ends, &range, out, written))
+}
+
 /// A range of hashes, as the library takes it.
 fn range_of(range: impl RangeBounds<Hash>) -> calls::Range {
     let from = match range.start_bound() {

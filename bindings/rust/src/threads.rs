@@ -1,5 +1,7 @@
 //! Merges by ranges of hashes, each in a thread.
 
+use crate::calls::SectionRows;
+use crate::combine::{find_ends, merge_rows};
 use crate::output::with_room;
 use crate::{concatenate, find_disagreement, find_malformed, load, merge, merge_agreeing, merge_range};
 use crate::{Hash, Info, Result};
@@ -9,7 +11,7 @@ use std::sync::atomic::{AtomicUsize, Ordering};
 use std::{io, thread};
 
 /// How many hashes are looked at to find cuts.
-const SAMPLE: usize = 1024;
+const SAMPLE: usize = 256;
 
 /// The bytes of a row of a section.
 const ROW: u64 = 48;
@@ -72,19 +74,24 @@ fn merge_by_ranges<T: AsRef<[u8]>>(shards: &[T], threads: usize, strict: bool) -
 }
 
 /// What a thread does at a time.
-enum Task {
+enum Task<'a> {
     FindDisagreement,
     FindMalformed,
-    Merge(Bound<Hash>, Bound<Hash>),
+    Merge(Bounds),
+    MergeRows(Bounds, &'a [SectionRows], &'a [SectionRows]),
 }
 
-impl Task {
+/// A range of hashes.
+type Bounds = (Bound<Hash>, Bound<Hash>);
+
+impl Task<'_> {
     /// The merge of a range, or nothing of a task that looks for something. It is `None` if the task fails or finds it.
     fn run(&self, shards: &[&[u8]]) -> Option<Option<Vec<u8>>> {
         match *self {
             Task::FindDisagreement => find_disagreement(shards).ok()?.is_none().then_some(None),
             Task::FindMalformed => find_malformed(shards).ok()?.is_none().then_some(None),
-            Task::Merge(from, to) => merge_range(shards, (from, to)).ok().map(Some),
+            Task::Merge(range) => merge_range(shards, range).ok().map(Some),
+            Task::MergeRows(range, starts, ends) => merge_rows(shards, range, starts, ends).ok().map(Some),
         }
     }
 }
@@ -97,11 +104,19 @@ fn range_merges(shards: &[&[u8]], threads: usize, strict: bool) -> Option<Vec<Ve
     }
     let starts = once(Bound::Unbounded).chain(cuts.iter().copied().map(Bound::Included));
     let ends = cuts.iter().copied().map(Bound::Excluded).chain(once(Bound::Unbounded));
+    let ranges: Vec<Bounds> = starts.zip(ends).collect();
     let checks = if strict { vec![Task::FindDisagreement, Task::FindMalformed] } else { vec![] };
-    let merges = starts.zip(ends).map(|(from, to)| Task::Merge(from, to));
-    let tasks: Vec<Task> = checks.into_iter().chain(merges).collect();
-    let done = results_of_threads(threads, tasks.len(), |at| tasks[at].run(shards))?;
-    Some(done.into_iter().flatten().collect())
+    let merged = |tasks: Vec<Task>| {
+        let tasks: Vec<&Task> = checks.iter().chain(&tasks).collect();
+        let done = results_of_threads(threads, tasks.len(), |at| tasks[at].run(shards))?;
+        Some(done.into_iter().flatten().collect())
+    };
+    // The tables that say where ranges end are not trusted: a merge refuses rows with anything else than its range.
+    let ends = results_of_threads(threads, ranges.len(), |at| find_ends(shards, ranges[at]).ok())?;
+    let starts: Vec<_> = once(vec![SectionRows::default(); shards.len()]).chain(ends.iter().cloned()).collect();
+    let of_rows = ranges.iter().zip(starts.iter().zip(&ends));
+    merged(of_rows.map(|(&range, (starts, ends))| Task::MergeRows(range, starts, ends)).collect())
+        .or_else(|| merged(ranges.iter().map(|&range| Task::Merge(range)).collect()))
 }
 
 /// The results of so many tasks, in their order, or `None` if that is the result of one. The thread that calls runs

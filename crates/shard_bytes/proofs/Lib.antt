@@ -26,6 +26,8 @@ pub mod RangeReads
 pub mod Reading
 pub mod Recording
 pub mod Reordered
+pub mod RowMerges
+pub mod RowSearch
 pub mod RewriteSizes
 pub mod Searching
 pub mod Sizes

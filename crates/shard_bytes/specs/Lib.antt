@@ -15,6 +15,7 @@ pub mod Parts
 pub mod Query
 pub mod RangeReads
 pub mod Recording
+pub mod Rows
 pub mod Sizes
 pub mod Steps
 pub mod Versions

@@ -22,6 +22,7 @@ pub mod parts;
 pub mod query;
 pub mod records;
 mod room;
+pub mod rows;
 mod sorted_hashes;
 pub mod version;
 pub mod walk;

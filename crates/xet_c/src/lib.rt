@@ -27,6 +27,7 @@ mod parts;
 mod query;
 mod records;
 mod release;
+mod rows;
 mod segment;
 mod subset;
 mod text;

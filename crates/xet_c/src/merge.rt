@@ -170,7 +170,7 @@ fn merge_range_in(
     }
 }
 
-fn range_of(range: &XetRange) -> HashRange
+pub fn range_of(range: &XetRange) -> HashRange
     ensures { AsksForRange range.now result }
 {
     HashRange {

@@ -6,3 +6,4 @@ pub mod RangeSizes
 pub mod ExportTrees
 pub mod FileLookups
 pub mod MinimalAgain
+pub mod RowRanges

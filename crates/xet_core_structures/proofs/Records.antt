@@ -8,6 +8,7 @@ pub mod Ranges
 pub mod Parts
 pub mod Within
 pub mod RangesInARow
+pub mod RangeLists
 pub mod RecordsAsRead
 pub mod SmallerShards
 pub mod ByteUnions

@@ -3,6 +3,11 @@
 pub mod MergeTrees
 pub mod RangeTrees
 pub mod RangeParts
+pub mod RowWalks
+pub mod RowLists
+pub mod RowSpans
+pub mod RowParts
+pub mod RowTrees
 pub mod MappedJoins
 pub mod TreeXorbs
 pub mod TreesOfExports

@@ -10,6 +10,7 @@ pub mod MixedFiles
 pub mod Parts
 pub mod Placed
 pub mod RecordPairs
+pub mod Rows
 pub mod SetOutcomes
 pub mod ShardContents
 pub mod Streams

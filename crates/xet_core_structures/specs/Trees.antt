@@ -2,6 +2,7 @@
 
 pub mod MergeTrees
 pub mod RangeTrees
+pub mod RowTrees
 pub mod ExportTrees
 pub mod InVersions
 pub mod Parts

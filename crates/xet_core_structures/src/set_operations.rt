@@ -12,6 +12,7 @@ ghost use Rattle.xet_core_structures.specs.Trees.MergeTrees.{TreeWrites, TreeRef
 
 mod agreement;
 mod ranges;
+mod rows;
 mod trees;
 mod two_shards;
 
@@ -22,6 +23,7 @@ pub use agreement::{
 };
 use bumpalo::Bump;
 pub use ranges::{HashRange, merge_range, merge_range_into};
+pub use rows::{SectionRows, merge_rows_into};
 use std::alloc::Global;
 use std::io::Write;
 use trees::parts::place_tree;

@@ -25,16 +25,16 @@ both_true true b first second = second
 both_true false b first second = absurd first
 
 -- orders as tests
-is_less : (o : Ordering) → is_lt o ≡ true → o ≡ Less
+pub is_less : (o : Ordering) → is_lt o ≡ true → o ≡ Less
 is_less Less is = refl
 is_less Equal is = absurd (true≢false (sym is))
 is_less Greater is = absurd (true≢false (sym is))
 
-hash_cmp-reverse : (a b : DataHash) (o : Ordering) → hash_cmp a b ≡ o → hash_cmp b a ≡ ordering_reverse o
+pub hash_cmp-reverse : (a b : DataHash) (o : Ordering) → hash_cmp a b ≡ o → hash_cmp b a ≡ ordering_reverse o
 hash_cmp-reverse a b o is = hash_cmp-IsTotalOrder.antisymm b a ∙ ap ordering_reverse is
 
 -- what is below a hash is below one that is not below that
-below_through : (q k t : DataHash) → hash_cmp q k ≡ Less → is_lt (hash_cmp t k) ≡ false → hash_cmp q t ≡ Less
+pub below_through : (q k t : DataHash) → hash_cmp q k ≡ Less → is_lt (hash_cmp t k) ≡ false → hash_cmp q t ≡ Less
 below_through q k t less not_below = by_order (hash_cmp t k) refl where
   by_order : (o : Ordering) → hash_cmp t k ≡ o → hash_cmp q t ≡ Less
   by_order Less is = absurd (true≢false (sym (ap is_lt is) ∙ not_below))
@@ -42,22 +42,22 @@ below_through q k t less not_below = by_order (hash_cmp t k) refl where
   by_order Greater is = hash_cmp-IsTotalOrder.trans q k t less (hash_cmp-reverse t k Greater is)
 
 -- what is below a hash that is not above another is below that
-not_below_through : (q k f : DataHash) → is_lt (hash_cmp q k) ≡ false → is_lt (hash_cmp k f) ≡ false → is_lt (hash_cmp q f) ≡ false
+pub not_below_through : (q k f : DataHash) → is_lt (hash_cmp q k) ≡ false → is_lt (hash_cmp k f) ≡ false → is_lt (hash_cmp q f) ≡ false
 not_below_through q k f high low = by_order (hash_cmp q f) refl where
   by_order : (o : Ordering) → hash_cmp q f ≡ o → is_lt (hash_cmp q f) ≡ false
   by_order Less is = absurd (true≢false (sym (ap is_lt (below_through q f k is low)) ∙ high))
   by_order Equal is = ap is_lt is
   by_order Greater is = ap is_lt is
 
-not_true : (b : Bool) → not b ≡ true → b ≡ false
+pub not_true : (b : Bool) → not b ≡ true → b ≡ false
 not_true false is = refl
 not_true true is = absurd (true≢false (sym is))
 
-up_to_before : (q k : DataHash) (to : Option DataHash) → is_up_to to k ≡ true → is_lt (hash_cmp q k) ≡ true → is_before to q ≡ true
+pub up_to_before : (q k : DataHash) (to : Option DataHash) → is_up_to to k ≡ true → is_lt (hash_cmp q k) ≡ true → is_before to q ≡ true
 up_to_before q k None up less = refl
 up_to_before q k (Some t) up less = ap is_lt (below_through q k t (is_less (hash_cmp q k) less) (not_true (is_lt (hash_cmp t k)) up))
 
-from_through : (q k : DataHash) (from : Option DataHash) → is_from from k ≡ true → is_lt (hash_cmp q k) ≡ false → is_from from q ≡ true
+pub from_through : (q k : DataHash) (from : Option DataHash) → is_from from k ≡ true → is_lt (hash_cmp q k) ≡ false → is_from from q ≡ true
 from_through q k None high low = refl
 from_through q k (Some f) high low = ap not (not_below_through q k f low (not_true (is_lt (hash_cmp k f)) high))
 

@@ -10,8 +10,10 @@ ghost use Rattle.xet_records.specs.FileRecord.{file_records};
 ghost use Rattle.xet_records.specs.XorbRecord.{xorb_records};
 ghost use Rattle.xet_core_structures.specs.declared.set_operations.MergePlan.{MergePlan};
 ghost use Rattle.xet_core_structures.specs.declared.set_operations.ranges.HashRange.{HashRange};
+ghost use Rattle.xet_core_structures.specs.declared.set_operations.rows.SectionRows.{SectionRows};
 ghost use Rattle.xet_core_structures.specs.Records.Sizes.{rows_of_shard, bytes_at};
 ghost use Rattle.xet_core_structures.specs.Trees.MergeTrees.{leaves, HasUnion};
+ghost use Rattle.xet_core_structures.specs.Trees.RowTrees.{WriteInRows};
 ghost use Rattle.xet_core_structures.specs.Trees.RangeTrees.{IsRangeOf, RangeWrites, IsHeldLayout, AreRangesOf};
 ghost use Rattle.xet_core_structures.specs.TwoShards.ByteResults.{keyed_layout, keyed_options, UnitesBytes};
 ghost use Rattle.xet_base.specs.KeyedHash.{no_key};
@@ -80,6 +82,17 @@ pub fn ranges_concatenate()
         → AllZip (λ range part. IsPartOf (is_within range) join part) (ranges_between None cuts None)
         parts → AllZip (IsHeldLayout key) parts bytes → AreRangesOf key join bytes }
     ensures no_key { (join : Shard) → keyed_layout join no_key ≡ layout join None }
+{}
+
+/// Let `merge_rows_into` succeed for ranges that follow one another and leave no hash out, and let
+/// each call begin at the rows before which the one before it ended. Then each writes what
+/// `merge_range_into` promises for its range, whatever the rows are.
+pub fn rows_cover_ranges()
+    ensures { (inputs : List (List ℕ)) → (plan : MergePlan) → (cuts : List DataHash)
+        → (rows : List (List SectionRows)) → (outs : List (List ℕ)) → AreCuts None cuts None
+        → WriteInRows inputs plan (ranges_between None cuts None) rows outs
+        → AllZip (λ range out. RangeWrites range inputs plan out) (ranges_between None cuts None)
+        outs }
 {}
 
 /// The part of a shard in a range has at most the rows of the shard (`rows`). So a tree with a

@@ -21,4 +21,5 @@ pub(super) mod filling;
 pub(super) mod inputs;
 pub(super) mod parts;
 pub(super) mod placed;
+pub(super) mod rows;
 pub(super) mod versions;

@@ -69,8 +69,8 @@ pub fn place_records<'a, R: SectionRecord, S: ShardSource>(
     Ok(placed)
 }
 
-// The bytes from an offset on; none if it is past the end.
-fn bytes_from(bytes: &[u8], offset: u64) -> &[u8]
+/// The bytes from an offset on; none if it is past the end.
+pub fn bytes_from(bytes: &[u8], offset: u64) -> &[u8]
     ensures { result.now ≡ drop offset bytes.now }
 {
     if offset >= bytes.len() as u64 {

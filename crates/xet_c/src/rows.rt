@@ -1,0 +1,52 @@
+//! Merges of the records in given rows of shards, and the rows of a range.
+
+ghost use Rattle.std.specs.Prelude.{map};
+ghost use Rattle.xet_core_structures.specs.declared.set_operations.ranges.HashRange.{HashRange};
+ghost use Rattle.shard_bytes.specs.Rows.{MergesRows, RefusesRows, AreEndsOf, RefusesEnds};
+ghost use Rattle.xet_c.specs.Arguments.{AsksForRange};
+ghost use Rattle.xet_c.specs.Output.{Outcome};
+
+use crate::merge::{XetRange, range_of};
+use crate::output::{answer, deliver};
+use shard_bytes::rows::{find_ends, merge_rows_bytes_into};
+use std::alloc::Global;
+use xet_core_structures::set_operations::{FormatVersion, SectionRows};
+
+/// What `xet_merge_range` writes, but of the records in these rows of the shards alone, to the front
+/// of `out`, to which it is written at once.
+#[unsafe(no_mangle)]
+pub extern "C" fn xet_merge_rows(
+    alloc: Global,
+    shards: &[&[u8]],
+    starts: &[SectionRows],
+    ends: &[SectionRows],
+    range: &XetRange,
+    out: &mut [u8],
+    written: &mut usize,
+) -> u32
+    ensures { (asked : HashRange) × AsksForRange range.now asked
+        × Outcome (MergesRows asked starts.now ends.now (map (λ x. x.now) shards.now))
+        (RefusesRows asked starts.now ends.now (map (λ x. x.now) shards.now)) out.old out.new
+        written.new result }
+{
+    let asked = range_of(range);
+    let filled = merge_rows_bytes_into(alloc, shards, starts, ends, &asked, FormatVersion::V3, out);
+    answer(filled, out.len(), written)
+}
+
+/// The rows before which the records of a range are in each of some shards, to the front of `ends`.
+#[unsafe(no_mangle)]
+pub extern "C" fn xet_find_ends(
+    alloc: Global,
+    shards: &[&[u8]],
+    range: &XetRange,
+    ends: &mut [SectionRows],
+    written: &mut usize,
+) -> u32
+    ensures { (asked : HashRange) × AsksForRange range.now asked
+        × Outcome (AreEndsOf asked.to (map (λ x. x.now) shards.now))
+        (RefusesEnds (map (λ x. x.now) shards.now)) ends.old ends.new written.new result }
+{
+    let found = find_ends(alloc, shards, &range_of(range));
+    deliver(found, ends, written)
+}

@@ -1,0 +1,100 @@
+-- What trees of unions write of the records in given rows of each input.
+use Rattle.std.specs.Prelude.{◌≡◌, ◌⊎◌, ⊤, ℕ, ◌+◌, ◌*◌, ◌≤◌, true, List, [], ◌∷◌, map, length, drop, All, None, Some, slice_get}
+use Rattle.std.specs.FinMap.{values}
+use Rattle.xet_base.specs.declared.error.CoreError.{CoreError}
+use Rattle.xet_base.specs.declared.error.CoreError.TheVariants.{InvalidArguments, OutOfMemory}
+use Rattle.xet_records.specs.RecordKind.{RecordKind}
+use Rattle.xet_records.specs.XorbRecord.{xorb_records}
+use Rattle.xet_records.specs.Limits.{MAX_ROWS}
+use Rattle.xet_shards.specs.declared.shard_format.ends.info.MDBShardInfo.{MDBShardInfo}
+use Rattle.xet_shards.specs.Content.Shard.{Shard}
+use Rattle.xet_shards.specs.Ends.Ends.{HasHeaderAndFooter}
+use Rattle.xet_shards.specs.Read.SectionReading.{files_of, HoldsRecords, BeginsWithBookend}
+use Rattle.xet_shards.specs.Write.Section.{total_rows}
+use Rattle.xet_shards.specs.Write.WithOptions.{Ascends}
+use Rattle.xet_core_structures.specs.declared.set_operations.MergePlan.{MergePlan}
+use Rattle.xet_core_structures.specs.declared.set_operations.MergePlan.TheVariants.{Leaf, Both'}
+use Rattle.xet_core_structures.specs.declared.set_operations.ranges.HashRange.{HashRange}
+use Rattle.xet_core_structures.specs.declared.set_operations.rows.SectionRows.{SectionRows}
+use Rattle.xet_core_structures.specs.Records.Ranges.{is_within}
+use Rattle.xet_core_structures.specs.Records.RecordPairs.{key_of_record}
+use Rattle.xet_core_structures.specs.Records.ShardContents.{HasShard, files_at, xorbs_at}
+use Rattle.xet_core_structures.specs.TwoShards.ByteResults.{keyed_layout, key_of, UnitesBytes, LoadRefusal, BytesRefusal}
+
+-- a section has these records of a range, as reading returns them, in its rows from `first` on and
+-- before `end`: whole records, whose hashes strictly ascend. A range without a lower bound starts
+-- at row 0, and one without an upper bound ends at the bookend
+pub record HasInRows {H R : Type 0} (K : RecordKind H R) (range : HashRange) (section : List ℕ)
+    (first end : ℕ) (found : List R) : Type 0 where
+  pub stored : List R
+  -- the bytes behind them
+  pub rest : List ℕ
+  pub records : HoldsRecords K (drop (48 * first) section) stored rest
+  pub returned : map K.as_read stored ≡ found
+  pub ascends : Ascends K found
+  pub within : All (λ r. is_within range (key_of_record K r) ≡ true) found
+  pub rows : first + total_rows K found ≡ end
+  pub fits : end ≤ MAX_ROWS
+  pub starts : range.from ≡ None → first ≡ 0
+  pub ends : range.to ≡ None → BeginsWithBookend K rest
+
+-- bytes have records of a range in these rows of their sections, and other bytes are the layout of
+-- those records under their key
+pub record IsRowsOf (range : HashRange) (start end : SectionRows) (x out : List ℕ) : Type 0 where
+  pub info : MDBShardInfo
+  pub has_ends : HasHeaderAndFooter x info
+  -- the shard of the records
+  pub part : Shard
+  pub files : HasInRows (files_of info) range (files_at x info) start.file end.file (values part.files)
+  pub xorbs : HasInRows xorb_records range (xorbs_at x info) start.xorb end.xorb (values part.xorbs)
+  pub bytes_are : out ≡ keyed_layout part (key_of info)
+  pub holds : HasShard part out
+
+-- why the records in rows of bytes are not read: an allocation failed, header and footer are not
+-- read, or in these rows there are no such records
+abbrev pub RowReadRefusal : HashRange → (start end : SectionRows) → List ℕ → CoreError → Type 0
+RowReadRefusal range start end x e =
+    (e ≡ OutOfMemory) ⊎ LoadRefusal x e
+    ⊎ ((e ≡ InvalidArguments) × ((out : List ℕ) → ¬ IsRowsOf range start end x out))
+
+-- there are an input and rows at an index, and `Is` holds of them
+abbrev pub InputRowsAre : (starts ends : List SectionRows) → List (List ℕ)
+    → (SectionRows → SectionRows → List ℕ → Type 0) → ℕ → Type 0
+InputRowsAre starts ends inputs Is i =
+    (start end : SectionRows) × (x : List ℕ) × (slice_get starts i ≡ Some start)
+    × (slice_get ends i ≡ Some end) × (slice_get inputs i ≡ Some x) × Is start end x
+
+-- what a tree writes of rows: at a leaf the layout of the input's records in them, else the union
+-- of what both sides write
+abbrev pub RowsWrite : HashRange → (starts ends : List SectionRows) → List (List ℕ) → MergePlan
+    → List ℕ → Type 0
+RowsWrite range starts ends inputs (Leaf i) out =
+    InputRowsAre starts ends inputs (λ start end x. IsRowsOf range start end x out) i
+RowsWrite range starts ends inputs (Both' p left q right) out =
+    (x y : List ℕ) × RowsWrite range starts ends inputs left x
+    × RowsWrite range starts ends inputs right y × UnitesBytes x y out
+
+-- why a tree writes nothing of rows: a leaf has no input or no rows, or its records in them are not
+-- read; else the left side writes nothing, or it does and the right side writes nothing, or both do
+-- and there is no union of what they write
+abbrev pub RowsRefusal : HashRange → (starts ends : List SectionRows) → List (List ℕ) → MergePlan
+    → CoreError → Type 0
+RowsRefusal range starts ends inputs (Leaf i) e =
+    ((e ≡ InvalidArguments)
+    × ((length inputs ≤ i) ⊎ (length starts ≤ i) ⊎ (length ends ≤ i)))
+    ⊎ InputRowsAre starts ends inputs (λ start end x. RowReadRefusal range start end x e) i
+RowsRefusal range starts ends inputs (Both' p left q right) e =
+    RowsRefusal range starts ends inputs left e
+    ⊎ ((x : List ℕ) × RowsWrite range starts ends inputs left x
+    × (RowsRefusal range starts ends inputs right e
+    ⊎ ((y : List ℕ) × RowsWrite range starts ends inputs right y × BytesRefusal x y e)))
+
+-- a tree writes these byte strings of ranges, one by one: each of the rows from one list of rows on
+-- and before the next
+abbrev pub WriteInRows : List (List ℕ) → MergePlan → List HashRange → List (List SectionRows)
+    → List (List ℕ) → Type 0
+WriteInRows inputs plan [] (ends ∷ []) [] = ⊤
+WriteInRows inputs plan (range ∷ ranges) (starts ∷ ends ∷ more) (out ∷ outs) =
+    RowsWrite range starts ends inputs plan out
+    × WriteInRows inputs plan ranges (ends ∷ more) outs
+WriteInRows inputs plan ranges rows outs = ⊥
