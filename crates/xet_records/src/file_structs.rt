@@ -215,6 +215,16 @@ impl MDBFileInfo {
         self.metadata.gained_parts(&other.metadata).contains(part)
     }
 
+    /// Whether the header announces each optional part that the header of `other` announces.
+    pub fn contains_parts_of(&self, other: &Self) -> bool
+        ensures { IsTrue result ↔ ((part : OptionalPart) → IsTrue (has_part other.now part)
+            → IsTrue (has_part self.now part)) }
+    {
+        let own = self.metadata.parts();
+        let others = other.metadata.parts();
+        own.is_superset(others)
+    }
+
     /// A copy of the record, or `OutOfMemory`.
     pub fn try_clone(&self, alloc: Global) -> Result<Self>
         ensures ok { IfOk result (λ copy. copy ≡ self.now) }

@@ -175,7 +175,7 @@ impl FileStore {
         let Some(own) = self.get(file_hash) else {
             return Ok(Some(file_info.try_clone(alloc)?));
         };
-        if has_its_parts(own, file_info) {
+        if own.contains_parts_of(file_info) {
             return Ok(None);
         }
         let mut joined = own.try_clone(alloc)?;
@@ -237,15 +237,6 @@ pub fn joined_rows(file_info: &MDBFileInfo, twin: &MDBFileInfo) -> u64
     ensures { result ≡ row_count (merged_file file_info.now twin.now) }
 {
     1 + file_info.metadata.mix_with(&twin.metadata).rows_after()
-}
-
-// Whether the first of two records of a file has each optional part that the second has.
-fn has_its_parts(file_info: &MDBFileInfo, twin: &MDBFileInfo) -> bool
-    ensures { IsTrue result → merged_file file_info.now twin.now ≡ file_info.now }
-{
-    let own = file_info.metadata.parts();
-    let other = twin.metadata.parts();
-    own.is_superset(other)
 }
 
 /// Whether a record can be in a store.

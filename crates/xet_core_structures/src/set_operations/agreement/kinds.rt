@@ -61,9 +61,7 @@ impl Agreement<MDBFileInfo> for OfUnion {
     }
 
     fn has_parts_of(first: &MDBFileInfo, second: &MDBFileInfo) -> bool {
-        let own = first.metadata.parts();
-        let other = second.metadata.parts();
-        own.is_superset(other)
+        first.contains_parts_of(second)
     }
 
     fn are_one_header(first: &FileDataSequenceHeader, second: &FileDataSequenceHeader) -> bool {

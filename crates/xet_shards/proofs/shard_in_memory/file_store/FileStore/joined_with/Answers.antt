@@ -1,9 +1,19 @@
-use Rattle.std.proofs.Common.{ap, ◌∙◌}
+use Rattle.std.proofs.Common.{Some, sym, ap, ◌∙◌}
 use Rattle.std.specs.FinMap.{get}
 use Rattle.xet_records.specs.Merging.{merged_file}
+use Rattle.xet_records.proofs.Merging.{nothing_taken}
+use Rattle.xet_shards.specs.Content.Joining.{either_file}
 use Rattle.xet_shards.specs.Steps.Joining.{CanJoinFile}
 use Rattle.xet_shards.proofs.ShardInMemory.FileUnions.{joined_file, of_some}
 use Rattle.xet_shards.proofs.shard_in_memory.file_store.FileStore.joined_with.Goals as goal
+
+pub returns-then-contains_parts_of-clause-made : goal.returns-then-contains_parts_of-clause-made
+returns-then-contains_parts_of-clause-made c =
+    let own = c.in-Some.own.now in
+    let file = c.args.file_info.now in
+    let there = c.in-Some.ensures.value in
+    let same = nothing_taken own file (c.contains_parts_of.ensures.0 c.if-contains_parts_of.true) in
+    sym there ∙ ap Some (sym same) ∙ ap (λ own. either_file own (Some file)) there
 
 pub returns-clause-made : goal.returns-clause-made
 returns-clause-made c =
