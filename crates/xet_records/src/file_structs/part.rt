@@ -44,14 +44,6 @@ impl OptionalPart {
         }
     }
 
-    /// The bit that says whether a file has the part.
-    #[inline(always)]
-    pub fn mask(self) -> u32
-        ensures { result ≡ 2 ^ bit_of self }
-    {
-        self.flag()
-    }
-
     /// The set of this part if it is wanted, else the empty set.
     #[tactic(auto, using(crate::proofs::PartSets::one_part))]
     #[inline(always)]
@@ -139,7 +131,7 @@ impl Parts {
     pub fn contains(self, part: OptionalPart) -> bool
         ensures { result ≡ announces self part }
     {
-        self.flags & part.mask() != 0
+        self.flags & part.flag() != 0
     }
 
     /// The parts that are in either set.
