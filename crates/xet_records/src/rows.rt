@@ -165,11 +165,11 @@ pub trait Row: Copy {
     ghost row_at: { List ℕ → Self };
 
     /// The bytes of the row.
-    fn to_bytes(&self) -> [u8; 48]
+    fn to_bytes(&self) -> [u8; ROW_SIZE]
         ensures { result ≡ row_bytes self.now };
 
     /// The row with these bytes, as reading returns it.
-    fn from_bytes(bytes: &[u8; 48]) -> Self
+    fn from_bytes(bytes: &[u8; ROW_SIZE]) -> Self
         ensures { (stored : Self) × Fits stored × (row_bytes stored ≡ bytes.now) ×
             (as_read stored ≡ result) };
 

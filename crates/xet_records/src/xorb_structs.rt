@@ -110,7 +110,7 @@ impl Row for XorbChunkSequenceHeader {
 
     #[tactic(auto, unfolding(crate::specs::XorbRow::xorb_header_row))]
     #[inline(always)]
-    fn to_bytes(&self) -> [u8; 48] {
+    fn to_bytes(&self) -> [u8; ROW_SIZE] {
         let mut row = [0u8; ROW_SIZE];
         let at = put_hash(&mut row, 0, &self.xorb_hash);
         let at = put_u32(&mut row, at, self.xorb_flags);
@@ -122,7 +122,7 @@ impl Row for XorbChunkSequenceHeader {
 
     #[tactic(auto, unfolding(crate::specs::XorbRow::xorb_header_row))]
     #[inline(always)]
-    fn from_bytes(bytes: &[u8; 48]) -> Self {
+    fn from_bytes(bytes: &[u8; ROW_SIZE]) -> Self {
         let (xorb_hash, rest) = split_hash(bytes);
         let (xorb_flags, rest) = split_u32(rest);
         let (num_entries, rest) = split_u32(rest);
@@ -233,7 +233,7 @@ impl Row for XorbChunkSequenceEntry {
 
     #[tactic(auto, unfolding(crate::specs::XorbRow::chunk_row))]
     #[inline(always)]
-    fn to_bytes(&self) -> [u8; 48] {
+    fn to_bytes(&self) -> [u8; ROW_SIZE] {
         let mut row = [0u8; ROW_SIZE];
         let at = put_hash(&mut row, 0, &self.chunk_hash);
         let at = put_u32(&mut row, at, self.chunk_byte_range_start);
@@ -245,7 +245,7 @@ impl Row for XorbChunkSequenceEntry {
 
     #[tactic(auto, unfolding(crate::specs::XorbRow::chunk_row))]
     #[inline(always)]
-    fn from_bytes(bytes: &[u8; 48]) -> Self {
+    fn from_bytes(bytes: &[u8; ROW_SIZE]) -> Self {
         let (chunk_hash, rest) = split_hash(bytes);
         let (chunk_byte_range_start, rest) = split_u32(rest);
         let (unpacked_segment_bytes, rest) = split_u32(rest);

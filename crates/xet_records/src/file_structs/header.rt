@@ -13,7 +13,7 @@ ghost use Rattle.xet_records.specs.Merging.{Compares, IsSameFile, mixed_header};
 
 use super::part::{OptionalPart, Parts};
 use super::{MDB_DEFAULT_FILE_FLAG, MDB_FILE_FLAG_WITH_AUX_EXT, MDB_FILE_INFO_ENTRY_SIZE};
-use crate::rows::{Row, read_row, write_row};
+use crate::rows::{ROW_SIZE, Row, read_row, write_row};
 use std::io;
 use std::io::{Read, Write};
 use xet_base::fields::{put_hash, put_u32, put_u64, split_hash, split_u32, split_u64};
@@ -320,8 +320,8 @@ impl Row for FileDataSequenceHeader {
 
     #[tactic(auto, unfolding(crate::specs::FileRow::header_row))]
     #[inline(always)]
-    fn to_bytes(&self) -> [u8; 48] {
-        let mut row = [0u8; 48];
+    fn to_bytes(&self) -> [u8; ROW_SIZE] {
+        let mut row = [0u8; ROW_SIZE];
         let at = put_hash(&mut row, 0, &self.file_hash);
         let at = put_u32(&mut row, at, self.file_flags);
         let at = put_u32(&mut row, at, self.num_entries);
@@ -331,7 +331,7 @@ impl Row for FileDataSequenceHeader {
 
     #[tactic(auto, unfolding(crate::specs::FileRow::header_row))]
     #[inline(always)]
-    fn from_bytes(bytes: &[u8; 48]) -> Self {
+    fn from_bytes(bytes: &[u8; ROW_SIZE]) -> Self {
         let (file_hash, rest) = split_hash(bytes);
         let (file_flags, rest) = split_u32(rest);
         let (num_entries, rest) = split_u32(rest);

@@ -9,7 +9,7 @@ ghost use Rattle.xet_records.specs.XorbRecord.{total_bytes, segment_of};
 ghost use Rattle.xet_records.specs.Rows.{WritesRow, ReadsWhole, ReadsCleared, LacksRow};
 
 use super::{MDB_DEFAULT_FILE_FLAG, MDB_FILE_INFO_ENTRY_SIZE};
-use crate::rows::{Row, read_row, write_row};
+use crate::rows::{ROW_SIZE, Row, read_row, write_row};
 use crate::xorb_structs::{XorbChunkSequenceEntry, XorbChunkSequenceHeader};
 use std::io;
 use std::io::{Read, Write};
@@ -116,8 +116,8 @@ impl Row for FileDataSequenceEntry {
 
     #[tactic(auto, unfolding(crate::specs::FileRow::segment_row))]
     #[inline(always)]
-    fn to_bytes(&self) -> [u8; 48] {
-        let mut row = [0u8; 48];
+    fn to_bytes(&self) -> [u8; ROW_SIZE] {
+        let mut row = [0u8; ROW_SIZE];
         let at = put_hash(&mut row, 0, &self.xorb_hash);
         let at = put_u32(&mut row, at, self.xorb_flags);
         let at = put_u32(&mut row, at, self.unpacked_segment_bytes);
@@ -128,7 +128,7 @@ impl Row for FileDataSequenceEntry {
 
     #[tactic(auto, unfolding(crate::specs::FileRow::segment_row))]
     #[inline(always)]
-    fn from_bytes(bytes: &[u8; 48]) -> Self {
+    fn from_bytes(bytes: &[u8; ROW_SIZE]) -> Self {
         let (xorb_hash, rest) = split_hash(bytes);
         let (xorb_flags, rest) = split_u32(rest);
         let (unpacked_segment_bytes, rest) = split_u32(rest);
@@ -166,8 +166,8 @@ impl Row for HashRow {
 
     #[tactic(auto, unfolding(crate::specs::FileRow::hash_row))]
     #[inline(always)]
-    fn to_bytes(&self) -> [u8; 48] {
-        let mut row = [0u8; 48];
+    fn to_bytes(&self) -> [u8; ROW_SIZE] {
+        let mut row = [0u8; ROW_SIZE];
         let at = put_hash(&mut row, 0, &self.hash);
         let at = put_u64(&mut row, at, self._unused[0]);
         put_u64(&mut row, at, self._unused[1]);
@@ -175,7 +175,7 @@ impl Row for HashRow {
     }
 
     #[inline(always)]
-    fn from_bytes(bytes: &[u8; 48]) -> Self {
+    fn from_bytes(bytes: &[u8; ROW_SIZE]) -> Self {
         let (hash, rest) = split_hash(bytes);
         let (_first, rest) = split_u64(rest);
         let (_second, _) = split_u64(rest);
@@ -271,12 +271,12 @@ impl Row for FileVerificationEntry {
     ghost spelled = { hash_row_spelled };
 
     #[inline(always)]
-    fn to_bytes(&self) -> [u8; 48] {
+    fn to_bytes(&self) -> [u8; ROW_SIZE] {
         self.row().to_bytes()
     }
 
     #[inline(always)]
-    fn from_bytes(bytes: &[u8; 48]) -> Self {
+    fn from_bytes(bytes: &[u8; ROW_SIZE]) -> Self {
         FileVerificationEntry::new(HashRow::from_bytes(bytes).hash)
     }
 
@@ -357,12 +357,12 @@ impl Row for FileMetadataExt {
     ghost spelled = { hash_row_spelled };
 
     #[inline(always)]
-    fn to_bytes(&self) -> [u8; 48] {
+    fn to_bytes(&self) -> [u8; ROW_SIZE] {
         self.row().to_bytes()
     }
 
     #[inline(always)]
-    fn from_bytes(bytes: &[u8; 48]) -> Self {
+    fn from_bytes(bytes: &[u8; ROW_SIZE]) -> Self {
         FileMetadataExt::new(HashRow::from_bytes(bytes).hash)
     }
 
@@ -444,12 +444,12 @@ impl Row for FileAuxExt {
     ghost spelled = { hash_row_spelled };
 
     #[inline(always)]
-    fn to_bytes(&self) -> [u8; 48] {
+    fn to_bytes(&self) -> [u8; ROW_SIZE] {
         self.row().to_bytes()
     }
 
     #[inline(always)]
-    fn from_bytes(bytes: &[u8; 48]) -> Self {
+    fn from_bytes(bytes: &[u8; ROW_SIZE]) -> Self {
         FileAuxExt::new(HashRow::from_bytes(bytes).hash)
     }
 
