@@ -11,7 +11,7 @@ ghost use Rattle.xet_records.specs.Steps.ViewReading.{AddsRows, LacksMemory};
 ghost use Rattle.xet_records.specs.Limits.{MAX_ROWS};
 
 use crate::record_reader::{FormatVersion, SectionRecord, read_header};
-use crate::rows::{ROW_SIZE, ROWS_AT_ONCE, Row};
+use crate::rows::{ROW_LIMIT, ROW_SIZE, ROWS_AT_ONCE, Row};
 use bytes::{Bytes, BytesMut};
 use std::alloc::Global;
 use xet_base::error::Result;
@@ -121,7 +121,7 @@ pub fn process_section<
 {
     R::laws();
     let mut buffer = BytesMut::new(alloc);
-    let mut rows_left = u64::from(u32::MAX);
+    let mut rows_left = ROW_LIMIT;
     while let Some(view) = read_view::<R, V, M, I>(
         alloc,
         &mut buffer,

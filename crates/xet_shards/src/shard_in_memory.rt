@@ -239,7 +239,7 @@ impl MDBInMemoryShard {
             return false;
         };
         let xorb_rows = united_xorb_rows(self.xorbs.content(), &other.xorbs, other.xorb_rows);
-        file_rows <= u64::from(u32::MAX) && xorb_rows <= u64::from(u32::MAX)
+        file_rows <= ROW_LIMIT && xorb_rows <= ROW_LIMIT
     }
 
     /// The records of `other` whose hashes this shard does not have. `OutOfMemory` if an allocation

@@ -27,7 +27,7 @@ use super::{
     FileVerificationEntry, MDB_FILE_INFO_ENTRY_SIZE, MDBFileInfo, OptionalPart, Parts,
 };
 use crate::record_bytes;
-use crate::rows::{Row, write_row};
+use crate::rows::{ROW_LIMIT, Row, write_row};
 use crate::view_reader::RecordView;
 use bytes::Bytes;
 use std::alloc::Global;
@@ -138,7 +138,7 @@ impl MDBFileInfoView {
             (NoView file_records bytes) }
     {
         all_bytes(bytes.as_slice());
-        if header.rows_after() > u64::from(u32::MAX) {
+        if header.rows_after() > ROW_LIMIT {
             return Err(CoreError::InvalidShard(String::new(alloc)));
         }
         let bytes = record_bytes::cut(bytes, header.num_info_entry_following())?;

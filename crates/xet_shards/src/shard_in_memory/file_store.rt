@@ -20,7 +20,7 @@ use std::marker::Model;
 use xet_base::error::{CoreError, Result};
 use xet_base::merklehash::MerkleHash;
 use xet_records::file_structs::{FileDataSequenceHeader, MDBFileInfo, OptionalPart};
-use xet_records::rows::{Row, all_widths};
+use xet_records::rows::{ROW_LIMIT, Row, all_widths};
 
 /// Well-formed files, each under its hash. Contracts see the finite map.
 #[derive(Drop)]
@@ -226,7 +226,7 @@ pub fn can_join(file_info: &MDBFileInfo, twin: &MDBFileInfo) -> bool
     if !FileDataSequenceHeader::verify_same_file(&file_info.metadata, &twin.metadata) {
         return false;
     }
-    joined_rows(file_info, twin) <= u64::from(u32::MAX)
+    joined_rows(file_info, twin) <= ROW_LIMIT
 }
 
 /// The rows of the first of two records of one file, with the parts that only the second has.
@@ -251,7 +251,7 @@ pub fn is_well_formed(file_info: &MDBFileInfo) -> bool
         && metadata._unused == 0
         && file_info.fits_its_header()
         && has_clear_parts(file_info)
-        && metadata.rows_after() < u64::from(u32::MAX)
+        && metadata.rows_after() < ROW_LIMIT
 }
 
 // Whether the reserved words in the rows of its parts are zero.

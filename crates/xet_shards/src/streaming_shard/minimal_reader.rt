@@ -12,6 +12,7 @@ use xet_base::error::{CoreError, Result};
 use xet_base::input::ByteInput;
 use xet_records::file_structs::{MDBFileInfo, MDBFileInfoView};
 use xet_records::record_reader::{FormatVersion, SectionRecord};
+use xet_records::rows::ROW_LIMIT;
 use xet_records::view_reader::{RecordView, read_view};
 use xet_records::xorb_structs::{MDBXorbInfo, MDBXorbInfoView};
 
@@ -59,7 +60,7 @@ fn read_views<R: SectionRecord, V: RecordView<R> + Drop, M, I: ByteInput<M>>(
     let mut views = Vec::new(alloc);
     // Views that are dropped need no room, since the next one is read over them.
     let mut buffer = BytesMut::with_capacity(alloc, if is_kept { BLOCK_SIZE } else { 0 })?;
-    let mut rows_left = u64::from(u32::MAX);
+    let mut rows_left = ROW_LIMIT;
     while let Some(view) = read_view::<R, V, M, I>(
         alloc,
         &mut buffer,

@@ -58,7 +58,7 @@ pub fn place_records<'a, R: SectionRecord, S: ShardSource>(
 {
     R::laws();
     let mut placed = Vec::new(alloc);
-    let mut rows_left = u64::from(u32::MAX);
+    let mut rows_left = ROW_LIMIT;
     let mut next = next_header::<R, S>(alloc, source, version, &mut rows_left, None)?;
     while let Some(header) = next {
         let rows = bytes_from(bytes, source.position()?);

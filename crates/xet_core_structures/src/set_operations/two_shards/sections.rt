@@ -18,6 +18,7 @@ use xet_base::input::OfSource;
 use xet_base::source::ShardSource;
 use xet_records::record_reader::{FormatVersion, SectionRecord, read_header};
 use xet_records::row_copier::{CopyFailure, CopyResult};
+use xet_records::rows::ROW_LIMIT;
 use xet_shards::shard_writer::WrittenSection;
 
 /// Reads two sections from the positions of their sources on, and writes a section of what the
@@ -47,8 +48,8 @@ pub fn combine_sections<
 {
     Sec::Record::laws();
     let mut written = Sec::new(alloc);
-    let mut left_1 = u64::from(u32::MAX);
-    let mut left_2 = u64::from(u32::MAX);
+    let mut left_1 = ROW_LIMIT;
+    let mut left_2 = ROW_LIMIT;
     let mut first = next_header::<Sec::Record, S>(alloc, r1, version_1, &mut left_1, None)?;
     let mut second = next_header::<Sec::Record, T>(alloc, r2, version_2, &mut left_2, None)?;
     while goes_on(first, second) {

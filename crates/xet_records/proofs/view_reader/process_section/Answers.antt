@@ -8,7 +8,7 @@ use Rattle.xet_records.proofs.view_reader.process_section.Goals as goal
 
 pub loop-buffer-init : goal.loop-buffer-init
 loop-buffer-init g c =
-    rw c.from-rows_left.ensures ((c.requires, nothing_processed (in_version g.R.SectionRecord.kind c.args.version) (laws_in g.R.SectionRecord.kind c.laws.ensures c.args.version) _ _ _ _ (g.met.I.ByteInput.reads_nothing _)))
+    (c.requires, nothing_processed (in_version g.R.SectionRecord.kind c.args.version) (laws_in g.R.SectionRecord.kind c.laws.ensures c.args.version) _ _ _ _ (g.met.I.ByteInput.reads_nothing _))
 
 pub returns-in_err-view-clause-calls : goal.returns-in_err-view-clause-calls
 returns-in_err-view-clause-calls g c =

@@ -12,6 +12,7 @@ use xet_base::error::Result;
 use xet_base::input::OfSource;
 use xet_base::source::ShardSource;
 use xet_records::record_reader::{FormatVersion, SectionRecord, read_header};
+use xet_records::rows::ROW_LIMIT;
 
 /// What a walk keeps of a record.
 pub(in crate::shard_format) trait WalkItem<R: SectionRecord> {
@@ -38,7 +39,7 @@ pub(in crate::shard_format) fn walk_section<
 {
     R::laws();
     let mut found = Vec::new(alloc);
-    let mut rows_left = u64::from(u32::MAX);
+    let mut rows_left = ROW_LIMIT;
     while let Some(kept) = keep_next::<R, T, S>(alloc, source, version, &mut rows_left)? {
         found.push(kept)?;
     }

@@ -22,6 +22,7 @@ use std::alloc::Global;
 use xet_base::error::{CoreError, Result};
 use xet_base::fields::{split_u32, split_u64};
 use xet_base::source::{ShardSource, read_full};
+use xet_records::rows::ROW_LIMIT;
 
 impl MDBShardInfo {
     /// Reads the rows of the xorb table in order: the first word of each xorb's hash, and the row
@@ -134,7 +135,7 @@ fn read_table<T: TableRow + Drop, S: ShardSource>(
         (S.meaning source.new) offset rows found.items)
         (TableFails T.row_size (S.meaning source.old) (S.meaning source.new) offset rows) }
 {
-    if rows > u64::from(u32::MAX) {
+    if rows > ROW_LIMIT {
         return Err(CoreError::InvalidShard(String::new(alloc)));
     }
     source.seek_to(offset)?;

@@ -27,25 +27,25 @@ united_file_rows-files-requires-clause-sorted c = subst (λ es. T (is_sorted has
 pub united_xorb_rows-xorb_rows-requires-clause-sorted : goal.united_xorb_rows-xorb_rows-requires-clause-sorted
 united_xorb_rows-xorb_rows-requires-clause-sorted c = subst (λ es. T (is_sorted hash_cmp es)) (sym c.content-2.ensures.entries) (entries_sorted c.self.inside.xorbs.xorbs)
 
-pub returns-then-file_rows-from : goal.returns-then-file_rows-from
-returns-then-file_rows-from c =
+pub returns-then-file_rows-le-ROW_LIMIT : goal.returns-then-file_rows-le-ROW_LIMIT
+returns-then-file_rows-le-ROW_LIMIT c =
     let own = (shard_inside c.self.inside).content in
     let others = (shard_inside c.other.inside).content in
     as_contracts_see _ _ _ _ _ c.self.view_is c.other.view_is (
       λ few. unite_if_few own others _ _ _ _ c.content.ensures.entries c.content-2.ensures.entries c.in-Some.ensures.1 c.united_xorb_rows-xorb_rows.ensures
-          (subst (λ m. CanJoinFiles m others.files) (from_sorted-entries c.self.inside.files c.content.result.now.entries c.content.ensures.entries) c.in-Some.ensures.0) (omega (arith, c.if-file_rows-from.true, c.from.ensures))
-          (omega (arith, leb-true c.united_xorb_rows-xorb_rows.result _ few, c.from-then-file_rows-from.ensures)),
+          (subst (λ m. CanJoinFiles m others.files) (from_sorted-entries c.self.inside.files c.content.result.now.entries c.content.ensures.entries) c.in-Some.ensures.0) (omega (arith, c.if-file_rows-le-ROW_LIMIT.true))
+          (omega (arith, leb-true c.united_xorb_rows-xorb_rows.result _ few)),
       λ can.
           let few = few_if_unite own others _ _ _ _ c.content.ensures.entries c.content-2.ensures.entries c.in-Some.ensures.1 c.united_xorb_rows-xorb_rows.ensures can in
-          le-leb c.united_xorb_rows-xorb_rows.result _ (omega (arith, few.1, c.from-then-file_rows-from.ensures)),
+          le-leb c.united_xorb_rows-xorb_rows.result _ (omega (arith, few.1)),
     )
 
-pub returns-else-file_rows-from : goal.returns-else-file_rows-from
-returns-else-file_rows-from c =
+pub returns-else-file_rows-le-ROW_LIMIT : goal.returns-else-file_rows-le-ROW_LIMIT
+returns-else-file_rows-le-ROW_LIMIT c =
     as_contracts_see _ _ _ _ _ c.self.view_is c.other.view_is (
-      λ few. absurd (omega (arith, leb-true c.in-Some.file_rows _ few, c.if-file_rows-from.false)),
+      λ few. absurd (omega (arith, leb-true c.in-Some.file_rows _ few, c.if-file_rows-le-ROW_LIMIT.false)),
       λ can.
           let few = few_if_unite (shard_inside c.self.inside).content (shard_inside c.other.inside).content _ _ _ _
           c.content.ensures.entries c.content-2.ensures.entries c.in-Some.ensures.1 c.united_xorb_rows-xorb_rows.ensures can in
-          le-leb c.in-Some.file_rows _ (omega (arith, few.0, c.from.ensures)),
+          le-leb c.in-Some.file_rows _ (omega (arith, few.0)),
     )

@@ -3,7 +3,6 @@ use Rattle.std.proofs.lemmas.Result.{err_from_is_err_and}
 use Rattle.xet_base.specs.Source.{ReadsBytes, ReadFails, bytes_left}
 use Rattle.xet_records.specs.RecordKind.{in_version}
 use Rattle.xet_records.specs.Reading.{ReadsRowsAfter}
-use Rattle.xet_core_structures.specs.Steps.MergeJoin.{ReadsFollowing, FollowingFails}
 use Rattle.xet_core_structures.proofs.TwoShards.OneSection.{no_first, rows_not_read}
 use Rattle.xet_core_structures.proofs.Trees.Placing.{placing_start, placing_serves, placing_on, placing_stops, placing_ends}
 use Rattle.xet_core_structures.proofs.set_operations.trees.placed.place_records.Goals as goal
@@ -14,15 +13,14 @@ returns-in_err-next g c =
     let start = g.S.ShardSource.meaning c.args.source.now in
     let new = g.S.ShardSource.meaning c.next_header.new.source in
     let p = err_from_is_err_and c.from_residual.result c.from_residual.ensures.1 in
-    rw (p.1, p.2) (no_first K c.laws.ensures c.args.version start new _ (subst (λ n. FollowingFails (in_version K c.args.version) None n start new c.in_err-next.field-0.0) c.from-rows_left.ensures c.in_err-next.ensures))
+    rw (p.1, p.2) (no_first K c.laws.ensures c.args.version start new _ c.in_err-next.ensures)
 
 pub loop-next-init : goal.loop-next-init
 loop-next-init g c =
     let K = g.R.SectionRecord.kind in
     let start = g.S.ShardSource.meaning c.args.source.now in
     let new = g.S.ShardSource.meaning c.next_header.new.source in
-    let placing = placing_start K c.laws.ensures c.args.version start new c.next_header.new.rows_left c.in_ok-next.next
-    (subst (λ n. ReadsFollowing (in_version K c.args.version) None start new n c.next_header.new.rows_left c.in_ok-next.next) c.from-rows_left.ensures c.in_ok-next.ensures) in
+    let placing = placing_start K c.laws.ensures c.args.version start new c.next_header.new.rows_left c.in_ok-next.next c.in_ok-next.ensures in
     (rw c.new-placed.ensures.items placing, (placing_serves K c.laws.ensures c.args.version start new _ _ _ placing).bytes ∙ c.requires)
 
 pub returns-in_err-skip_rows_after : goal.returns-in_err-skip_rows_after

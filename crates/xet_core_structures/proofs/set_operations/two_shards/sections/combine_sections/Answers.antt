@@ -1,7 +1,6 @@
 use Rattle.std.proofs.Common.{None, refl, subst}
 use Rattle.std.proofs.lemmas.Result.{err_from_is_err_and}
 use Rattle.xet_records.specs.RecordKind.{in_version}
-use Rattle.xet_core_structures.specs.Steps.MergeJoin.{ReadsFollowing, FollowingFails}
 use Rattle.xet_core_structures.specs.Steps.MergeJoin.SectionsFail.{first_fails, second_fails}
 use Rattle.xet_core_structures.proofs.TwoShards.OneSection.{serves_same, pending_start, pending_serves, no_first}
 use Rattle.xet_core_structures.proofs.TwoShards.MergeJoin.{pair_of, merging_start, merging_on, fewer_left, sections_combined, pair_failed, first_not_next, second_not_next, served_on, no_bookend, none_left}
@@ -12,19 +11,16 @@ returns-in_err-first g c =
     let K = g.Sec.Record.SectionRecord.kind in
     let one = g.S.ShardSource.meaning in
     let p = err_from_is_err_and c.from_residual.result c.from_residual.ensures.1 in
-    rw (p.1, p.2) (first_fails _ refl (no_first K c.laws.ensures c.args.version_1 (one c.args.r1.now) (one c.next_header.new.source) _
-    (subst (λ n. FollowingFails (in_version K c.args.version_1) None n (one c.args.r1.now) (one c.next_header.new.source) c.in_err-first.field-0.0) c.from-left_1.ensures c.in_err-first.ensures)) (serves_same _ _ refl))
+    rw (p.1, p.2) (first_fails _ refl (no_first K c.laws.ensures c.args.version_1 (one c.args.r1.now) (one c.next_header.new.source) _ c.in_err-first.ensures) (serves_same _ _ refl))
 
 pub returns-in_err-second : goal.returns-in_err-second
 returns-in_err-second g c =
     let K = g.Sec.Record.SectionRecord.kind in
     let one = g.S.ShardSource.meaning in
     let two = g.T.ShardSource.meaning in
-    let first = subst (λ n. ReadsFollowing (in_version K c.args.version_1) None (one c.args.r1.now) (one c.next_header.new.source) n c.next_header.new.rows_left c.in_ok-first.first) c.from-left_1.ensures c.in_ok-first.ensures in
     let p = err_from_is_err_and c.from_residual-in_err-second.result c.from_residual-in_err-second.ensures.1 in
-    rw (p.1, p.2) (second_fails _ refl (no_first K c.laws.ensures c.args.version_2 (two c.args.r2.now) (two c.next_header-2.new.source) _
-    (subst (λ n. FollowingFails (in_version K c.args.version_2) None n (two c.args.r2.now) (two c.next_header-2.new.source) c.in_err-second.field-0.0) c.from-left_2.ensures c.in_err-second.ensures))
-    (pending_serves K c.laws.ensures c.args.version_1 (one c.args.r1.now) (one c.next_header.new.source) _ _ _ (pending_start K c.laws.ensures c.args.version_1 (one c.args.r1.now) (one c.next_header.new.source) _ _ first)))
+    rw (p.1, p.2) (second_fails _ refl (no_first K c.laws.ensures c.args.version_2 (two c.args.r2.now) (two c.next_header-2.new.source) _ c.in_err-second.ensures)
+    (pending_serves K c.laws.ensures c.args.version_1 (one c.args.r1.now) (one c.next_header.new.source) _ _ _ (pending_start K c.laws.ensures c.args.version_1 (one c.args.r1.now) (one c.next_header.new.source) _ _ c.in_ok-first.ensures)))
 
 pub loop-alloc-init : goal.loop-alloc-init
 loop-alloc-init g c =
@@ -32,9 +28,7 @@ loop-alloc-init g c =
     let one = g.S.ShardSource.meaning in
     let two = g.T.ShardSource.meaning in
     merging_start K c.laws.ensures c.args.version_1 c.args.version_2 g.Op.RecordOperation.makes g.Op.RecordOperation.makes_nothing _ _ _ _ _ _ _ _ _ _
-    (subst (λ n. ReadsFollowing (in_version K c.args.version_1) None (one c.args.r1.now) (one c.next_header.new.source) n c.next_header.new.rows_left c.in_ok-first.first) c.from-left_1.ensures c.in_ok-first.ensures)
-    (subst (λ n. ReadsFollowing (in_version K c.args.version_2) None (two c.args.r2.now) (two c.next_header-2.new.source) n c.next_header-2.new.rows_left c.in_ok-second.second) c.from-left_2.ensures c.in_ok-second.ensures)
-    c.new-written.ensures
+    c.in_ok-first.ensures c.in_ok-second.ensures c.new-written.ensures
 
 pub returns-in_err-write : goal.returns-in_err-write
 returns-in_err-write g c =

@@ -7,7 +7,7 @@ use Rattle.xet_shards.proofs.Read.SectionWalks.{nothing_kept, more_kept, all_kep
 use Rattle.xet_shards.proofs.shard_format.read.section_walk.walk_section.Goals as goal
 
 pub loop-found-init : goal.loop-found-init
-loop-found-init g c = rw (c.new-found.ensures.items, c.from-rows_left.ensures) (nothing_kept (in_version g.R.SectionRecord.kind c.args.version) (laws_in g.R.SectionRecord.kind c.laws.ensures c.args.version) g.T.WalkItem.keep _)
+loop-found-init g c = rw c.new-found.ensures.items (nothing_kept (in_version g.R.SectionRecord.kind c.args.version) (laws_in g.R.SectionRecord.kind c.laws.ensures c.args.version) g.T.WalkItem.keep _)
 
 pub loop-found-preserved : goal.loop-found-preserved
 loop-found-preserved g c =
