@@ -1,6 +1,6 @@
 -- What was made is delivered, and why nothing was made is answered.
 use Rattle.std.proofs.Common.{◌≡◌, ◌⊎◌, inl, inr, ℕ, ◌<◌, ◌≤◌, List, ◌++◌, length, drop, map, Option, Ok, Err, Result, MatchResult, sym, ◌∙◌, subst, arith}
-use Rattle.std.specs.Prelude.{IfOk, IfErr, IsOkAnd}
+use Rattle.std.specs.Prelude.{IfOk, IsOkAnd}
 use Rattle.std.specs.FinMap.{values}
 use Rattle.std.specs.declared.vec.Vec.{Vec}
 use Rattle.xet_core_structures.specs.declared.error.CoreError.{CoreError}
@@ -56,16 +56,6 @@ pub outcome_of_fill : (IsMade : List ℕ → Type 0) (IsCause : CoreError → Ty
 outcome_of_fill IsMade IsCause old new room written answer (Ok size) room_is (bytes, made, fills) answers =
     inl (bytes, made, delivers bytes old new room written answer size room_is fills answers)
 outcome_of_fill IsMade IsCause old new room written answer (Err e) room_is (cause, stays) (answers, none) = inr (e, cause, (answers, none, stays))
-
--- what holds if bytes were made is said of them
-pub filled_so : (Holds : Type 0) (IsMade : List ℕ → Type 0) (IsCause : CoreError → Type 0) (old new : List ℕ) (r : Result ℕ CoreError) → IfOk r (λ _. Holds) → FillsWith IsMade IsCause old new r → FillsWith (λ _. Holds) IsCause old new r
-filled_so Holds IsMade IsCause old new (Ok size) holds (bytes, made, fills) = (bytes, holds, fills)
-filled_so Holds IsMade IsCause old new (Err e) holds fills = fills
-
--- the cause that is said of each error is the cause
-pub filled_unless : (IsMade : List ℕ → Type 0) (Any IsCause : CoreError → Type 0) (old new : List ℕ) (r : Result ℕ CoreError) → FillsWith IsMade Any old new r → IfErr r IsCause → FillsWith IsMade IsCause old new r
-filled_unless IsMade Any IsCause old new (Ok size) fills cause = fills
-filled_unless IsMade Any IsCause old new (Err e) (any, stays) cause = (cause, stays)
 
 -- what is said of the size of what was made, and of none, is said of the number that is returned
 pub size_given : (Says : ℕ → Type 0) (room written answer : ℕ) (r : Result ℕ CoreError) → IfOk r Says → Says 0
