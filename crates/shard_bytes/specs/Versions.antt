@@ -78,7 +78,7 @@ pub record HaveSameRecords (bytes out : List ℕ) : Type 0 where
   pub in_2 : out ≡ layout_of files xorbs (record options { version = V2 })
 
 -- the bytes are those of records in version 3, and a file has an auxiliary row
-pub record HaveAuxRows (bytes : List ℕ) : Type 0 where
+pub record HaveNewFiles (bytes : List ℕ) : Type 0 where
   pub files : List MDBFileInfo
   pub xorbs : List MDBXorbInfo
   pub options : LayoutOptions
@@ -98,4 +98,4 @@ abbrev pub NotLaidOutIn : FormatVersion → (List ℕ → Type 0) → (CoreError
 NotLaidOutIn V3 Makes Refuses e = Refuses e
 NotLaidOutIn V2 Makes Refuses e =
     Refuses e
-    ⊎ ((e ≡ InvalidArguments) × ((bytes : List ℕ) × Makes bytes × HaveAuxRows bytes))
+    ⊎ ((e ≡ InvalidArguments) × ((bytes : List ℕ) × Makes bytes × HaveNewFiles bytes))
