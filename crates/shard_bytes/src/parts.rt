@@ -36,16 +36,12 @@ use std::alloc::Global;
 use xet_core_structures::error::{CoreError, Result};
 use xet_core_structures::file_structs::MDBFileInfo;
 use xet_core_structures::merklehash::MerkleHash;
-use xet_core_structures::shard_format::{MDBShardFileFooter, MDBShardFileHeader, MDBShardInfo};
+use xet_core_structures::shard_format::{
+    CHUNK_ROW_SIZE, MDBShardFileFooter, MDBShardFileHeader, MDBShardInfo, START_ROW_SIZE,
+};
 use xet_core_structures::source::MemorySource;
 use xet_core_structures::xorb_structs::MDBXorbInfo;
 use xet_records::record_reader::FormatVersion;
-
-// The size of a row of a file table or a xorb table, in bytes.
-const START_ROW_SIZE: u64 = 12;
-
-// The size of a row of a chunk table, in bytes.
-const CHUNK_ROW_SIZE: u64 = 16;
 
 /// Looks for the first word of a hash in rows of a file table or a xorb table. Puts the rows of the
 /// section at which the records with this word start at the front of `rows`, and returns how many
@@ -75,7 +71,7 @@ fn search_starts(alloc: Global, table: &[u8], word: u64, rows: &mut [u32; 8]) ->
         (RefusesRows table.now word) }
 {
     let mut info = MDBShardInfo::default();
-    info.metadata.file_lookup_num_entry = row_count_of(table, START_ROW_SIZE)?;
+    info.metadata.file_lookup_num_entry = row_count_of(table, START_ROW_SIZE as u64)?;
     let mut source = MemorySource::new(table);
     info.get_file_info_index_by_hash(alloc, &mut source, &hash_with_word(word), rows)
 }
@@ -112,7 +108,7 @@ fn search_chunks(
         (RefusesPlaces table.now) }
 {
     let mut info = MDBShardInfo::default();
-    info.metadata.chunk_lookup_num_entry = row_count_of(table, CHUNK_ROW_SIZE)?;
+    info.metadata.chunk_lookup_num_entry = row_count_of(table, CHUNK_ROW_SIZE as u64)?;
     let mut source = MemorySource::new(table);
     info.get_xorb_info_index_by_chunk(alloc, &mut source, &hash_with_word(word), places)
 }

@@ -18,10 +18,9 @@ use std::alloc::Global;
 use xet_base::fields::{split_u32, split_u64};
 use xet_core_structures::error::{CoreError, Result};
 use xet_core_structures::merklehash::MerkleHash;
+use xet_core_structures::rows::ROW_SIZE;
 use xet_core_structures::set_operations::{FormatVersion, HashRange, SectionRows, merge_rows_into};
-
-// The size of a row of a file table or a xorb table, in bytes.
-const TABLE_ROW_SIZE: usize = 12;
+use xet_core_structures::shard_format::START_ROW_SIZE;
 
 /// Writes what [`merge_range_bytes_into`](crate::merge::merge_range_bytes_into) writes, but of the
 /// records in these rows of the shards alone: those from the rows in `starts` on and before the rows
@@ -109,7 +108,7 @@ fn end_in(alloc: Global, shard: &[u8], to: &Option<MerkleHash>) -> Result<Sectio
 fn last_between(start: u64, end: u64) -> u32
     ensures { result ≡ last_row start end }
 {
-    let rows = end.saturating_sub(start) / 48;
+    let rows = end.saturating_sub(start) / ROW_SIZE as u64;
     rows.saturating_sub(1).min(u64::from(u32::MAX)) as u32
 }
 
@@ -121,7 +120,7 @@ fn table_at(bytes: &[u8], offset: u64, count: u64) -> &[u8]
         return &bytes[bytes.len()..];
     }
     let rest = &bytes[offset as usize..];
-    let size = count.saturating_mul(TABLE_ROW_SIZE as u64);
+    let size = count.saturating_mul(START_ROW_SIZE as u64);
     if size >= rest.len() as u64 {
         return rest;
     }
@@ -143,7 +142,7 @@ fn row_from(table: &[u8], word: u64, last: u32) -> u32
     ensures { (i : ℕ) × IsPlaceOf table.now word last i result }
 {
     let mut low = 0;
-    let mut high = table.len() / TABLE_ROW_SIZE;
+    let mut high = table.len() / START_ROW_SIZE;
     while low < high {
         let middle = low + (high - low) / 2;
         if entry_at(table, middle).0 < word {
@@ -152,7 +151,7 @@ fn row_from(table: &[u8], word: u64, last: u32) -> u32
             high = middle;
         }
     }
-    if low >= table.len() / TABLE_ROW_SIZE {
+    if low >= table.len() / START_ROW_SIZE {
         return last;
     }
     entry_at(table, low).1
@@ -164,7 +163,7 @@ fn entry_at(table: &[u8], index: usize) -> (u64, u32)
     ensures word { word_in table.now index ≡ result.0 }
     ensures row { IsRowIn table.now index result.1 }
 {
-    let (word, rest) = split_u64(&table[index * TABLE_ROW_SIZE..]);
+    let (word, rest) = split_u64(&table[index * START_ROW_SIZE..]);
     let (row, _) = split_u32(rest);
     (word, row)
 }

@@ -11,10 +11,10 @@ pub use ends::header::MDBShardFileHeader;
 pub use ends::info::MDBShardInfo;
 
 /// The size of a row of the file table or the xorb table, in bytes.
-pub(crate) const START_ROW_SIZE: u64 = 12;
+pub const START_ROW_SIZE: usize = 12;
 
 /// The size of a row of the chunk table, in bytes.
-pub(crate) const CHUNK_ROW_SIZE: u64 = 16;
+pub const CHUNK_ROW_SIZE: usize = 16;
 
 /// The size of a shard without records, in bytes: a header, two bookends and a footer.
 pub(crate) const EMPTY_SIZE: u64 = 344;

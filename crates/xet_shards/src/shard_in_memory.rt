@@ -376,8 +376,8 @@ impl MDBInMemoryShard {
         let chunks = self.xorb_rows - xorbs;
         EMPTY_SIZE
             + ROW_SIZE as u64 * (self.file_rows + self.xorb_rows)
-            + START_ROW_SIZE * (files + xorbs)
-            + CHUNK_ROW_SIZE * chunks
+            + START_ROW_SIZE as u64 * (files + xorbs)
+            + CHUNK_ROW_SIZE as u64 * chunks
     }
 }
 

@@ -14,8 +14,8 @@ ghost use Rattle.mdb.specs.Assembly.{AddFails, AddsFiles, AddsPart, AddsXorbs, E
 
 use super::counts::{Counts, sum, with_rows};
 use super::part_ranges::{before_bookend, check_range, range};
-use super::row_numbers::{TABLE_ROW_SIZE, shift_chunk_rows, shift_starts};
-use super::runs::{CHUNK_ROW_SIZE, Extent, merge_runs};
+use super::row_numbers::{shift_chunk_rows, shift_starts};
+use super::runs::{Extent, merge_runs};
 use super::share_of;
 use crate::files::HEADER_SIZE;
 use shard_bytes::check::Section;
@@ -25,7 +25,7 @@ use std::io::{BufWriter, Read, Seek, SeekFrom, Write};
 use xet_core_structures::error::{CoreError, Result};
 use xet_core_structures::merklehash::HMACKey;
 use xet_core_structures::rows::ROW_SIZE;
-use xet_core_structures::shard_format::MDBShardFileFooter;
+use xet_core_structures::shard_format::{CHUNK_ROW_SIZE, MDBShardFileFooter, START_ROW_SIZE};
 use xet_core_structures::xorb_structs::XorbChunkSequenceHeader;
 
 /// The least bytes of a table that are read at once.
@@ -131,7 +131,7 @@ impl<F: Read + Write + Seek + Drop> Assembly<F> {
         self.file_tables.push(table)?;
         self.counts = Counts {
             file_rows: with_rows(self.alloc, before.file_rows, rows, ROW_SIZE as u64)?,
-            files: with_rows(self.alloc, before.files, table.size, TABLE_ROW_SIZE as u64)?,
+            files: with_rows(self.alloc, before.files, table.size, START_ROW_SIZE as u64)?,
             ..before
         };
         Ok(())
@@ -156,7 +156,7 @@ impl<F: Read + Write + Seek + Drop> Assembly<F> {
         self.runs.push(run)?;
         self.counts = Counts {
             xorb_rows: with_rows(self.alloc, before.xorb_rows, rows, ROW_SIZE as u64)?,
-            xorbs: with_rows(self.alloc, before.xorbs, table.size, TABLE_ROW_SIZE as u64)?,
+            xorbs: with_rows(self.alloc, before.xorbs, table.size, START_ROW_SIZE as u64)?,
             chunks: with_rows(self.alloc, before.chunks, run.size, CHUNK_ROW_SIZE as u64)?,
             ..before
         };

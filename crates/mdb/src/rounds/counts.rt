@@ -5,14 +5,12 @@ ghost use Rattle.xet_base.specs.Errors.{IsInvalidShard};
 ghost use Rattle.mdb.specs.Assembly.{CountsRecords, IsFooterOf, AddsSums, FitSums};
 
 use super::part_ranges::invalid_shard;
-use super::row_numbers::TABLE_ROW_SIZE;
-use super::runs::CHUNK_ROW_SIZE;
 use crate::files::HEADER_SIZE;
 use std::alloc::Global;
 use xet_core_structures::error::Result;
 use xet_core_structures::merklehash::HMACKey;
 use xet_core_structures::rows::ROW_SIZE;
-use xet_core_structures::shard_format::MDBShardFileFooter;
+use xet_core_structures::shard_format::{CHUNK_ROW_SIZE, MDBShardFileFooter, START_ROW_SIZE};
 
 /// The numbers of rows of a shard's sections and tables, and its sums of bytes.
 #[derive(Clone, Copy, Debug, PartialEq, Eq)]
@@ -72,12 +70,12 @@ impl Counts {
         ensures { IsFooterOf self.now key expiry result }
     {
         let row_size = ROW_SIZE as u64;
-        let table_row_size = TABLE_ROW_SIZE as u64;
+        let start_row_size = START_ROW_SIZE as u64;
         let file_info_offset = HEADER_SIZE as u64;
         let xorb_info_offset = file_info_offset + row_size * u64::from(self.file_rows) + row_size;
         let file_lookup_offset = xorb_info_offset + row_size * u64::from(self.xorb_rows) + row_size;
-        let xorb_lookup_offset = file_lookup_offset + table_row_size * u64::from(self.files);
-        let chunk_lookup_offset = xorb_lookup_offset + table_row_size * u64::from(self.xorbs);
+        let xorb_lookup_offset = file_lookup_offset + start_row_size * u64::from(self.files);
+        let chunk_lookup_offset = xorb_lookup_offset + start_row_size * u64::from(self.xorbs);
         let chunk_row_size = CHUNK_ROW_SIZE as u64;
         MDBShardFileFooter {
             file_info_offset,

@@ -9,13 +9,10 @@ ghost use Rattle.xet_shards.specs.Write.Tables.{start_row, chunk_table_row_bytes
 ghost use Rattle.xet_shards.specs.declared.shard_format.write.xorb_writer.ChunkTableRow.{ChunkTableRow};
 ghost use Rattle.mdb.specs.Assembly.{NumberedRow, row_bytes, row_later, IsRowOf};
 
-use super::runs::CHUNK_ROW_SIZE;
 use std::alloc::Global;
 use xet_base::fields::{put_u32, split_u32};
 use xet_core_structures::error::{CoreError, Result};
-
-/// The size of a row of the file table and of the xorb table, in bytes.
-pub const TABLE_ROW_SIZE: usize = 12;
+use xet_core_structures::shard_format::{CHUNK_ROW_SIZE, START_ROW_SIZE};
 
 /// The offset of the row number in a row of any table, in bytes.
 const NUMBER_OFFSET: usize = 8;
@@ -28,7 +25,7 @@ pub fn shift_starts(alloc: Global, rows: &mut [u8], first: u32) -> Result<()>
         (λ e. IsInvalidShard e × (All (λ start. first + start.1 < 2 ^ 32) starts → ⊥)) }
     ensures causes { IfErr result IsInvalidShard }
 {
-    shift_row_numbers(alloc, rows, TABLE_ROW_SIZE, first)
+    shift_row_numbers(alloc, rows, START_ROW_SIZE, first)
 }
 
 /// The same of a chunk table.

@@ -12,10 +12,8 @@ use std::collections::BinaryHeap;
 use std::io;
 use std::io::{Read, Seek, SeekFrom, Write};
 use xet_base::fields::{split_u32, split_u64};
+use xet_core_structures::shard_format::CHUNK_ROW_SIZE;
 use xet_shards::shard_writer::ChunkTableRow;
-
-/// The size of a row of the chunk table, in bytes.
-pub const CHUNK_ROW_SIZE: usize = 16;
 
 /// A range of the bytes of a file.
 #[derive(Clone, Copy, Debug, PartialEq, Eq)]

@@ -12,10 +12,8 @@ ghost use Rattle.shard_bytes.specs.Steps.Checking.{IsWrittenTable, ReadsRows, Is
 use std::alloc::Global;
 use xet_base::fields::{split_u32, split_u64};
 use xet_core_structures::error::{CoreError, Result};
+use xet_core_structures::shard_format::CHUNK_ROW_SIZE;
 use xet_shards::shard_writer::ChunkTableRow;
-
-/// The size of a row, in bytes.
-const ROW_SIZE: usize = 16;
 
 /// Whether the chunk table `found` has the rows of the one that was written, in any order in which
 /// their first words ascend. `OutOfMemory` if an allocation fails.
@@ -42,9 +40,9 @@ fn rows_of(alloc: Global, table: &[u8]) -> Result<Vec<ChunkTableRow>>
     ensures ok { IfOk result (λ rows. ReadsRows table.now rows.items) }
     ensures causes { IfErr result (λ e. e ≡ CoreError.OutOfMemory) }
 {
-    let mut rows = Vec::with_capacity(alloc, table.len() / ROW_SIZE)?;
+    let mut rows = Vec::with_capacity(alloc, table.len() / CHUNK_ROW_SIZE)?;
     let mut rest = table;
-    while rest.len() >= ROW_SIZE {
+    while rest.len() >= CHUNK_ROW_SIZE {
         let (row, after) = split_row(rest);
         rows.push(row)?;
         rest = after;

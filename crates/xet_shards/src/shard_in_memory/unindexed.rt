@@ -151,8 +151,8 @@ impl UnindexedShard {
         let chunks = self.xorb_rows.saturating_sub(xorbs);
         let xorb_bytes = self.xorb_rows.saturating_mul(ROW_SIZE as u64);
         let table_bytes = chunks
-            .saturating_mul(CHUNK_ROW_SIZE)
-            .saturating_add(xorbs.saturating_mul(START_ROW_SIZE));
+            .saturating_mul(CHUNK_ROW_SIZE as u64)
+            .saturating_add(xorbs.saturating_mul(START_ROW_SIZE as u64));
         let size = self.files.shard_file_size();
         size.saturating_add(xorb_bytes).saturating_add(table_bytes) as usize
     }

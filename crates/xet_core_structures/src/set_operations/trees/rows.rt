@@ -91,7 +91,7 @@ fn may_end<R: SectionRecord>(section: &[u8], span: RowSpan, range: &HashRange) -
 fn offset_of(row: u32) -> u64
     ensures { result ≡ 48 * row }
 {
-    48 * u64::from(row)
+    ROW_SIZE as u64 * u64::from(row)
 }
 
 // Whether a bookend is at a row of a section.
@@ -168,6 +168,6 @@ fn place_next<'a, R: SectionRecord>(
     }
     let rows = bytes_from(bytes, ROW_SIZE as u64);
     R::skip_rows_after::<OfSource, MemorySource<'_>>(&mut source, header)?;
-    let after = bytes_from(rows, 48 * R::rows_after(&header));
+    let after = bytes_from(rows, ROW_SIZE as u64 * R::rows_after(&header));
     Ok((PlacedRecord { header, rows }, after))
 }

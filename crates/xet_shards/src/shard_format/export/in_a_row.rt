@@ -19,12 +19,12 @@ use super::chunk_merging::write_merged_rows;
 use super::gathering::{GatheredParts, Totals, gather};
 use super::part_order::check_order;
 use super::part_split::split_shard;
-use super::section_parts::{TABLE_ROW_SIZE, write_rows, write_tables};
-use crate::shard_format::CHUNK_ROW_SIZE;
+use super::section_parts::{write_rows, write_tables};
 use crate::shard_format::ends::footer::MDBShardFileFooter;
 use crate::shard_format::ends::header::{HEADER_SIZE, MDBShardFileHeader};
 use crate::shard_format::ends::info::MDBShardInfo;
 use crate::shard_format::write::written::{WrittenFiles, WrittenSection, WrittenXorbs};
+use crate::shard_format::{CHUNK_ROW_SIZE, START_ROW_SIZE};
 use std::alloc::Global;
 use std::io::Write;
 use xet_base::error::{CoreError, Result};
@@ -194,11 +194,11 @@ pub(super) fn footer_of_parts(totals: &Totals, chunks: u32, key: HMACKey) -> MDB
         → IsFooterOf totals.now result }
 {
     let row_size = ROW_SIZE as u64;
-    let table_row_size = TABLE_ROW_SIZE as u64;
+    let start_row_size = START_ROW_SIZE as u64;
     let xorb_info_offset = HEADER_SIZE + row_size * u64::from(totals.file_rows) + row_size;
     let file_lookup_offset = xorb_info_offset + row_size * u64::from(totals.xorb_rows) + row_size;
-    let xorb_lookup_offset = file_lookup_offset + table_row_size * u64::from(totals.files);
-    let chunk_lookup_offset = xorb_lookup_offset + table_row_size * u64::from(totals.xorbs);
+    let xorb_lookup_offset = file_lookup_offset + start_row_size * u64::from(totals.files);
+    let chunk_lookup_offset = xorb_lookup_offset + start_row_size * u64::from(totals.xorbs);
     MDBShardFileFooter {
         file_info_offset: HEADER_SIZE,
         xorb_info_offset,
@@ -212,7 +212,7 @@ pub(super) fn footer_of_parts(totals: &Totals, chunks: u32, key: HMACKey) -> MDB
         stored_bytes_on_disk: totals.stored_bytes_on_disk,
         materialized_bytes: totals.materialized_bytes,
         stored_bytes: totals.stored_bytes,
-        footer_offset: chunk_lookup_offset + CHUNK_ROW_SIZE * u64::from(chunks),
+        footer_offset: chunk_lookup_offset + CHUNK_ROW_SIZE as u64 * u64::from(chunks),
         ..MDBShardFileFooter::default()
     }
 }

@@ -5,7 +5,7 @@ ghost use Rattle.xet_shards.specs.Export.InARow.{ShardPart, bytes_of_part, IsPar
 ghost use Rattle.xet_shards.specs.Steps.InARow.{HasRanges, IsSplit, IsSplitOf};
 ghost use Rattle.xet_base.specs.declared.merklehash.DataHash.{DataHash};
 
-use super::section_parts::TABLE_ROW_SIZE;
+use crate::shard_format::START_ROW_SIZE;
 use crate::shard_format::ends::footer::MDBShardFileFooter;
 use crate::shard_format::ends::header::HEADER_SIZE;
 use crate::shard_format::ends::info::MDBShardInfo;
@@ -46,7 +46,7 @@ fn table_of(bytes: &[u8], from: u64, rows: u64, to: u64) -> Option<&[u8]>
         (λ part. (to ≡ from + 12 * rows) × (to ≤ length bytes.now)
         × (part.now ≡ slice_range bytes.now from to)) }
 {
-    let size = rows.checked_mul(TABLE_ROW_SIZE as u64)?;
+    let size = rows.checked_mul(START_ROW_SIZE as u64)?;
     if from.checked_add(size)? != to {
         return None;
     }

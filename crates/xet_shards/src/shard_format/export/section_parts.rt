@@ -10,15 +10,13 @@ ghost use Rattle.xet_shards.specs.Write.Ranges.{start_later};
 ghost use Rattle.xet_shards.specs.Write.Section.{total_rows};
 ghost use Rattle.xet_shards.specs.Write.Tables.{start_row, table_bytes};
 
+use crate::shard_format::START_ROW_SIZE;
 use std::alloc::Global;
 use std::io::Write;
 use xet_base::error::{CoreError, Result};
 use xet_base::fields::{put_u32, put_u64, split_u32, split_u64};
 use xet_base::serialization_utils::write_bytes;
 use xet_records::record_reader::SectionRecord;
-
-/// The bytes of a row of the file table or of the xorb table.
-pub(in crate::shard_format) const TABLE_ROW_SIZE: usize = 12;
 
 /// A section of one shard: its rows without the bookend, their number, and the table of its
 /// records.
@@ -93,7 +91,7 @@ fn write_later<W: Write>(alloc: Global, writer: &mut W, table: &[u8], first: u32
     ensures causes { IfErr result IsBadPart }
 {
     let mut rest = table;
-    while rest.len() >= TABLE_ROW_SIZE {
+    while rest.len() >= START_ROW_SIZE {
         let (word, after) = split_u64(rest);
         let (row, after) = split_u32(after);
         write_start(writer, word, add_u32(alloc, row, first)?)?;
@@ -108,7 +106,7 @@ fn write_start<W: Write>(writer: &mut W, word: u64, row: u32) -> Result<()>
         (Appends (W.contents writer.old) (W.contents writer.new) (start_row (word, row))) }
     ensures causes { IfErr result IsWriteError }
 {
-    let mut bytes = [0u8; TABLE_ROW_SIZE];
+    let mut bytes = [0u8; START_ROW_SIZE];
     let at = put_u64(&mut bytes, 0, word);
     put_u32(&mut bytes, at, row);
     write_bytes(writer, &bytes)?;

@@ -107,7 +107,7 @@ fn seek_to_row<S: ShardSource>(alloc: Global, source: &mut S, offset: u64, row: 
         (λ _. SeeksToRow offset row (S.meaning source.old) (S.meaning source.new))
         (NotSought offset row (S.meaning source.old) (S.meaning source.new)) }
 {
-    let Some(start) = offset.checked_add(48 * row) else {
+    let Some(start) = offset.checked_add(ROW_SIZE as u64 * row) else {
         return Err(CoreError::InvalidShard(String::new(alloc)));
     };
     source.seek_to(start)?;

@@ -15,6 +15,7 @@ use xet_base::error::{CoreError, Result};
 use xet_base::merklehash::MerkleHash;
 use xet_base::source::ShardSource;
 use xet_records::file_structs::{FileDataSequenceHeader, FileMetadataExt, MDBFileInfo};
+use xet_records::rows::ROW_SIZE;
 
 /// A file's hash, the byte ranges of its segments and of its verification rows, each as the first
 /// byte and the one after the last, and the SHA-256 of its metadata row.
@@ -70,7 +71,7 @@ impl WalkItem<MDBFileInfo> for FileRanges {
         header: &FileDataSequenceHeader,
         metadata_ext: Option<FileMetadataExt>,
     ) -> FileRanges {
-        ranges_after(offset + 48, header, metadata_ext)
+        ranges_after(offset + ROW_SIZE as u64, header, metadata_ext)
     }
 }
 
@@ -83,7 +84,7 @@ fn ranges_after(
     requires { start + 48 * rows_after header.now < 2 ^ 64 }
     ensures { result ≡ ranges_after start header.now metadata_ext }
 {
-    let bytes = 48 * u64::from(header.num_entries);
+    let bytes = ROW_SIZE as u64 * u64::from(header.num_entries);
     let end = start + bytes;
     let verification = if header.contains_verification() {
         Some((end, end + bytes))

@@ -18,6 +18,7 @@ ghost use Rattle.xet_shards.specs.Steps.TableReading.{ReadsNextRow};
 ghost use Rattle.xet_shards.specs.Write.WrittenShard.{IsBytesWithInfo, ReadsBack};
 
 use crate::shard_format::ends::info::MDBShardInfo;
+use crate::shard_format::{CHUNK_ROW_SIZE, START_ROW_SIZE};
 use std::alloc::Global;
 use xet_base::error::{CoreError, Result};
 use xet_base::fields::{split_u32, split_u64};
@@ -96,7 +97,7 @@ impl TableRow for (u64, u32) {
     ghost has_bytes = { Prim.search rules };
 
     fn read<S: ShardSource>(source: &mut S) -> Result<(u64, u32)> {
-        let mut bytes = [0u8; 12];
+        let mut bytes = [0u8; START_ROW_SIZE];
         read_full(source, &mut bytes)?;
         let (word, rest) = split_u64(&bytes);
         let (row, _) = split_u32(rest);
@@ -114,7 +115,7 @@ impl TableRow for (u64, (u32, u32)) {
     ghost has_bytes = { Prim.search rules };
 
     fn read<S: ShardSource>(source: &mut S) -> Result<(u64, (u32, u32))> {
-        let mut bytes = [0u8; 16];
+        let mut bytes = [0u8; CHUNK_ROW_SIZE];
         read_full(source, &mut bytes)?;
         let (word, rest) = split_u64(&bytes);
         let (row, rest) = split_u32(rest);

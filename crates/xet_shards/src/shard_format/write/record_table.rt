@@ -5,6 +5,7 @@ ghost use Rattle.xet_shards.specs.Write.Written.{AddsRecord};
 ghost use Rattle.xet_records.specs.Limits.{MAX_ROWS};
 
 use super::written::RecordTable;
+use crate::shard_format::START_ROW_SIZE;
 use std::alloc::Global;
 use xet_base::error::{CoreError, Result};
 use xet_base::fields::{put_u32, put_u64};
@@ -41,7 +42,7 @@ impl RecordTable {
         ensures kept { OnErr result (self.new.rows ≡ self.old.rows) }
         ensures causes { IfErr result (λ e. e ≡ CoreError.OutOfMemory) }
     {
-        let mut row = [0u8; 12];
+        let mut row = [0u8; START_ROW_SIZE];
         let at = put_u64(&mut row, 0, word);
         put_u32(&mut row, at, self.rows as u32);
         self.bytes.extend_from_slice(&row)?;

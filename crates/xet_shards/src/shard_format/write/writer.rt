@@ -204,7 +204,7 @@ fn write_block<W: Write>(writer: &mut W, rows: &[ChunkTableRow]) -> Result<()>
         (flat_map chunk_table_row_bytes rows.now)) }
     ensures causes { IfErr result IsWriteError }
 {
-    let mut bytes = [0u8; 16 * BLOCK_ROWS];
+    let mut bytes = [0u8; CHUNK_ROW_SIZE * BLOCK_ROWS];
     let mut end = 0;
     for row in rows {
         end = put(&mut bytes, end, &row.to_bytes());
@@ -225,12 +225,13 @@ fn footer_of(
         → result ≡ footer_value rs xs options.now }
 {
     let row_size = ROW_SIZE as u64;
+    let start_row_size = START_ROW_SIZE as u64;
     let xorb_info_offset = HEADER_SIZE + row_size * files.table.rows + row_size;
     let file_lookup_offset = xorb_info_offset + row_size * xorbs.table.rows + row_size;
     let file_starts = rows_if_included(options.file_table, files.table.records);
-    let xorb_lookup_offset = file_lookup_offset + START_ROW_SIZE * file_starts;
+    let xorb_lookup_offset = file_lookup_offset + start_row_size * file_starts;
     let xorb_starts = rows_if_included(options.xorb_table, xorbs.table.records);
-    let chunk_lookup_offset = xorb_lookup_offset + START_ROW_SIZE * xorb_starts;
+    let chunk_lookup_offset = xorb_lookup_offset + start_row_size * xorb_starts;
     // Each row of the xorb section that is no header is a chunk.
     let chunks = rows_if_included(options.chunk_table, xorbs.table.rows - xorbs.table.records);
     let footer = MDBShardFileFooter {
@@ -248,7 +249,7 @@ fn footer_of(
         stored_bytes_on_disk: xorbs.stored_bytes_on_disk,
         materialized_bytes: files.materialized_bytes,
         stored_bytes: xorbs.stored_bytes,
-        footer_offset: chunk_lookup_offset + CHUNK_ROW_SIZE * chunks,
+        footer_offset: chunk_lookup_offset + CHUNK_ROW_SIZE as u64 * chunks,
         ..MDBShardFileFooter::default()
     };
     footer.widths();

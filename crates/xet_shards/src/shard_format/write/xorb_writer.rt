@@ -15,6 +15,7 @@ ghost use Rattle.xet_shards.specs.Write.Written.{AddsRecord, HasWrittenFor, HasW
 ghost use Rattle.xet_records.specs.Limits.{MAX_ROWS};
 
 use super::written::{RecordTable, WrittenSection, WrittenXorbs};
+use crate::shard_format::CHUNK_ROW_SIZE;
 use std::alloc::Global;
 use std::io::Write;
 use xet_base::error::{CoreError, Result};
@@ -34,10 +35,10 @@ pub struct ChunkTableRow {
 
 impl ChunkTableRow {
     /// The bytes of the row.
-    pub fn to_bytes(&self) -> [u8; 16]
+    pub fn to_bytes(&self) -> [u8; CHUNK_ROW_SIZE]
         ensures { result ≡ chunk_table_row_bytes self.now }
     {
-        let mut bytes = [0u8; 16];
+        let mut bytes = [0u8; CHUNK_ROW_SIZE];
         let at = put_u64(&mut bytes, 0, self.word);
         let at = put_u32(&mut bytes, at, self.row);
         put_u32(&mut bytes, at, self.index);
