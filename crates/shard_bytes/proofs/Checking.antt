@@ -188,20 +188,6 @@ module _ (bytes : List ℕ) (info : MDBShardInfo) (written : List ℕ) (footer :
   pub table_same : AlikeTable → SameTable → new ≡ old → AddsTable bytes info written footer old new
   table_same alike same is = adds_none SameTable AlikeTable IsSaid old new same alike (never_said alike same) is
 
-  pub table_said : (f : Finding) → (¬ SameTable) × (((f ≡ Reordered) × AlikeTable) ⊎ ((f ≡ Differs ChunkTable) × (¬ AlikeTable))) → new ≡ old ++ f ∷ [] → AddsTable bytes info written footer old new
-  table_said f (other, inl (is, alike)) added =
-      adds_one SameTable AlikeTable IsSaid f old new (inr (is, alike, other)) only (λ note. alike) added
-    where
-      only : (g : Finding) → IsSaid g → g ≡ f
-      only g (inl (so, differs)) = absurd (differs alike)
-      only g (inr (so, there, other_too)) = so ∙ sym is
-  table_said f (other, inr (is, differs)) added =
-      adds_one SameTable AlikeTable IsSaid f old new (inl (is, differs)) only (λ note. absurd (subst IsNote is note)) added
-    where
-      only : (g : Finding) → IsSaid g → g ≡ f
-      only g (inl (so, differs_too)) = so ∙ sym is
-      only g (inr (so, alike, other_too)) = absurd (differs alike)
-
 -- all parts and the size
 module _ (bytes : List ℕ) (info : MDBShardInfo) (written : List ℕ) (footer : MDBShardFileFooter) where
   abbrev Same : Part → Type 0

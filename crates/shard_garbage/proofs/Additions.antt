@@ -1,7 +1,6 @@
 -- What is added to a list, step by step.
-use Rattle.std.proofs.Common.{◌≡◌, ◌↔◌, ◌⊎◌, inl, inr, ⊎_elim, ℕ, ◌+◌, ◌<◌, ◌≤◌, List, [], ◌∷◌, ◌++◌, length, get_or, Option, None, Some, refl, sym, ap, ◌∙◌, subst, arith}
+use Rattle.std.proofs.Common.{◌≡◌, ◌↔◌, ◌⊎◌, inl, inr, ⊎_elim, ℕ, ◌+◌, ◌<◌, ◌≤◌, List, length, get_or, Option, None, Some, refl, sym, ap, ◌∙◌, subst, arith}
 use Rattle.std.specs.Prelude.{Contains, slice_get}
-use Rattle.std.proofs.lemmas.List.Elements.{Contains-push, Contains-push_cases, Contains-append_left}
 use Rattle.std.proofs.lemmas.Option.{none-some, same_Some, slice_get_within, slice_get-get_or, get_or_from_slice_get, slice_get_read}
 use Rattle.xet_base.specs.declared.merklehash.DataHash.{DataHash}
 use Rattle.shard_garbage.specs.declared.finding.Fault.{Fault}
@@ -30,23 +29,7 @@ module _ {X : Type 0} where
     of x (inl there) = ⊎_elim (λ before. inl before) (λ is. inr (inl is)) (first.each x there)
     of x (inr is) = inr (inr is)
 
--- a fault that was pushed, or none
-pub found_pushed : (hash : DataHash) (fault : Fault) (old : List Finding) → Adds (IsFound hash (Some fault)) old (old ++ record { xorb = hash; fault = fault } ∷ [])
-found_pushed hash fault old = record {
-  kept = λ f has. Contains-append_left old (next ∷ []) f has;
-  added = λ f is. subst (Contains (old ++ next ∷ [])) (same f is) (Contains-push old next);
-  each = λ f has. from f (Contains-push_cases old next f has);
-} where
-  next : Finding
-  next = record { xorb = hash; fault = fault }
-
-  same : (f : Finding) → IsFound hash (Some fault) f → record { xorb = hash; fault = fault } ≡ f
-  same f is = λ k. record { xorb = sym is.0 k; fault = same_Some fault f.fault is.1 k }
-
-  from : (f : Finding) → Contains old f ⊎ (record { xorb = hash; fault = fault } ≡ f) → Contains old f ⊎ IsFound hash (Some fault) f
-  from f (inl has) = inl has
-  from f (inr is) = inr (subst (IsFound hash (Some fault)) is (refl, refl))
-
+-- nothing is found without a fault
 pub found_none : (hash : DataHash) (old : List Finding) → Adds (IsFound hash None) old old
 found_none hash old = adds_none (IsFound hash None) old (λ f is. none-some f.fault is.1)
 

@@ -27,9 +27,6 @@ module _ (range : HashRange) (file : MDBFileInfo) where
     pub each : (s : Segment) → Contains new s → Contains old s ⊎ IsAmong file s
 
   module _ (old : List Segment) where
-    pub adding_start : IsAdding 0 old old
-    adding_start = record { kept = λ s has. has; added = λ s low is within. absurd (omega (arith, low)); each = λ s has. inl has }
-
     module _ (index : ℕ) (now new : List Segment) (adding : IsAdding index old now) (row : FileDataSequenceEntry) (at : slice_get file.segments index ≡ Some row) where
       next : Segment
       next = segment_at file index row

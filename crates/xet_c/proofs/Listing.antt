@@ -44,9 +44,6 @@ module _ {L I R : Type 0} (count : L → ℕ) (IsListed : L → List I → R →
   abbrev pub HasListed : List L → List I → ℕ → List I → List R → Type 0
   HasListed ls items i rest rs = (front : List I) × (items ≡ front ++ rest) × AreListed count IsListed (take i ls) front rs
 
-  pub none_listed : (ls : List L) (items : List I) → HasListed ls items 0 items []
-  none_listed ls items = ([], refl, refl)
-
   pub more_listed : (ls : List L) (items : List I) (i : ℕ) (rest own after : List I) (rs new : List R) (d : L) (r : R) → i < length ls → HasListed ls items i rest rs → count (get_or ls i d) ≤ length rest
       → own ≡ take (count (get_or ls i d)) rest → after ≡ drop (count (get_or ls i d)) rest → IsListed (get_or ls i d) own r → new ≡ rs ++ r ∷ [] → HasListed ls items (i + 1) after new
   more_listed ls items i rest own after rs new d r below (front, split, so_far) fits own_is after_is one is =
@@ -57,11 +54,6 @@ module _ {L I R : Type 0} (count : L → ℕ) (IsListed : L → List I → R →
             (subst (AreListed count IsListed (take i ls ++ l ∷ []) (front ++ own)) (sym is)
             (listed_push (take i ls) front own rs l r so_far (sym (ap length own_is ∙ length-take-le (count l) rest fits)) one)),
       )
-
-  pub all_listed : (ls : List L) (items : List I) (rest : List I) (rs : List R) → HasListed ls items (length ls) rest rs → rest ≡ [] → AreListed count IsListed ls items rs
-  all_listed ls items rest rs (front, split, listed) none =
-      subst (λ xs. AreListed count IsListed xs items rs) (take-length ls)
-      (subst (λ xs. AreListed count IsListed (take (length ls) ls) xs rs) (sym (split ∙ ap (λ xs. front ++ xs) none ∙ append_nil front)) listed)
 
   -- too few items for the next record
   pub too_few : (ls : List L) (items : List I) (i : ℕ) (rest : List I) (rs : List R) (d : L) → i < length ls → HasListed ls items i rest rs → length rest < count (get_or ls i d) → ¬ AddUp count ls items

@@ -234,8 +234,3 @@ none_found inputs found all none = record {
 pub or_no_memory : {A : Type 0} (Is : A → Type 0) (inputs : List (List ℕ)) (r : Result A CoreError) → IfOk r Is → IfErr r (λ e. e ≡ OutOfMemory) → MatchResult r Is (InputsRefusal inputs)
 or_no_memory Is inputs (Ok x) is cause = is
 or_no_memory Is inputs (Err e) is cause = inl cause
-
--- after one kind of errors another may come
-pub or_refused : {A : Type 0} (Is : A → Type 0) (P Q : CoreError → Type 0) (r : Result A CoreError) → MatchResult r Is Q → MatchResult r Is (λ e. P e ⊎ Q e)
-or_refused Is P Q (Ok x) is = is
-or_refused Is P Q (Err e) is = inr is

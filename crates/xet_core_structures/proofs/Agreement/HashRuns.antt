@@ -117,9 +117,6 @@ module _ {H R : Type 0} (K : RecordKind H R) where
     pub each : (p : Place) → Contains new p → Contains old p ⊎ ((p.input ≡ input) × IsIn K list p)
 
   module _ (input : ℕ) (list : List (PlacedRecord H)) (old : List Place) where
-    adding_start : IsAdding input list 0 old old
-    adding_start = record { kept = λ p has. has; added = λ p is low here. absurd (omega (arith, low)); each = λ p has. inl has }
-
     module _ (index : ℕ) (new : List Place) (adding : IsAdding input list index old new) where
       pub adding_on : (placed : PlacedRecord H) (hash : DataHash) → slice_get list index ≡ Some placed → hash ≡ hash_at K placed → IsAdding input list (index + 1) old (new ++ record { hash = hash; input = input; index = index } ∷ [])
       adding_on placed hash at hash_is = record {
@@ -154,9 +151,6 @@ module _ {H R : Type 0} (K : RecordKind H R) where
     pub each : (p : Place) → Contains places p → IsPlace K lists p
 
   module _ (lists : List (List (PlacedRecord H))) where
-    no_places : HasPlacesUpTo lists 0 []
-    no_places = record { all = λ p low is. absurd (omega (arith, low)); each = λ p has. absurd (omega (arith, has.1)) }
-
     pub places_on : (n : ℕ) (list : List (PlacedRecord H)) (old new : List Place) → slice_get lists n ≡ Some list → HasPlacesUpTo lists n old → AddsPlaces K n list old new → HasPlacesUpTo lists (n + 1) new
     places_on n list old new at has adds = record {
       all = λ p low is. which p is (below_or_at p.input n low);

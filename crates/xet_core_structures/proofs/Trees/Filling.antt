@@ -40,9 +40,6 @@ use Rattle.xet_core_structures.specs.Steps.Parts.{MayBeWritten}
 use Rattle.xet_core_structures.specs.Steps.Placed.{Places, PlacesAll}
 use Rattle.xet_core_structures.proofs.Trees.PlacedUnions.{HasFirst, first_placed, none_placed, header_placed, stored_placed}
 
-puts_nothing : (old : List ℕ) (at : ℕ) → Puts old old at at []
-puts_nothing old at = record { end_is = omega arith; front = sym (append-nil (take at old)); rest = refl }
-
 pub puts_then : (old mid new : List ℕ) (at m end : ℕ) (xs ys : List ℕ) → Puts old mid at m xs → Puts mid new m end ys → Puts old new at end (xs ++ ys)
 puts_then old mid new at m end xs ys first second = record {
   end_is = omega (arith, first.end_is, second.end_is, length-append xs ys);
@@ -150,9 +147,6 @@ module _ {H R : Type 0} (K : RecordKind H R) where
     pub size : end ≡ at + 48 * total_rows K front
 
 module _ {H R : Type 0} (K : RecordKind H R) (laws : KindLaws K) where
-  putting_start : (rs : List R) (ps : List (PlacedRecord H)) (old : List ℕ) (at : ℕ) → PlacesAll K ps rs → IsPutting K rs ps old old at at
-  putting_start rs ps old at places = record { front = []; rest = rs; is = refl; places = places; puts = puts_nothing old at; size = omega arith }
-
   -- header and rows of a record
   pub record_put : (old mid new : List ℕ) (at m end : ℕ) (p : PlacedRecord H) (r : R) → Places K p r → Puts old mid at m (K.header_bytes p.header) → Puts mid new m end (K.bytes_after r) → Puts old new at end (K.record_bytes r)
   record_put old mid new at m end p r places first second =

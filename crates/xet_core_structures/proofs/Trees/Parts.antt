@@ -34,7 +34,6 @@ use Rattle.xet_core_structures.specs.Records.ByteUnion.{IsEitherFile, IsEitherXo
 use Rattle.xet_core_structures.specs.TwoShards.ByteResults.{keyed_layout, keyed_info, key_of, HaveResult, HaveNoUnionOf, HaveNoUnion, InputRefusal, UnitesBytes, BytesRefusal}
 use Rattle.xet_core_structures.specs.Steps.ByteResults.{Records, HaveInputs, AreCombined}
 use Rattle.xet_core_structures.specs.Records.RecordPairs.{key_of_record, with_hash, Combines}
-use Rattle.xet_core_structures.specs.Trees.Filling.{FillsWith}
 use Rattle.xet_core_structures.specs.Records.ShardContents.{IsSectionOf, HasFiles, files_at, xorbs_at}
 use Rattle.xet_core_structures.specs.Steps.ShardContents.{IsListOf, HoldsLists}
 use Rattle.xet_core_structures.specs.Trees.MergeTrees.{TreeWrites, TreeRefusal}
@@ -261,9 +260,3 @@ pub tree_written : {Z : Type 0} (inputs : List (List ℕ)) (plan : MergePlan) (b
     → MatchResult r (λ written. TreeWrites inputs plan written.items) (TreeRefusal inputs plan)
 tree_written inputs plan bytes (Ok written) writes is = subst (TreeWrites inputs plan) (sym is) writes
 tree_written inputs plan bytes (Err e) writes is = subst (TreeRefusal inputs plan) (sym is) (no_memory_after inputs plan bytes writes)
-
--- the same of bytes that are put into a slice
-pub tree_filled : (inputs : List (List ℕ)) (plan : MergePlan) (bytes old new : List ℕ) (r : Result ℕ CoreError) → TreeWrites inputs plan bytes → FillsWith (λ made. made ≡ bytes) (λ e. e ≡ OutOfMemory) old new r
-    → FillsWith (TreeWrites inputs plan) (TreeRefusal inputs plan) old new r
-tree_filled inputs plan bytes old new (Ok size) writes (made, same, fills) = (made, subst (TreeWrites inputs plan) (sym same) writes, fills)
-tree_filled inputs plan bytes old new (Err e) writes (is, stays) = (subst (TreeRefusal inputs plan) (sym is) (no_memory_after inputs plan bytes writes), stays)

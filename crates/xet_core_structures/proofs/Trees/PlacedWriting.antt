@@ -1,7 +1,7 @@
 -- The turns of the loop that writes a section of records that stay where they are.
-use Rattle.std.proofs.Common.{◌≡◌, ℕ, ◌+◌, ◌≤◌, List, [], ◌∷◌, ◌++◌, flat_map, Option, refl, sym, ap, ◌∙◌, subst, arith, append-nil, append_assoc}
+use Rattle.std.proofs.Common.{◌≡◌, ℕ, ◌+◌, ◌≤◌, List, [], ◌∷◌, ◌++◌, flat_map, Option, sym, ap, ◌∙◌, subst, arith, append-nil, append_assoc}
 use Rattle.std.specs.Io.KnownBytes.{Appends}
-use Rattle.std.proofs.KnownBytes.{Appends-nil, Appends-trans}
+use Rattle.std.proofs.KnownBytes.{Appends-trans}
 use Rattle.std.proofs.lemmas.Grind.{flat_map-append}
 use Rattle.std.proofs.lemmas.List.Sums.{sum_by-append, sum_by-cons}
 use Rattle.xet_base.specs.Source.{Source, ReadsBytes, bytes_left}
@@ -50,9 +50,6 @@ module _ {H R : Type 0} (K : RecordKind H R) (laws : KindLaws K) where
           returned = read.returned;
         };
       }) here
-
-  writing_start : (rs : List R) (ps : List (PlacedRecord H)) (Written : List R → Type 0) (old : Option (List ℕ)) → PlacesAll K ps rs → Written [] → IsWriting K rs ps Written old old
-  writing_start rs ps Written old places written = record { front = []; rest = rs; is = refl; places = places; written = written; bytes = Appends-nil old }
 
   module _ (rs : List R) (p : PlacedRecord H) (ps : List (PlacedRecord H)) (Before : List R → Type 0) (start old : Option (List ℕ)) (writing : IsWriting K rs (p ∷ ps) Before start old) where
     pub first : HasFirst K laws p ps writing.rest

@@ -216,8 +216,5 @@ module _ {H R : Type 0} (K : RecordKind H R) (laws : KindLaws K) (version : Form
             subst (λ t. t) (λ i. RowsFollow W range (Some ((ap K.header_of same.0 ∙ step.header) i)) (left_is i) (same.1 i) rs) follow,
           )
 
-    pub rows_fewer : (left' : ℕ) (p : PlacedRecord H) (rest' : List ℕ) → PlacesNext K version range before left left' rest p rest' → left' + 1 ≤ left
-    rows_fewer left' p rest' step = omega (arith, step.rows, rows_of_next W (laws_in K laws version) range before left rest step.found rest' step.next)
-
     pub walk_ends : left ≡ 0 → (found : List R) × RowsFollow W range None count bytes found × PlacesAll K placed found
     walk_ends none = (walking.found, subst (λ l. RowsFollow W range None count bytes l) (append-nil walking.found) (walking.on [] none), walking.places)

@@ -97,9 +97,6 @@ module _ {H R : Type 0} (K : RecordKind H R) (laws : KindLaws K) (version : Form
     pub pending_header : (h : H) → next ≡ Some h → IsRecordHeader K h
     pending_header h is = let header = begun h is in record { is_record = header.read.is_record; fits = header.read.widths }
 
-    pending_left : (h : H) → next ≡ Some h → left ≤ 4294967296
-    pending_left h is = let header = begun h is in omega (arith, header.rows, pending.records.rows)
-
     pub pending_serves : NoFailure start now
     pending_serves = serves_on start pending.mid now (taken_serves start pending.mid _ pending.records.taken) (next_serves next pending.header) where
       next_serves : (o : Option H) → ReadsNextHeader (in_version K version) (ReadsBytes pending.mid now) pending.before left o → NoFailure pending.mid now

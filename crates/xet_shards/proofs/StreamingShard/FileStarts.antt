@@ -165,9 +165,6 @@ module _ (x : MDBXorbInfo) (starts : List FileStart) (from at : ℕ) (place : Is
   no_start i true is none = absurd (none refl)
   no_start i false is none = refl
 
-  none_from : length starts ≤ at → (to : ℕ) → StartsNowhere (has_start starts) x from to
-  none_from past to i above below = no_start i (has_start starts (chunk_of x i)) refl (λ is. omega (arith, past, (place.least (chunk_of x i) is (chunks_rise x from i above)).1))
-
   module _ (k : FileStart) (there : slice_get starts at ≡ Some k) where
     not_below : (i : ℕ) → from ≤ i → has_start starts (chunk_of x i) ≡ true → is_gt (start_cmp k (chunk_of x i)) ≡ false
     not_below i above is = subst (λ o. IfSome o (λ s. is_gt (start_cmp s (chunk_of x i)) ≡ false)) there (place.least (chunk_of x i) is (chunks_rise x from i above)).0
