@@ -11,7 +11,7 @@ use Rattle.mdb_report.specs.Parts.{PartsAscend}
 use Rattle.mdb_report.specs.Summary.{ArePartsOf}
 use Rattle.mdb_report.specs.Unfit.{IsFit}
 
--- the inquiry may find problems: a summary, also in a line, or a check
+-- the inquiry may have findings: a summary, also in a line, or a check
 abbrev pub IsCheck : Inquiry → Type 0
 IsCheck Summary = ⊤
 IsCheck Brief = ⊤
@@ -47,7 +47,7 @@ pub record IsSound (checks : Checks) (bytes : List ℕ) : Type 0 where
   pub whole : IsTrue checks.strict → IsWhole bytes
   pub fit : IsTrue checks.deep → IsFit bytes
 
--- what an inquiry that may find problems says of the bytes if it finds none
+-- what an inquiry that may have findings says of the bytes if it has none
 abbrev pub IsClean : Inquiry → List ℕ → Type 0
 IsClean Summary bytes = HasAscendingParts bytes
 IsClean Brief bytes = HasAscendingParts bytes

@@ -11,13 +11,13 @@ use Rattle.shard_bytes.specs.Checking.{IsFinding, IsNote}
 use Rattle.mdb_report.specs.declared.file_finding.FileFinding.{FileFinding}
 use Rattle.mdb_report.specs.declared.file_finding.FileFinding.TheVariants.{Bytes, Name, Hash}
 
--- a problem is true of a file with this name and these bytes; without a key none is of a hash
+-- a finding is true of a file with this name and these bytes; without a key none is of a hash
 abbrev pub IsFileFinding : List ℕ → List ℕ → FileFinding → Type 0
 IsFileFinding name bytes (Bytes finding) = IsFinding bytes finding
 IsFileFinding name bytes Name = ¬ IsShardName name
 IsFileFinding name bytes (Hash hash) = ⊥
 
--- a problem is a note: nothing is lost
+-- a finding is a note: nothing is lost
 abbrev pub IsFileNote : FileFinding → Type 0
 IsFileNote (Bytes finding) = IsNote finding
 IsFileNote _ = ⊥
@@ -28,10 +28,10 @@ IsFileName path name =
     (RFindsChar 47 path None × (name ≡ path))
     ⊎ ((folder : List ℕ) × SplitsAroundMatch (RFindsChar 47) path folder name)
 
--- the problems are the findings that are true of the bytes, and no others
+-- the findings of a file are those that are true of its bytes, and no others
 abbrev pub AreFindings : List ℕ → List FileFinding → Type 0
-AreFindings bytes problems =
-    (findings : List Finding) × (problems ≡ map Bytes findings)
+AreFindings bytes found =
+    (findings : List Finding) × (found ≡ map Bytes findings)
     × All (IsFinding bytes) findings
     × ((f : Finding) → IsFinding bytes f → Contains findings f)
 

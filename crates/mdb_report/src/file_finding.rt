@@ -42,39 +42,40 @@ impl FileFinding {
     }
 }
 
-/// A problem, and the file that has it.
+/// A finding, and the file that has it.
 #[derive(Clone, Copy, Debug, PartialEq, Eq, Serialize)]
 pub struct FindingReport<'a> {
     /// The name of the shard's file.
     pub shard: &'a str,
     pub code: &'static str,
-    /// Where in the file what has the problem starts, if its footer could be read.
+    /// Where in the file what is found starts, if its footer could be read.
     pub offset: Option<u64>,
-    pub problem: FileFinding,
+    #[serde(rename = "problem")]
+    pub finding: FileFinding,
 }
 
 impl<'a> FindingReport<'a> {
-    /// The report of a problem of a file, whose header and footer these are, if they could be read.
+    /// The report of a finding of a file, whose header and footer these are, if they could be read.
     pub fn of_finding(
         file: &'a str,
         info: Option<&MDBShardInfo>,
-        problem: FileFinding,
+        finding: FileFinding,
     ) -> FindingReport<'a>
         ensures shard { result.shard.now ≡ file.now }
-        ensures problem { result.problem ≡ problem }
+        ensures finding { result.finding ≡ finding }
     {
         FindingReport {
             shard: file,
-            code: code_of(problem),
-            offset: offset_of(info, problem),
-            problem,
+            code: code_of(finding),
+            offset: offset_of(info, finding),
+            finding,
         }
     }
 }
 
-// The word for a kind of problem.
-fn code_of(problem: FileFinding) -> &'static str {
-    match problem {
+// The word for a kind of finding.
+fn code_of(finding: FileFinding) -> &'static str {
+    match finding {
         FileFinding::Name => "name",
         FileFinding::Hash(_) => "hash_differs",
         FileFinding::Bytes(finding) => match finding {
@@ -99,10 +100,10 @@ fn code_of(problem: FileFinding) -> &'static str {
     }
 }
 
-// The offset of the part that has the problem. `None` for a name or a size, or if no footer is
+// The offset of the part that the finding is about. `None` for a name or a size, or if no footer is
 // read.
-fn offset_of(info: Option<&MDBShardInfo>, problem: FileFinding) -> Option<u64> {
-    match (info, problem) {
+fn offset_of(info: Option<&MDBShardInfo>, finding: FileFinding) -> Option<u64> {
+    match (info, finding) {
         (Some(info), FileFinding::Bytes(finding)) => start_of(info, finding),
         _ => None,
     }
@@ -133,44 +134,44 @@ pub fn start_of(info: &MDBShardInfo, finding: Finding) -> Option<u64>
     }
 }
 
-/// The problems of a file with this name and these bytes: those of its bytes, in the order of
+/// The findings of a file with this name and these bytes: those of its bytes, in the order of
 /// [`check_bytes`], and then that of its name.
 ///
 /// The only error is `OutOfMemory`.
 pub fn findings_of_file(alloc: Global, name: &str, bytes: &[u8]) -> Result<Vec<FileFinding>>
     ensures whole { IfOk result
-        (λ problems. (problems.items ≡ []) ↔ (IsWhole bytes.now × IsShardName name.now)) }
+        (λ findings. (findings.items ≡ []) ↔ (IsWhole bytes.now × IsShardName name.now)) }
     ensures intact { IfOk result
-        (λ problems. All IsFileNote problems.items → IsIntact bytes.now) }
-    ensures each { IfOk result (λ problems. All (IsFileFinding name.now bytes.now) problems.items) }
+        (λ findings. All IsFileNote findings.items → IsIntact bytes.now) }
+    ensures each { IfOk result (λ findings. All (IsFileFinding name.now bytes.now) findings.items) }
     ensures all { IfOk result
-        (λ problems. (p : FileFinding) → IsFileFinding name.now bytes.now p → Contains problems.items p) }
+        (λ findings. (f : FileFinding) → IsFileFinding name.now bytes.now f → Contains findings.items f) }
     ensures causes { IfErr result (λ e. e ≡ CoreError.OutOfMemory) }
 {
-    let findings = check_bytes(alloc, bytes)?;
-    let mut problems = file_findings(alloc, findings.as_slice())?;
+    let of_bytes = check_bytes(alloc, bytes)?;
+    let mut findings = file_findings(alloc, of_bytes.as_slice())?;
     if parse_shard_filename(name).is_some() {
-        return Ok(problems);
+        return Ok(findings);
     }
-    problems.push(FileFinding::Name)?;
-    Ok(problems)
+    findings.push(FileFinding::Name)?;
+    Ok(findings)
 }
 
-/// The problems of bytes, whatever the name of their file is: those that [`check_bytes`] finds.
+/// The findings of bytes, whatever the name of their file is: those that [`check_bytes`] finds.
 ///
 /// The only error is `OutOfMemory`.
 pub fn findings_of_bytes(alloc: Global, bytes: &[u8]) -> Result<Vec<FileFinding>>
-    ensures whole { IfOk result (λ problems. (problems.items ≡ []) ↔ IsWhole bytes.now) }
+    ensures whole { IfOk result (λ findings. (findings.items ≡ []) ↔ IsWhole bytes.now) }
     ensures intact { IfOk result
-        (λ problems. All IsFileNote problems.items → IsIntact bytes.now) }
-    ensures findings { IfOk result (λ problems. AreFindings bytes.now problems.items) }
+        (λ findings. All IsFileNote findings.items → IsIntact bytes.now) }
+    ensures findings { IfOk result (λ findings. AreFindings bytes.now findings.items) }
     ensures causes { IfErr result (λ e. e ≡ CoreError.OutOfMemory) }
 {
     let findings = check_bytes(alloc, bytes)?;
     Ok(file_findings(alloc, findings.as_slice())?)
 }
 
-/// The problems of a file with this name and these bytes, as [`findings_of_file`] has them, and
+/// The findings of a file with this name and these bytes, as [`findings_of_file`] has them, and
 /// then that of its name if it has another hash than the bytes have under a key.
 ///
 /// The only error is `OutOfMemory`.
@@ -181,21 +182,21 @@ pub fn findings_under_key(
     bytes: &[u8],
 ) -> Result<Vec<FileFinding>>
     ensures whole { IfOk result
-        (λ problems. (problems.items ≡ [])
+        (λ findings. (findings.items ≡ [])
         ↔ (IsWhole bytes.now × NamesShard name.now (keyed_hash key bytes.now))) }
     ensures intact { IfOk result
-        (λ problems. All IsFileNote problems.items → IsIntact bytes.now) }
+        (λ findings. All IsFileNote findings.items → IsIntact bytes.now) }
     ensures causes { IfErr result (λ e. e ≡ CoreError.OutOfMemory) }
 {
-    let mut problems = findings_of_file(alloc, name, bytes)?;
+    let mut findings = findings_of_file(alloc, name, bytes)?;
     let Some(hash) = other_hash(name, key, bytes) else {
-        return Ok(problems);
+        return Ok(findings);
     };
-    problems.push(FileFinding::Hash(hash))?;
-    Ok(problems)
+    findings.push(FileFinding::Hash(hash))?;
+    Ok(findings)
 }
 
-/// The problems that a check of a file at a path is to find: those of its bytes, and, with `named` or
+/// The findings that a check of a file at a path is to find: those of its bytes, and, with `named` or
 /// a key, that of its name. With a key the name has to have the hash of the bytes under it.
 ///
 /// The only error is `OutOfMemory`.
@@ -206,9 +207,9 @@ pub fn findings_to_report(
     key: Option<HMACKey>,
     bytes: &[u8],
 ) -> Result<Vec<FileFinding>>
-    ensures whole { IfOk result (λ problems. problems.items ≡ [] → IsWhole bytes.now) }
+    ensures whole { IfOk result (λ findings. findings.items ≡ [] → IsWhole bytes.now) }
     ensures intact { IfOk result
-        (λ problems. All IsFileNote problems.items → IsIntact bytes.now) }
+        (λ findings. All IsFileNote findings.items → IsIntact bytes.now) }
     ensures causes { IfErr result (λ e. e ≡ CoreError.OutOfMemory) }
 {
     match key {
@@ -233,7 +234,7 @@ fn file_findings(
     alloc: Global,
     findings: &[Finding],
 ) -> std::result::Result<Vec<FileFinding>, AllocError>
-    ensures { IfOk result (λ problems. problems.items ≡ map FileFinding.Bytes findings.now) }
+    ensures { IfOk result (λ found. found.items ≡ map FileFinding.Bytes findings.now) }
 {
     findings
         .iter()
@@ -254,8 +255,8 @@ pub fn file_name(path: &str) -> &str
 impl fmt::Display for FindingReport<'_> {
     fn fmt<W: fmt::Write>(&self, f: &mut fmt::Formatter<W>) -> fmt::Result {
         let shard = ShownText(self.shard);
-        let problem = self.problem;
-        write!(f, "{shard}: {problem}")
+        let finding = self.finding;
+        write!(f, "{shard}: {finding}")
     }
 }
 

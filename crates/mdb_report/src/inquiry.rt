@@ -80,7 +80,7 @@ pub struct Checks {
     pub key: Option<HMACKey>,
     /// Whether its records fit together.
     pub deep: bool,
-    /// Whether a note counts as a problem.
+    /// Whether a note counts as well.
     pub strict: bool,
 }
 
@@ -144,7 +144,7 @@ impl From<io::Error> for InquiryFault {
 }
 
 /// Prints the answer of the shard in a file, from its bytes, in the order of the shard: a value for
-/// each record, each lookup or each problem, or for the whole shard. What is found is added to a
+/// each record, each lookup or each finding, or for the whole shard. What is found is added to a
 /// tally.
 ///
 /// With the name of a shard, lookups that find nothing are printed only with their costs.
@@ -157,7 +157,7 @@ pub fn print_answer<W: Write>(
     tally: &mut Tally,
     output: &mut W,
 ) -> Result<Answer, InquiryFault>
-    ensures problems { IfOk result
+    ensures findings { IfOk result
         (λ answer. answer ≡ Answer.HasFindings → IsCheck inquiry.now) }
     ensures nothing { IfOk result
         (λ answer. answer ≡ Answer.FoundNothing → LooksUp inquiry.now) }
@@ -307,7 +307,7 @@ pub(crate) fn print_brief<W: Write>(
     }
 }
 
-// Prints the problems of a file at a path, those of its name too if they are asked for.
+// Prints the findings of a file at a path, those of its name too if they are asked for.
 fn check<W: Write>(
     alloc: Global,
     file: &str,
@@ -319,14 +319,14 @@ fn check<W: Write>(
     ensures { IfOk result (λ answer. (answer ≢ Answer.FoundNothing)
         × (answer ≡ Answer.Printed → IsSound checks bytes.now)) }
 {
-    let problems = findings_to_report(alloc, file, checks.named, checks.key, bytes)?;
+    let findings = findings_to_report(alloc, file, checks.named, checks.key, bytes)?;
     let info = load_bytes(alloc, bytes).ok();
-    for problem in &problems {
-        let report = FindingReport::of_finding(file, info.as_ref(), *problem);
+    for finding in &findings {
+        let report = FindingReport::of_finding(file, info.as_ref(), *finding);
         print(alloc, &report, Layout::plain(style), output)?;
     }
     let fits = fits_if(alloc, checks.deep, file, bytes, style, output)?;
-    if are_accepted(problems.as_slice(), checks.strict) && fits {
+    if are_accepted(findings.as_slice(), checks.strict) && fits {
         Ok(Answer::Printed)
     } else {
         Ok(Answer::HasFindings)
@@ -351,25 +351,25 @@ fn fits_if<W: Write>(
     }
 }
 
-// Whether there is no problem, or, if the check is not strict, none but notes.
-fn are_accepted(problems: &[FileFinding], strict: bool) -> bool
-    ensures notes { IsTrue result → All IsFileNote problems.now }
-    ensures none { IsTrue result → IsTrue strict → problems.now ≡ [] }
+// Whether there is no finding, or, if the check is not strict, none but notes.
+fn are_accepted(findings: &[FileFinding], strict: bool) -> bool
+    ensures notes { IsTrue result → All IsFileNote findings.now }
+    ensures none { IsTrue result → IsTrue strict → findings.now ≡ [] }
 {
     if strict {
-        problems.is_empty()
+        findings.is_empty()
     } else {
-        are_notes(problems)
+        are_notes(findings)
     }
 }
 
-fn are_notes(problems: &[FileFinding]) -> bool
-    ensures { IsTrue result ↔ All IsFileNote problems.now }
+fn are_notes(findings: &[FileFinding]) -> bool
+    ensures { IsTrue result ↔ All IsFileNote findings.now }
 {
-    problems.iter().all(
-        |problem: &FileFinding| -> bool
-            ensures { IsTrue result ↔ IsFileNote problem.now }
-        { problem.is_note() },
+    findings.iter().all(
+        |finding: &FileFinding| -> bool
+            ensures { IsTrue result ↔ IsFileNote finding.now }
+        { finding.is_note() },
     )
 }
 

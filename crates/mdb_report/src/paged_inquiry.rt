@@ -36,7 +36,7 @@ pub fn print_paged_answer<F: Read + Seek + Drop, W: Write>(
     tally: &mut Tally,
     output: &mut W,
 ) -> Result<Option<Answer>, InquiryFault>
-    ensures problems { IfOk result
+    ensures findings { IfOk result
         (λ found. IfSome found (λ answer. answer ≡ Answer.HasFindings → IsCheck inquiry.now)) }
     ensures nothing { IfOk result
         (λ found. IfSome found (λ answer. answer ≡ Answer.FoundNothing → LooksUp inquiry.now)) }

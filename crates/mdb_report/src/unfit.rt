@@ -38,14 +38,15 @@ pub struct UnfitReport<'a> {
     /// Which of the file's segments it is, counted from 0.
     #[serde(skip_serializing_if = "Option::is_none")]
     pub segment: Option<usize>,
-    pub problem: Unfit,
+    #[serde(rename = "problem")]
+    pub finding: Unfit,
 }
 
 impl<'a> UnfitReport<'a> {
     /// The report of a finding in a shard, or in some.
     pub fn of_finding(shard: Option<&'a str>, finding: Finding) -> UnfitReport<'a>
         ensures shard { result.shard ≡ shard.entry }
-        ensures finding { result.problem.0 ≡ finding }
+        ensures finding { result.finding.0 ≡ finding }
     {
         let segment = segment_of(finding.fault);
         UnfitReport {
@@ -54,7 +55,7 @@ impl<'a> UnfitReport<'a> {
             xorb: Hex(finding.xorb),
             file: segment.map(|segment| Hex(segment.file)),
             segment: segment.map(|segment| segment.index),
-            problem: Unfit(finding),
+            finding: Unfit(finding),
         }
     }
 }
@@ -148,8 +149,8 @@ impl fmt::Display for UnfitReport<'_> {
             let shard = ShownText(shard);
             write!(f, "{shard}: ")?;
         }
-        let problem = self.problem;
-        write!(f, "{problem}")
+        let finding = self.finding;
+        write!(f, "{finding}")
     }
 }
 
