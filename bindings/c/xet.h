@@ -32,8 +32,8 @@
 #ifndef XET_H
 #define XET_H
 
-#define XET_VERSION "0.1.0"
-#define XET_VERSION_NUMBER 100 /* 10000 times the first of the three, 100 times the second, and the third */
+#define XET_VERSION "0.2.0"
+#define XET_VERSION_NUMBER 200 /* 10000 times the first of the three, 100 times the second, and the third */
 
 #include <stdbool.h>
 #include <stddef.h>

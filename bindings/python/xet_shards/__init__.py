@@ -16,7 +16,7 @@ The shared object is the file that the environment variable XET_LIBRARY names, e
 from __future__ import annotations
 
 # The modules read it.
-__version__ = "0.1.0"
+__version__ = "0.2.0"
 
 from ._arguments import NO_EXPIRY, NO_KEY  # noqa: E402
 from ._checking import Finding, check  # noqa: E402
