@@ -93,7 +93,8 @@ def _row_calls(data: Sequence[Tuple[int, int]], ranges: Sequence[_Range], pool: 
     range. If none does, they have written what merges of the ranges are.
     """
     count = len(data)
-    ends = [(_Rows * count)(), *pool.map(lambda it: _range_ends(_list(data), count, it), ranges)]
+    ends: List[Any] = [(_Rows * count)()]
+    ends += pool.map(lambda it: _range_ends(_list(data), count, it), ranges)
     return [
         (_library.xet_merge_rows, (start, count, end, count, byref(it))) for start, end, it in zip(ends, ends[1:], ranges)
     ]
