@@ -85,7 +85,7 @@ fn message_of(alloc: Global, fault: &RequestFault<'_>) -> Result<String, AllocEr
         RequestFault::OutOfMemory => String::from_str(alloc, "out of memory"),
         RequestFault::Missing(id) => format!(in alloc; "{id} is missing"),
         RequestFault::NoHash(word) => {
-            format!(in alloc; "'{word}' is no hash: it has 64 hexadecimal digits")
+            format!(in alloc; "'{word}' is no hash: a hash has 64 hexadecimal digits")
         }
         RequestFault::NoTime(word) => {
             format!(in alloc;

@@ -115,7 +115,10 @@ impl fmt::Display for Fault {
             Fault::NoXorb(hash) => write!(f, "no xorb has the hash {hash}"),
             Fault::NoRecord(hash) => write!(f, "no file and no xorb has the hash {hash}"),
             Fault::NoHash(line) => {
-                write!(f, "line {line} is no hash: it has 64 hexadecimal digits")
+                write!(
+                    f,
+                    "line {line} is no hash: a hash has 64 hexadecimal digits"
+                )
             }
             Fault::OtherBytes(hash) => {
                 write!(
