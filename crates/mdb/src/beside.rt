@@ -1,4 +1,4 @@
-//! The new file beside a target that is renamed over it.
+//! New files beside a target, which are renamed over it once they are whole.
 
 use std::alloc::{AllocError, Global};
 use std::fs::{Metadata, OpenFile, OpenOptions};

@@ -1,4 +1,5 @@
-//! Reading shards, and writing outputs so that a failure leaves what was there.
+//! Reading shards from files and standard input, and writing outputs so that the old file stays if
+//! anything fails.
 
 use crate::beside::{folder_and_name, write_beside};
 use crate::stamp::Stamp;

@@ -1,4 +1,4 @@
-//! The ids of arguments, which usage shows as the names of values.
+//! The ids of arguments. Usage shows them as the names of values, as `<HEX>`.
 
 pub const FILE: &str = "FILE";
 

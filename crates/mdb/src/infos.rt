@@ -1,4 +1,4 @@
-//! The headers and footers of inputs.
+//! The headers and footers of a command's inputs, and the keys in them.
 
 ghost use Rattle.std.specs.Prelude.{◌≡◌, map, zip, IfOk, MatchResult};
 ghost use Rattle.std.specs.List.{AllZip};

@@ -1,4 +1,4 @@
-//! Finding the file because of which shards cannot be combined.
+//! Why inputs cannot be combined, and which of them is at fault.
 
 ghost use Rattle.std.specs.Prelude.{◌≡◌, [], map, slice_get, IsTrue, MatchOption, MatchResult};
 ghost use Rattle.xet_core_structures.specs.Agreement.Agreement.{HoldShards, HasAllDisagreements, InputsRefusal};

@@ -1,4 +1,4 @@
-//! Which shards a command reads.
+//! The list of shards that a command reads: those of its words, of folders and of lists.
 
 use crate::failure::Failure;
 use crate::files::{STANDARD_STREAM, read};

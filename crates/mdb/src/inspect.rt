@@ -1,4 +1,4 @@
-//! The commands that print.
+//! Running the commands that print what each of some shards answers.
 
 use crate::expiry::report_expired_in;
 use crate::failure::{Failure, Subject};

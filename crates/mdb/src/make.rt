@@ -1,4 +1,4 @@
-//! The commands that write a shard.
+//! Running the commands that write one shard to a target, but for merges.
 
 ghost use Rattle.std.specs.Prelude.{◌≡◌, MatchResult};
 ghost use Rattle.xet_core_structures.specs.declared.error.CoreError.{CoreError};

@@ -1,4 +1,4 @@
-//! Text in HTML.
+//! Texts and names with the characters replaced that mean something in HTML.
 
 ghost use Rattle.std.specs.Prelude.{◌≡◌, IfOk, string_bytes};
 ghost use Rattle.std.specs.List.{flat_map};

@@ -1,4 +1,4 @@
-//! Numbers for people.
+//! Numbers with a comma before each three digits.
 
 use std::fmt;
 

@@ -1,4 +1,4 @@
-//! Hashes as their digits.
+//! Hashes as their 64 hexadecimal digits, in text and in JSON.
 
 ghost use Rattle.std.specs.Prelude.{Some};
 ghost use Rattle.xet_core_structures.specs.Hex.{hash_hex};

@@ -1,4 +1,4 @@
-//! A value as text or as JSON.
+//! Printing a value as text or as JSON, with the name of the shard that it is of.
 
 ghost use Rattle.std.specs.Prelude.{◌≡◌};
 ghost use Rattle.mdb_report.specs.declared.line.Origin.{Origin};

@@ -1,4 +1,4 @@
-//! The names of shards' files by the hashes of their bytes.
+//! The name that a shard's file should have, by the hash of its bytes under a key.
 
 use crate::inquiry::InquiryFault;
 use crate::line::{Layout, print};

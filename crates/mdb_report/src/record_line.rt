@@ -1,4 +1,4 @@
-//! Records from the lines of JSON in which they are printed whole.
+//! Reading a record from the line of JSON that prints it whole.
 
 ghost use Rattle.std.specs.Prelude.{◌≡◌, true, IfOk, IfErr, OnOk, IsUtf8, MatchResult, map};
 ghost use Rattle.xet_records.specs.FileRecord.{FitsItsHeader};

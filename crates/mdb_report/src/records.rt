@@ -1,4 +1,4 @@
-//! The records of a shard.
+//! What is printed of the records of a shard: files, xorbs and chunks.
 
 ghost use Rattle.std.specs.Prelude.{◌≡◌, All, IfOk, MatchResult, map};
 ghost use Rattle.xet_core_structures.specs.FileRecord.{FitsItsHeader};

@@ -1,4 +1,4 @@
-//! Sizes in words.
+//! Reading a size in bytes from a word, as `64M`.
 
 /// The number of bytes in a text of digits, which a K, M, G or T may follow: 1024 bytes, and then
 /// each 1024 of the unit before. `None` for another text, or if there are too many for `u64`.

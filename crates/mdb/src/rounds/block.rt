@@ -1,4 +1,4 @@
-//! The next records of a section, as a shard that has no others.
+//! A block: the next records of a section, as a shard that has only these.
 
 use crate::files::{ENDS_SIZE, HEADER_SIZE};
 use shard_bytes::check::Section;

@@ -1,4 +1,4 @@
-//! Findings on which a merge may depend, or for which a strict one is refused.
+//! What the rounds of a merge find: records that no shard may have, and records that do not agree.
 
 ghost use Rattle.std.specs.Prelude.{◌≡◌, ◌<◌, ◌≤◌, ◌↔◌, None, IsTrue, MatchOption};
 

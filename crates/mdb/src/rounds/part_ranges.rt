@@ -1,4 +1,4 @@
-//! The ranges of a part between the offsets in its footer.
+//! The ranges of a part between the offsets in its footer, and the refusal of a part without them.
 
 ghost use Rattle.std.specs.Prelude.{◌≡◌, ◌+◌, ◌<◌, ◌≤◌, ◌⊎◌, length, MatchResult, slice_range};
 ghost use Rattle.xet_base.specs.Errors.{IsInvalidShard};

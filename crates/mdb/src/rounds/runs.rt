@@ -1,4 +1,4 @@
-//! The merge of chunk tables that are in one file.
+//! Merging sorted chunk tables that lie in one file, with little of each in memory.
 
 ghost use Rattle.std.specs.Prelude.{◌≡◌, ◌+◌, ◌-◌, ◌≤◌, ◌^◌, ℕ, List, length, flat_map, slice_range, take, min, IfOk, IfSome, OnOk, MatchOption};
 ghost use Rattle.std.specs.BinaryHeap.{heap_items, heap_len};
