@@ -43,7 +43,7 @@ HASH = f"{100:016x}{1:016x}{0:032x}"
 PYTHON = f"""
 import pathlib, xet_shards
 one, other = (pathlib.Path(name).read_bytes() for name in ("one.mdb", "other.mdb"))
-shard, file_hash, folder, chunk_hashes = one, "{HASH}", ["one.mdb", "other.mdb"], ["{21:016x}{1:016x}{0:032x}"]
+shard, file_hash, chunk_hashes = one, "{HASH}", ["{21:016x}{1:016x}{0:032x}"]
 """
 RUST = """
 #[allow(unused_variables)]
