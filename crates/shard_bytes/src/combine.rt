@@ -1,4 +1,4 @@
-//! Union and difference of shards in buffers.
+//! Union and difference of two shards as byte strings.
 
 ghost use Rattle.std.specs.Prelude.{◌≡◌, ◌⊎◌, length, IfOk, MatchResult};
 ghost use Rattle.xet_core_structures.specs.Errors.{IsWriteError};

@@ -1,4 +1,4 @@
-//! The expiry of a shard.
+//! Setting the expiry of a shard, and nothing else.
 
 ghost use Rattle.std.specs.Prelude.{◌≡◌, ◌⊎◌, Some, MatchResult};
 ghost use Rattle.xet_core_structures.specs.TwoShards.ByteResults.{LoadRefusal};

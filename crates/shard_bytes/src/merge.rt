@@ -1,4 +1,4 @@
-//! The union of a list of shards.
+//! The union of a list of shards, whole or in a range of hashes.
 
 ghost use Rattle.std.specs.Prelude.{◌≡◌, ◌⊎◌, ◌+◌, ◌<◌, ◌^◌, List, map, length, IfOk, IfErr, MatchResult};
 ghost use Rattle.xet_core_structures.specs.Trees.Filling.{FillsWith};

@@ -1,4 +1,4 @@
-//! Minimal shards, and the chunks that the global index keeps.
+//! Minimal shards, subsets of xorbs, and the chunks that the global index keeps.
 
 ghost use Rattle.std.specs.List.{Any};
 ghost use Rattle.std.specs.Prelude.{◌≡◌, ◌⊎◌, ◌↔◌, true, length, IfOk, IsErrAnd, IsTrue, MatchResult, map};

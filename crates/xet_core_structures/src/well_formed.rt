@@ -1,5 +1,5 @@
-//! What a shard asks of a record beside what reading it ensures, judged where the record lies: a
-//! list of its rows would need memory.
+//! Whether a record that was read is well-formed. It is judged where its bytes lie, since a list of
+//! its rows would need memory.
 
 ghost use Rattle.std.specs.Prelude.{◌≡◌, ◌↔◌, ◌≤◌, List, flat_map, length, All, IsTrue};
 ghost use Rattle.xet_records.specs.declared.xorb_structs.XorbChunkSequenceEntry.{XorbChunkSequenceEntry};

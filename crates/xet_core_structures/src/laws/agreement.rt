@@ -1,4 +1,4 @@
-//! A law of inputs that hold shards which agree.
+//! A law: what follows where inputs hold shards that agree.
 
 ghost use Rattle.std.specs.Prelude.{◌≡◌, ℕ, List, Contains};
 ghost use Rattle.std.specs.List.{AllZip};

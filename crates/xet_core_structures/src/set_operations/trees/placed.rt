@@ -1,4 +1,4 @@
-//! Records of sections in memory that stay where they are: reading a section as a list of them,
+//! Placed records, which stay in the bytes of their input: reading a section as a list of them,
 //! uniting two lists, and writing one.
 
 ghost use Rattle.std.specs.Prelude.{◌≡◌, ◌⊎◌, ◌+◌, ◌<◌, ◌≤◌, ℕ, List, drop, Option, None, Some, MatchOption, MatchResult, IfOk};
