@@ -7,3 +7,4 @@ pub mod ExportTrees
 pub mod FileLookups
 pub mod MinimalAgain
 pub mod RowRanges
+pub mod RowSizes

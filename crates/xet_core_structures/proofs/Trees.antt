@@ -8,6 +8,7 @@ pub mod RowLists
 pub mod RowSpans
 pub mod RowParts
 pub mod RowTrees
+pub mod RowsOfRanges
 pub mod MappedJoins
 pub mod TreeXorbs
 pub mod TreesOfExports

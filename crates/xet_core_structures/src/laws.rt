@@ -58,8 +58,8 @@ pub use exports::{
 };
 pub use minimal::{minimal_shards_are_written_again, subsets_keep_eligible_chunks};
 pub use ranges::{
-    joins_pass_to_parts, ranges_are_bounded, ranges_have_all_records,
-    unions_of_ranges_follow_one_another,
+    joins_pass_to_parts, ranges_are_bounded, ranges_concatenate, ranges_have_all_records,
+    rows_are_bounded, rows_cover_ranges, unions_of_ranges_follow_one_another,
 };
 pub use sizes::results_are_bounded;
 

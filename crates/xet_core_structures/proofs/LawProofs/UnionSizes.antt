@@ -1,5 +1,5 @@
 -- A union has at most the rows of both shards, and so what a tree of unions writes is bounded by its inputs.
-use Rattle.std.proofs.Common.{◌≡◌, inl, inr, ℕ, zero, suc, ◌+◌, ◌*◌, ◌≤◌, Bool, true, false, List, [], ◌∷◌, length, flat_map, drop, Option, None, Some, sym, ap, ◌∙◌, subst, arith, if◌then◌else◌}
+use Rattle.std.proofs.Common.{◌≡◌, inl, inr, ℕ, zero, suc, ◌+◌, ◌*◌, ◌≤◌, Bool, true, false, List, [], ◌∷◌, ◌++◌, length, map, flat_map, drop, Option, None, Some, sym, ap, ◌∙◌, subst, arith, if◌then◌else◌}
 use Rattle.std.specs.Prelude.{option_to_list, slice_get, slice_index_or}
 use Rattle.std.specs.FinMap.{FinMap, get, values, same_map}
 use Rattle.std.proofs.lemmas.List.{length-append, length-drop}
@@ -22,7 +22,7 @@ use Rattle.xet_records.proofs.Parts.{for_parts, either_row, rows_of_both}
 use Rattle.xet_records.proofs.RecordKinds.{KindLaws, xorb_laws, length-record_bytes}
 use Rattle.xet_shards.specs.declared.shard_format.ends.info.MDBShardInfo.{MDBShardInfo}
 use Rattle.xet_shards.specs.Write.Section.{total_rows}
-use Rattle.xet_shards.specs.Read.SectionReading.{files_of}
+use Rattle.xet_shards.specs.Read.SectionReading.{files_of, HoldsRecords}
 use Rattle.xet_shards.specs.Content.Shard.{Shard}
 use Rattle.xet_shards.proofs.ShardInMemory.Files.{length-le-rows}
 use Rattle.xet_shards.proofs.Write.Sections.{files_laws}
@@ -40,7 +40,7 @@ use Rattle.xet_core_structures.specs.Trees.MergeTrees.{leaves, HasUnion, TreeWri
 use Rattle.xet_core_structures.specs.TwoShards.Readable.{IsBytesUnderKey}
 use Rattle.xet_core_structures.specs.Records.Sizes.{rows_of_shard, bytes_at}
 use Rattle.xet_core_structures.proofs.Records.ShardContents.{rows_handed, only_shard}
-use Rattle.xet_core_structures.proofs.LawProofs.FileLookups.{tree_under, union_under, difference_under}
+use Rattle.xet_core_structures.proofs.LawProofs.FileLookups.{union_under, difference_under}
 use Rattle.xet_core_structures.proofs.Trees.TreeXorbs.{shard_under}
 
 -- each part of a mix has at most the rows that both records have of it
@@ -90,20 +90,23 @@ rows_of_difference a b c is =
       sub-sum hash_cmp-IsTotalOrder hash_cmp-IsAntisymmetric xorb_records.row_count c.xorbs b.xorbs (λ q v here. but_found a.xorbs (get b.xorbs) q v (sym (is.xorbs q) ∙ here)),
     )
 
--- bytes have at least 48 for each row of a section in them
-rows_in_section : {H R : Type 0} (K : RecordKind H R) (laws : KindLaws K) (n : ℕ) (bytes : List ℕ) (m : FinMap hash_cmp R) → IsSectionOf K (drop n bytes) m → 48 * total_rows K (values m) ≤ length bytes
-rows_in_section K laws n bytes m is =
-    let stored = is.stored in
-    let records = is.section.records in
+-- bytes have at least 48 for each row of the records with which they begin
+pub rows_in_front : {H R : Type 0} (K : RecordKind H R) (laws : KindLaws K) (bytes : List ℕ) (stored found : List R) (rest : List ℕ) → HoldsRecords K bytes stored rest → map K.as_read stored ≡ found
+    → 48 * total_rows K found ≤ length bytes
+rows_in_front K laws bytes stored found rest records returned =
     omega (
       arith,
-      length-drop n bytes,
       ap length records.bytes_are,
-      length-append (flat_map K.record_bytes stored) is.section.rest,
+      length-append (flat_map K.record_bytes stored) rest,
       length-all_record_bytes K.record_bytes K.row_count K.IsStored (length-record_bytes K laws) stored records.are_stored,
       rows_handed K laws stored,
-      ap (total_rows K) is.returned,
+      ap (total_rows K) returned,
     )
+
+-- and so for each row of a section in them
+rows_in_section : {H R : Type 0} (K : RecordKind H R) (laws : KindLaws K) (n : ℕ) (bytes : List ℕ) (m : FinMap hash_cmp R) → IsSectionOf K (drop n bytes) m → 48 * total_rows K (values m) ≤ length bytes
+rows_in_section K laws n bytes m is =
+    omega (arith, length-drop n bytes, rows_in_front K laws (drop n bytes) is.stored (values m) is.section.rest is.section.records is.returned)
 
 pub rows_held : (bytes : List ℕ) (s : Shard) → HasShard s bytes → 48 * rows_of_shard s ≤ 2 * length bytes
 rows_held bytes s has =
@@ -148,20 +151,24 @@ union_of_same a c union =
     let xorbs = same_map hash_cmp-IsTotalOrder hash_cmp-IsAntisymmetric c.xorbs a.xorbs (λ q. same_xorb (get a.xorbs q) (get c.xorbs q) (union.xorbs q)) in
     λ i. record { files = files i; xorbs = xorbs i }
 
--- the union of bytes with themselves
-pub bytes_of_repetition : (x out : List ℕ) → UnitesBytes x x out → 3 * length out ≤ 1032 + 8 * length x
-bytes_of_repetition x out (i, j, c, x_ends, y_ends, result, is) =
-    let first : HasShard result.first x = record { info = i; ends = x_ends; holds = result.holds_first } in
-    let second : HasShard result.second x = record { info = j; ends = y_ends; holds = result.holds_second } in
-    let both : result.second ≡ result.first = only_shard x result.first result.second first second in
-    let same : c ≡ result.first = union_of_same result.first c (subst (λ b. IsByteUnion result.first b c) both result.result) in
+-- the union of bytes that hold one shard
+pub bytes_of_one : (s : Shard) (x y out : List ℕ) → HasShard s x → HasShard s y → UnitesBytes x y out → length out ≤ 344 + 64 * rows_of_shard s
+bytes_of_one s x y out one other (i, j, c, x_ends, y_ends, result, is) =
+    let first : result.first ≡ s = only_shard x s result.first one (record { info = i; ends = x_ends; holds = result.holds_first }) in
+    let second : result.second ≡ s = only_shard y s result.second other (record { info = j; ends = y_ends; holds = result.holds_second }) in
+    let same : c ≡ result.first = union_of_same result.first c (subst (λ b. IsByteUnion result.first b c) (second ∙ sym first) result.result) in
     omega (
       arith,
       ap length is,
-      bytes_written (key_of i) c (keyed_layout c (key_of i)) (keyed_info c (key_of i)) (union_under x i x j c x_ends result),
-      ap rows_of_shard same,
-      rows_held x result.first first,
+      bytes_written (key_of i) c (keyed_layout c (key_of i)) (keyed_info c (key_of i)) (union_under x i y j c x_ends result),
+      ap rows_of_shard (same ∙ first),
     )
+
+-- the union of bytes with themselves
+pub bytes_of_repetition : (x out : List ℕ) → UnitesBytes x x out → 3 * length out ≤ 1032 + 8 * length x
+bytes_of_repetition x out (i, j, c, x_ends, y_ends, result, is) =
+    let has : HasShard result.first x = record { info = i; ends = x_ends; holds = result.holds_first } in
+    omega (arith, bytes_of_one result.first x x out has has (i, j, c, x_ends, y_ends, result, is), rows_held x result.first has)
 
 -- the union of two byte strings
 pub bytes_of_union : (x y out : List ℕ) → UnitesBytes x y out → 3 * length out ≤ 1032 + 8 * (length x + length y)
@@ -191,26 +198,35 @@ input_there [] i x is = cc
 input_there (y ∷ ys) zero x is = cc
 input_there (y ∷ ys) (suc i) x is = input_there ys i x is
 
+-- one union in a tree, of byte strings with at most so many rows
+pub rows_united : (x y out : List ℕ) (s : Shard) (m n : ℕ) → ((t : Shard) → HasShard t x → 48 * rows_of_shard t ≤ m) → ((t : Shard) → HasShard t y → 48 * rows_of_shard t ≤ n) → UnitesBytes x y out → HasShard s out
+    → 48 * rows_of_shard s ≤ m + n
+rows_united x y out s m n first second (i, j, c, x_ends, y_ends, result, is) has =
+    let under = subst (λ bytes. IsBytesUnderKey (key_of i) c bytes (keyed_info c (key_of i))) (sym is) (union_under x i y j c x_ends result) in
+    omega (
+      arith,
+      first result.first (record { info = i; ends = x_ends; holds = result.holds_first }),
+      second result.second (record { info = j; ends = y_ends; holds = result.holds_second }),
+      rows_of_union result.first result.second c result.result,
+      ap rows_of_shard (only_shard out s c has (shard_under (key_of i) c out (keyed_info c (key_of i)) under)),
+    )
+
+pub bytes_united : (x y out : List ℕ) (n : ℕ) → UnitesBytes x y out → ((s : Shard) → HasShard s out → 48 * rows_of_shard s ≤ 2 * n) → 3 * length out ≤ 1032 + 8 * n
+bytes_united x y out n (i, j, c, x_ends, y_ends, result, is) rows =
+    let under = subst (λ bytes. IsBytesUnderKey (key_of i) c bytes (keyed_info c (key_of i))) (sym is) (union_under x i y j c x_ends result) in
+    omega (arith, bytes_written (key_of i) c out (keyed_info c (key_of i)) under, rows c (shard_under (key_of i) c out (keyed_info c (key_of i)) under))
+
+pub bytes_at_both : (inputs : List (List ℕ)) (left right : MergePlan) → bytes_at inputs (leaves left ++ leaves right) ≡ bytes_at inputs (leaves left) + bytes_at inputs (leaves right)
+bytes_at_both inputs left right = sum_by-append (λ k. length (slice_index_or inputs k [])) (leaves left) (leaves right)
+
 -- a tree of unions
 module _ (inputs : List (List ℕ)) where
-  rows_of_tree : (plan : MergePlan) (bytes : List ℕ) (s : Shard) → TreeWrites inputs plan bytes → HasShard s bytes → 48 * rows_of_shard s ≤ 2 * bytes_at inputs (leaves plan)
-  rows_of_tree (Leaf i) bytes s is has = omega (arith, rows_held bytes s has, ap length (input_there inputs i bytes is))
-  rows_of_tree (Both' p left q right) bytes s (x, y, x_written, y_written, (i, j, c, x_ends, y_ends, result, is)) has =
-      let under = subst (λ bytes. IsBytesUnderKey (key_of i) c bytes (keyed_info c (key_of i))) (sym is) (union_under x i y j c x_ends result) in
-      omega (
-        arith,
-        rows_of_tree left x result.first x_written (record { info = i; ends = x_ends; holds = result.holds_first }),
-        rows_of_tree right y result.second y_written (record { info = j; ends = y_ends; holds = result.holds_second }),
-        rows_of_union result.first result.second c result.result,
-        ap rows_of_shard (only_shard bytes s c has (shard_under (key_of i) c bytes (keyed_info c (key_of i)) under)),
-        sum_by-append (λ k. length (slice_index_or inputs k [])) (leaves left) (leaves right),
-      )
+  rows_of_tree : (plan : MergePlan) (out : List ℕ) (s : Shard) → TreeWrites inputs plan out → HasShard s out → 48 * rows_of_shard s ≤ 2 * bytes_at inputs (leaves plan)
+  rows_of_tree (Leaf i) out s is has = omega (arith, rows_held out s has, ap length (input_there inputs i out is))
+  rows_of_tree (Both' p left q right) out s (x, y, x_written, y_written, unites) has =
+      omega (arith, rows_united x y out s _ _ (λ t. rows_of_tree left x t x_written) (λ t. rows_of_tree right y t y_written) unites has, bytes_at_both inputs left right)
 
   pub bytes_of_tree : (plan : MergePlan) (out : List ℕ) → HasUnion plan → TreeWrites inputs plan out → 3 * length out ≤ 1032 + 8 * bytes_at inputs (leaves plan)
-  bytes_of_tree plan out union writes =
-      let under = tree_under inputs plan out union writes in
-      omega (
-        arith,
-        bytes_written under.0 under.1 out (keyed_info under.1 under.0) under.2,
-        rows_of_tree plan out under.1 writes (shard_under under.0 under.1 out (keyed_info under.1 under.0) under.2),
-      )
+  bytes_of_tree (Leaf i) out none writes = absurd none
+  bytes_of_tree (Both' p left q right) out union (x, y, x_written, y_written, unites) =
+      bytes_united x y out _ unites (λ s. rows_of_tree (Both' p left q right) out s (x, y, x_written, y_written, unites))

@@ -34,10 +34,10 @@ use Rattle.xet_core_structures.proofs.TwoShards.Readable.{IsReadable, IsReadable
 
 module _ {H R : Type 0} (K : RecordKind H R) (laws : KindLaws K) (range : HashRange) (section : List ℕ) (first end : ℕ) (found : List R) (has : HasInRows K range section first end found) where
   -- the records alone, as a section
-  abbrev alone : List ℕ
+  abbrev pub alone : List ℕ
   alone = flat_map K.record_bytes has.stored ++ K.header_bytes K.bookend
 
-  section_alone : IsSection K alone has.stored
+  pub section_alone : IsSection K alone has.stored
   section_alone = record {
     rest = K.header_bytes K.bookend;
     records = record { are_stored = has.records.are_stored; rows = has.records.rows; bytes_are = refl };

@@ -1,6 +1,5 @@
 -- What is in some rows of a section, and what is not.
-use Rattle.std.proofs.Common.{◌≡◌, ◌⊎◌, inl, inr, ℕ, ◌+◌, ◌*◌, ◌≤◌, ◌≢◌, List, drop, None, Ok, Err, refl, subst, arith}
-use Rattle.std.specs.declared.result.Result.{Result}
+use Rattle.std.proofs.Common.{◌≡◌, ◌⊎◌, inl, inr, ℕ, ◌+◌, ◌*◌, ◌≤◌, ◌≢◌, List, drop, None, arith}
 use Rattle.xet_base.specs.declared.error.CoreError.{CoreError}
 use Rattle.xet_base.specs.declared.error.CoreError.TheVariants.{OutOfMemory, InvalidArguments}
 use Rattle.xet_records.specs.declared.record_reader.FormatVersion.{FormatVersion}

@@ -1,22 +1,14 @@
 -- The steps of a walk through some rows, and what all its steps find.
-use Rattle.std.proofs.Common.{◌≡◌, ◌⊎◌, inl, inr, ℕ, ◌+◌, ◌*◌, ◌≤◌, true, false, List, [], ◌∷◌, ◌++◌, length, map, flat_map, drop, Option, None, Some, IfSome, refl, sym, ap, ◌∙◌, subst, true≢false, arith, append-nil, append_assoc}
-use Rattle.std.specs.Prelude.{All, sum_by, take, Bool, IsTrue, ◌↔◌}
+use Rattle.std.proofs.Common.{◌≡◌, ◌⊎◌, inl, inr, ℕ, ◌+◌, ◌*◌, ◌≤◌, true, false, List, [], ◌∷◌, ◌++◌, drop, Option, None, Some, refl, sym, ap, ◌∙◌, subst, true≢false, arith, append-nil, append_assoc}
+use Rattle.std.specs.Prelude.{take, Bool, IsTrue, ◌↔◌}
 use Rattle.xet_base.specs.Hash.{all_ones}
 use Rattle.std.proofs.lemmas.List.{take-append-drop}
-use Rattle.std.specs.List.{AllByRecursion}
-use Rattle.std.specs.List.Sorted.{IsStrictlySortedBy}
-use Rattle.std.specs.declared.cmp.Ordering.TheVariants.{Less}
-use Rattle.std.proofs.lemmas.List.Elements.{All-nil, All-cons, All-drop}
-use Rattle.std.proofs.lemmas.List.Sums.{sum_by-cons}
 use Rattle.xet_base.specs.declared.error.CoreError.{CoreError}
 use Rattle.xet_base.specs.declared.error.CoreError.TheVariants.{OutOfMemory}
-use Rattle.xet_base.specs.declared.merklehash.DataHash.{DataHash}
 use Rattle.xet_base.specs.declared.source.MemorySource.{MemorySource}
-use Rattle.xet_base.specs.Hash.{hash_cmp}
 use Rattle.xet_base.specs.InputLaws.{ReadsBytes-trans}
 use Rattle.xet_base.specs.Source.{ReadsBytes, FailedBy, bytes_left}
 use Rattle.xet_base.specs.Source.ReadCase.{out_of_memory, out_of_bytes}
-use Rattle.xet_base.proofs.HashOrder.{hash_cmp-IsTotalOrder}
 use Rattle.xet_base.proofs.Lists.{rest_is}
 use Rattle.xet_base.proofs.Reading.{ReadsBytes-consumes}
 use Rattle.xet_records.specs.declared.record_reader.FormatVersion.{FormatVersion}
@@ -27,11 +19,9 @@ use Rattle.xet_records.proofs.SectionRecords.{rows_after_header}
 use Rattle.xet_shards.specs.Read.SectionReading.{SectionCase}
 use Rattle.xet_shards.specs.Read.SectionReading.SectionCase.{not_read, passes_limit}
 use Rattle.xet_shards.specs.Steps.SectionReading.{RecordFails}
-use Rattle.xet_shards.specs.Write.WithOptions.{Ascends}
 use Rattle.xet_core_structures.specs.declared.set_operations.ranges.HashRange.{HashRange}
 use Rattle.xet_core_structures.specs.declared.set_operations.trees.placed.PlacedRecord.{PlacedRecord}
 use Rattle.xet_core_structures.specs.Records.Ranges.{is_within}
-use Rattle.xet_core_structures.specs.Records.RecordPairs.{key_of_record}
 use Rattle.xet_core_structures.specs.Steps.MergeJoin.{Follows, FollowingFails}
 use Rattle.xet_core_structures.specs.Steps.MergeJoin.FollowingFails.{not_read as next_not_read, falls}
 use Rattle.xet_core_structures.specs.Steps.Placed.{PlacesAll}

@@ -19,6 +19,7 @@ use Rattle.xet_core_structures.specs.declared.set_operations.rows.SectionRows.{S
 use Rattle.xet_core_structures.specs.Records.Ranges.{is_within}
 use Rattle.xet_core_structures.specs.Records.RecordPairs.{key_of_record}
 use Rattle.xet_core_structures.specs.Records.ShardContents.{HasShard, files_at, xorbs_at}
+use Rattle.xet_core_structures.specs.Trees.RangeTrees.{IsRangeOf}
 use Rattle.xet_core_structures.specs.TwoShards.ByteResults.{keyed_layout, key_of, UnitesBytes, LoadRefusal, BytesRefusal}
 
 -- a section has these records of a range, as reading returns them, in its rows from `first` on and
@@ -88,6 +89,17 @@ RowsRefusal range starts ends inputs (Both' p left q right) e =
     ⊎ ((x : List ℕ) × RowsWrite range starts ends inputs left x
     × (RowsRefusal range starts ends inputs right e
     ⊎ ((y : List ℕ) × RowsWrite range starts ends inputs right y × BytesRefusal x y e)))
+
+-- the rows are those of a range in bytes: what they have is the layout of its records
+abbrev pub AreRowsOfRange : HashRange → (start end : SectionRows) → List ℕ → Type 0
+AreRowsOfRange range start end x =
+    (out : List ℕ) × IsRowsOf range start end x out × IsRangeOf range x out
+
+-- the rows are those of a range in each input at some indices
+abbrev pub HaveRowsOfRange : HashRange → (starts ends : List SectionRows) → List (List ℕ)
+    → (ℕ → Type 0) → Type 0
+HaveRowsOfRange range starts ends inputs IsIndex =
+    (i : ℕ) → IsIndex i → InputRowsAre starts ends inputs (AreRowsOfRange range) i
 
 -- a tree writes these byte strings of ranges, one by one: each of the rows from one list of rows on
 -- and before the next

@@ -13,7 +13,7 @@ ghost use Rattle.xet_core_structures.specs.declared.set_operations.ranges.HashRa
 ghost use Rattle.xet_core_structures.specs.declared.set_operations.rows.SectionRows.{SectionRows};
 ghost use Rattle.xet_core_structures.specs.Records.Sizes.{rows_of_shard, bytes_at};
 ghost use Rattle.xet_core_structures.specs.Trees.MergeTrees.{leaves, HasUnion};
-ghost use Rattle.xet_core_structures.specs.Trees.RowTrees.{WriteInRows};
+ghost use Rattle.xet_core_structures.specs.Trees.RowTrees.{IsRowsOf, RowsWrite, WriteInRows};
 ghost use Rattle.xet_core_structures.specs.Trees.RangeTrees.{IsRangeOf, RangeWrites, IsHeldLayout, AreRangesOf};
 ghost use Rattle.xet_core_structures.specs.TwoShards.ByteResults.{keyed_layout, keyed_options, UnitesBytes};
 ghost use Rattle.xet_base.specs.KeyedHash.{no_key};
@@ -93,6 +93,22 @@ pub fn rows_cover_ranges()
         → WriteInRows inputs plan (ranges_between None cuts None) rows outs
         → AllZip (λ range out. RangeWrites range inputs plan out) (ranges_between None cuts None)
         outs }
+{}
+
+/// In some rows, bytes have at most one shard, so `merge_rows_into` has at most one result of a leaf
+/// (`one`). A tree with a union writes of rows at most 344 bytes and 8/3 of the inputs' at its leaves
+/// (`bytes`). If the rows of one input are united with themselves, it is counted once
+/// (`repetition`).
+pub fn rows_are_bounded()
+    ensures one { (range : HashRange) → (start end : SectionRows) → (input x y : List ℕ)
+        → IsRowsOf range start end input x → IsRowsOf range start end input y → x ≡ y }
+    ensures bytes { (range : HashRange) → (inputs : List (List ℕ)) → (starts ends : List SectionRows)
+        → (plan : MergePlan) → (out : List ℕ) → HasUnion plan
+        → RowsWrite range starts ends inputs plan out
+        → 3 * length out ≤ 3 * 344 + 8 * bytes_at inputs (leaves plan) }
+    ensures repetition { (range : HashRange) → (start end : SectionRows) → (input x y out : List ℕ)
+        → IsRowsOf range start end input x → IsRowsOf range start end input y
+        → UnitesBytes x y out → 3 * length out ≤ 3 * 344 + 8 * length input }
 {}
 
 /// The part of a shard in a range has at most the rows of the shard (`rows`). So a tree with a

@@ -1,12 +1,16 @@
 //! Merges of the records in given rows of each input. So threads that each merge a range of hashes
 //! need not each look at all records: where the rows of a range are is found before, once.
 
-ghost use Rattle.std.specs.Prelude.{◌≡◌, List, ℕ, map, MatchResult};
+ghost use Rattle.std.specs.Prelude.{◌≡◌, List, ℕ, map, Contains, MatchResult};
 ghost use Rattle.xet_core_structures.specs.declared.set_operations.MergePlan.TheVariants.{Leaf};
 ghost use Rattle.xet_core_structures.specs.Steps.Parts.{IsUnionPart};
 ghost use Rattle.xet_core_structures.specs.Trees.Filling.{FillsWith};
 ghost use Rattle.xet_core_structures.specs.Trees.InVersions.{MadeIn, RefusedIn};
-ghost use Rattle.xet_core_structures.specs.Trees.RowTrees.{IsRowsOf, RowReadRefusal, RowsWrite, RowsRefusal};
+ghost use Rattle.xet_core_structures.specs.Trees.MergeTrees.{MergeRefused, leaves};
+ghost use Rattle.xet_core_structures.specs.Trees.RangeTrees.{IsRangeMerge, IsHeldLayout};
+ghost use Rattle.xet_core_structures.specs.Trees.RowTrees.{IsRowsOf, RowReadRefusal, RowsWrite, RowsRefusal, HaveRowsOfRange};
+ghost use Rattle.xet_base.specs.declared.merklehash.DataHash.{DataHash};
+ghost use Rattle.xet_shards.specs.Content.Shard.{Shard};
 
 use super::MergePlan;
 use super::ranges::HashRange;
@@ -40,6 +44,9 @@ pub struct SectionRows {
 /// Let calls for ranges that cut all hashes each take the `ends` of the one before as `starts`. If
 /// all succeed, each writes what `merge_range_into` may write. The rows need not be trusted.
 ///
+/// Let the inputs hold well-formed shards under one key that agree pairwise, and the rows be those of
+/// the range in each. Then the result is that of `merge_range_into`.
+///
 /// The error is that of the first leaf or union that fails, left sides first. `InvalidArguments` if
 /// a leaf has no input or no rows, the keys differ, or if in an input's rows there are not whole
 /// records whose hashes strictly ascend and are in the range. It is also if a range without a lower
@@ -56,12 +63,18 @@ pub fn merge_rows_into(
     version: FormatVersion,
     out: &mut [u8],
 ) -> Result<usize>
-    ensures { FillsWith
+    ensures any_bytes { FillsWith
         (MadeIn version (RowsWrite range.now starts.now ends.now (map (λ x. x.now) inputs.now) plan.now))
         (RefusedIn version
         (RowsWrite range.now starts.now ends.now (map (λ x. x.now) inputs.now) plan.now)
         (RowsRefusal range.now starts.now ends.now (map (λ x. x.now) inputs.now) plan.now)) out.old
         out.new result }
+    ensures one_byte_string { (key : DataHash) → (shards : List Shard) → (join part : Shard)
+        → IsRangeMerge range.now key (map (λ x. x.now) inputs.now) plan.now shards join part
+        → HaveRowsOfRange range.now starts.now ends.now (map (λ x. x.now) inputs.now)
+        (Contains (leaves plan.now))
+        → FillsWith (MadeIn version (IsHeldLayout key part))
+        (RefusedIn version (IsHeldLayout key part) (MergeRefused part)) out.old out.new result }
 {
     fill_with_rows(alloc, plan, inputs, starts, ends, range, version, out)
 }

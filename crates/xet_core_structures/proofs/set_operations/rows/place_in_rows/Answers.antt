@@ -1,14 +1,12 @@
-use Rattle.std.proofs.Common.{◌≡◌, ◌⊎◌, ℕ, List, drop, rules, refl, sym, ap, ◌∙◌, subst}
+use Rattle.std.proofs.Common.{◌≡◌, ◌⊎◌, List, rules, refl, subst}
 use Rattle.std.proofs.lemmas.Result.{err_from_is_err_and}
 use Rattle.xet_base.specs.declared.error.CoreError.TheVariants.{OutOfMemory, InvalidArguments}
 use Rattle.xet_records.specs.declared.file_structs.MDBFileInfo.{MDBFileInfo}
-use Rattle.xet_records.specs.declared.record_reader.FormatVersion.{FormatVersion}
 use Rattle.xet_records.specs.declared.xorb_structs.MDBXorbInfo.{MDBXorbInfo}
-use Rattle.xet_records.specs.FileRecord.{file_records, file_records_in}
+use Rattle.xet_records.specs.FileRecord.{file_records}
 use Rattle.xet_records.specs.RecordKind.{in_version}
 use Rattle.xet_records.specs.XorbRecord.{xorb_records}
 use Rattle.xet_shards.specs.Ends.Ends.{HasHeaderAndFooter}
-use Rattle.xet_core_structures.specs.Steps.Placed.{PlacesAll}
 use Rattle.xet_core_structures.specs.Trees.RowTrees.{HasInRows}
 use Rattle.xet_core_structures.proofs.Trees.RowParts.{rows_placed, files_refused, xorbs_refused}
 use Rattle.xet_core_structures.proofs.set_operations.rows.place_in_rows.Goals as goal

@@ -1,4 +1,4 @@
-use Rattle.std.proofs.Common.{ℕ, List, map, ◌<◌, length, rules}
+use Rattle.std.proofs.Common.{ℕ, List, map, rules}
 use Rattle.std.specs.Borrow.{Bor}
 use Rattle.std.proofs.lemmas.Option.{slice_get-get_or}
 use Rattle.xet_core_structures.proofs.Trees.RangeTrees.{at_input}

@@ -3,7 +3,7 @@ use Rattle.std.proofs.lemmas.Result.{err_from_is_err_and}
 use Rattle.xet_base.specs.Source.{ReadsBytes, bytes_left}
 use Rattle.xet_base.specs.declared.error.CoreError.TheVariants.{OutOfMemory}
 use Rattle.xet_records.specs.RecordKind.{in_version}
-use Rattle.xet_records.specs.Reading.{ReadsNextHeader, CountsHeader}
+use Rattle.xet_records.specs.Reading.{ReadsNextHeader}
 use Rattle.xet_records.specs.Reading.NextRecordNotRead.{no_rows}
 use Rattle.xet_records.proofs.RecordKinds.{laws_in}
 use Rattle.xet_shards.proofs.Read.SectionReading.{record_fails}
