@@ -6,7 +6,7 @@
 #include <stdlib.h>
 #include <string.h>
 
-enum { ROOM = 1 << 20, CALLS = 44 };
+enum { ROOM = 1 << 20, CALLS = 46 };
 
 void *__real_malloc(size_t size);
 void *__real_realloc(void *block, size_t size);
@@ -46,6 +46,7 @@ static union {
     xet_chunk_row rows[1000];
     xet_chunk_place places[8];
     uint32_t starts[8];
+    xet_rows ends[2];
     struct {
         xet_file file;
         xet_file_segment segments[100];
@@ -75,6 +76,10 @@ static xet_listed_xorb xorbs[100];
 static xet_chunk chunks_of_xorbs[1000];
 static xet_counts counts;
 static xet_info info;
+/* The rows before which the records of each shard are. */
+static xet_rows ends[2];
+
+static const xet_range all = {{0}, {0}, false, false};
 
 static size_t read_shard(const char *name, uint8_t *bytes) {
     FILE *file = fopen(name, "rb");
@@ -84,17 +89,21 @@ static size_t read_shard(const char *name, uint8_t *bytes) {
     return length;
 }
 
+static uint32_t find_ends(xet_rows *found, size_t *count) {
+    const xet_bytes both[2] = {{first, first_length}, {second, second_length}};
+    return xet_find_ends(both, 2, &all, found, 2, count);
+}
+
 static uint32_t call(int number, size_t *count) {
     const xet_export_options options = {{7, 1, 0, 0}, 1000, 60, true, true, true, true};
     const xet_subset_options times = {9, 0, false};
-    const xet_range all = {{0}, {0}, false, false};
     const xet_hash file = {{100, 1, 0, 0}}, chunks[2] = {{{21, 1, 0, 0}}, {{22, 1, 0, 0}}}, xorb = {{10, 1, 0, 0}};
     const xet_bytes both[2] = {{first, first_length}, {second, second_length}};
     const xet_bytes twice[2] = {{first, first_length}, {first, first_length}};
     size_t differing = 0;
     const char *name = "0000000000000001000000000000000200000000000000030000000000000004.mdb";
     /* These write no count. */
-    if (number == 6 || (number > 25 && number < 30) || number > 39)
+    if (number == 6 || (number > 25 && number < 30) || number > 41)
         *count = 0;
     switch (number) {
     case 0:
@@ -191,10 +200,16 @@ static uint32_t call(int number, size_t *count) {
     case 39:
         return xet_subset_in(first, first_length, &times, &xorb, 1, 2, out.bytes, ROOM, count);
     case 40:
-        return xet_hash_from_hex((const uint8_t *)name, 64, out.hashes);
-    case 41:
-        return xet_parse_shard_name((const uint8_t *)name, 68, out.hashes);
+        return find_ends(out.ends, count);
+    case 41: {
+        const xet_rows starts[2] = {{0, 0}, {0, 0}};
+        return xet_merge_rows(both, 2, starts, 2, ends, 2, &all, out.bytes, ROOM, count);
+    }
     case 42:
+        return xet_hash_from_hex((const uint8_t *)name, 64, out.hashes);
+    case 43:
+        return xet_parse_shard_name((const uint8_t *)name, 68, out.hashes);
+    case 44:
         return xet_hash_bytes(&file, first, first_length, out.hashes) | xet_hmac(&file, chunks, out.hashes);
     default:
         return xet_version() == XET_VERSION_NUMBER ? xet_load(first, first_length, &out.info) : XET_OTHER;
@@ -209,6 +224,9 @@ int main(int words, char **names) {
     if (xet_load(first, first_length, &info) != 0)
         return 2;
     if (xet_records(first, first_length, files, 100, segments, 1000, xorbs, 100, chunks_of_xorbs, 1000, &counts) != 0)
+        return 2;
+    size_t found;
+    if (find_ends(ends, &found) != 0)
         return 2;
     for (int number = 0; number < CALLS; number++) {
         long turn = 0;

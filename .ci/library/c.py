@@ -142,8 +142,8 @@ def check_refusals(room, flags, shard):
         return why
     printed, why = ran(program, *names)
     counts = [int(it) for it in re.findall(r": (\d+) refusals", printed)]
-    # Of 44 calls the last four do not allocate.
-    if why or [it > 0 for it in counts] != [True] * 40 + [False] * 4:
+    # Of 46 calls the last four do not allocate.
+    if why or [it > 0 for it in counts] != [True] * 42 + [False] * 4:
         return why or f"refused_calls prints {printed}"
     print(f"bindings: {sum(counts)} refused allocations in {len(counts)} calls")
     return None

@@ -259,6 +259,24 @@ def test_a_range_that_fails():
             setattr(ranges, name, original)
 
 
+def test_merges_of_rows():
+    """Where tables are right and first words differ, no thread reads more than the rows of its range."""
+    class OfRows:
+        def __getattr__(self, name):
+            assert name != "xet_merge_range"
+            return getattr(library, name)
+
+    choice, library, found = random.Random(6), ranges._library, 0
+    ranges._library = OfRows()
+    try:
+        for turn in range(30):
+            shards = random_shards(choice, spread)
+            found = max(found, check_parts(shards, 2 + turn % 4, xet_shards.merge(shards)))
+    finally:
+        ranges._library = library
+    assert found == 5
+
+
 def test_bytes_of_large_merges():
     """Bytes are made in memory that is longer, and for which large pages are asked."""
     shards = [shard_of("xorb 10" + " 21:1" * 1000, "xorb 11" + " 22:1" * 1000)] * 120
