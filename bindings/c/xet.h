@@ -164,8 +164,9 @@ typedef struct xet_export_options {
  * XET_IO: there are too few bytes for a header and a footer. */
 uint32_t xet_load(const uint8_t *shard, size_t length, xet_info *info);
 
-/* The room that is enough for xet_union, xet_merge, xet_merge_range and xet_merge_agreeing of shards of so many bytes
- * in all, whatever they hold, and for xet_difference if its second shard has so many: 344 bytes, and 8/3 of these. */
+/* The room that is enough for xet_union, xet_merge, xet_merge_range, xet_merge_rows and xet_merge_agreeing of shards of
+ * so many bytes in all, whatever they hold, and for xet_difference if its second shard has so many: 344 bytes, and 8/3 of
+ * these. */
 static inline size_t xet_union_room(size_t bytes) {
     return bytes / 3 > (SIZE_MAX - 352) / 8 ? SIZE_MAX : 352 + bytes / 3 * 8;
 }
