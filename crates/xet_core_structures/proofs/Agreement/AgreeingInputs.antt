@@ -1,5 +1,5 @@
 -- Inputs in memory hold shards, and which of these disagree.
-use Rattle.std.proofs.Common.{Vec, Global, ◌≡◌, ◌⊎◌, inl, inr, ℕ, zero, suc, ◌<◌, List, [], ◌∷◌, ◌++◌, length, map, Some, Ok, Err, refl, sym, ap, ◌∙◌, subst, cond, arith, Bool, true, false}
+use Rattle.std.proofs.Common.{◌≡◌, ◌⊎◌, inl, inr, ℕ, zero, suc, ◌<◌, List, [], ◌∷◌, ◌++◌, length, map, Some, Ok, Err, refl, sym, ap, ◌∙◌, subst, cond, arith, Bool, true, false}
 use Rattle.std.specs.Prelude.{Contains, IfOk, IfErr, MatchResult, slice_get}
 use Rattle.std.specs.declared.result.Result.{Result}
 use Rattle.std.specs.List.{AllZip}
@@ -12,8 +12,6 @@ use Rattle.xet_base.specs.declared.error.CoreError.TheVariants.{OutOfMemory}
 use Rattle.xet_base.specs.declared.merklehash.DataHash.{DataHash}
 use Rattle.xet_base.specs.Hash.{hash_cmp}
 use Rattle.xet_base.proofs.HashOrder.{same_key}
-use Rattle.xet_records.specs.declared.file_structs.header.FileDataSequenceHeader.{FileDataSequenceHeader}
-use Rattle.xet_records.specs.declared.xorb_structs.XorbChunkSequenceHeader.{XorbChunkSequenceHeader}
 use Rattle.xet_records.specs.RecordKind.{RecordKind}
 use Rattle.xet_records.specs.FileRecord.{file_records}
 use Rattle.xet_records.specs.XorbRecord.{xorb_records}
@@ -24,9 +22,7 @@ use Rattle.xet_core_structures.specs.declared.set_operations.agreement.Disagreem
 use Rattle.xet_core_structures.specs.declared.set_operations.agreement.RecordHash.{RecordHash}
 use Rattle.xet_core_structures.specs.declared.set_operations.agreement.RecordHash.TheVariants.{File, Xorb}
 use Rattle.xet_core_structures.specs.declared.set_operations.agreement.differing.Differing.{Differing}
-use Rattle.xet_core_structures.specs.declared.set_operations.trees.inputs.PlacedInputs.{PlacedInputs}
-use Rattle.xet_core_structures.specs.declared.set_operations.trees.parts.PlacedShard.{PlacedShard}
-use Rattle.xet_core_structures.specs.declared.set_operations.trees.placed.PlacedRecord.{PlacedRecord}
+use Rattle.xet_core_structures.specs.declared.set_operations.trees.inputs.OpenShard.{OpenShard}
 use Rattle.xet_core_structures.specs.Agreement.Agreement.{HoldsAt, InputsAgree, InputsDisagree, AgreeOn, HasAllDisagreements, InputsRefusal, disagreement_of}
 use Rattle.xet_core_structures.specs.Steps.Agreement.{AreEqual}
 use Rattle.xet_core_structures.specs.Steps.ByteResults.{Records}
@@ -34,7 +30,7 @@ use Rattle.xet_core_structures.specs.Records.RecordPairs.{key_of_record, with_ha
 use Rattle.xet_core_structures.specs.Steps.Differing.{Differ, AgreeUnder, FindsDiffering}
 use Rattle.xet_core_structures.specs.Steps.Differing.{HasRecord}
 use Rattle.xet_core_structures.specs.Records.ShardContents.{HasShard}
-use Rattle.xet_core_structures.specs.Steps.Parts.{IsPlacedOf, ArePlaced, MayBeUnited}
+use Rattle.xet_core_structures.specs.Steps.Parts.{IsOpenOf, AreOpened, MayBeUnited}
 use Rattle.xet_core_structures.specs.Steps.Placed.{MayUnite}
 use Rattle.xet_core_structures.proofs.Records.Items.{has_mapped, mapped_back}
 use Rattle.xet_core_structures.proofs.Records.ShardContents.{only_shard}
@@ -55,17 +51,17 @@ module _ {H R : Type 0} (K : RecordKind H R) where
   found_in q (x ∷ xs) r found = found_here q x xs r (eq_by_cmp hash_cmp q (key_of_record K x)) refl found (found_in q xs r)
 
 -- the shard of records in memory
-module _ (shard : PlacedShard) (bytes : List ℕ) (is : IsPlacedOf shard bytes) where
+module _ (opened : OpenShard) (bytes : List ℕ) (is : IsOpenOf opened bytes) where
   abbrev records_in : Records
-  records_in = is.2.records
+  records_in = is.1.2.records
 
-  united_in : MayBeUnited shard records_in
-  united_in = may_be_united bytes is.0 shard is.2
+  united_in : MayBeUnited opened.records records_in
+  united_in = may_be_united bytes is.1.0 opened.records is.1.2
 
   has_shard : HasShard (shard_of records_in) bytes
-  has_shard = record { info = is.0; ends = is.1; holds = lists_hold bytes is.0 records_in is.2.lists }
+  has_shard = record { info = is.1.0; ends = is.1.1; holds = lists_hold bytes is.1.0 records_in is.1.2.lists }
 
-zip_held : (shards : List PlacedShard) (inputs : List (List ℕ)) → AllZip IsPlacedOf shards inputs → (i : ℕ) → i < length inputs → (s : Shard) × HoldsAt inputs i s
+zip_held : (shards : List OpenShard) (inputs : List (List ℕ)) → AreOpened inputs shards → (i : ℕ) → i < length inputs → (s : Shard) × HoldsAt inputs i s
 zip_held shards [] all i low = absurd (omega (arith, low))
 zip_held [] (x ∷ inputs) all i low = absurd all
 zip_held (p ∷ shards) (x ∷ inputs) all zero low = (shard_of (records_in p x all.0), (x, refl, has_shard p x all.0))
@@ -73,29 +69,29 @@ zip_held (p ∷ shards) (x ∷ inputs) all (suc i) low = zip_held shards inputs 
 
 module _ {R : Type 0} (listed : Records → List R) where
   -- the lists of records that inputs have
-  abbrev pub lists_of : (shards : List PlacedShard) (inputs : List (List ℕ)) → AllZip IsPlacedOf shards inputs → List (List R)
+  abbrev pub lists_of : (shards : List OpenShard) (inputs : List (List ℕ)) → AreOpened inputs shards → List (List R)
   lists_of [] inputs all = []
   lists_of (p ∷ shards) [] all = absurd all
   lists_of (p ∷ shards) (x ∷ inputs) all = listed (records_in p x all.0) ∷ lists_of shards inputs all.1
 
-  list_of : (shards : List PlacedShard) (inputs : List (List ℕ)) (all : AllZip IsPlacedOf shards inputs) (i : ℕ) (x : List ℕ) → slice_get inputs i ≡ Some x
-      → (p : PlacedShard) × (is : IsPlacedOf p x) × (slice_get (lists_of shards inputs all) i ≡ Some (listed (records_in p x is)))
+  list_of : (shards : List OpenShard) (inputs : List (List ℕ)) (all : AreOpened inputs shards) (i : ℕ) (x : List ℕ) → slice_get inputs i ≡ Some x
+      → (p : OpenShard) × (is : IsOpenOf p x) × (slice_get (lists_of shards inputs all) i ≡ Some (listed (records_in p x is)))
   list_of [] [] all i x at = absurd (none-some x at)
   list_of [] (y ∷ inputs) all i x at = absurd all
   list_of (p ∷ shards) [] all i x at = absurd all
   list_of (p ∷ shards) (y ∷ inputs) all zero x at =
-      subst (λ z. (q : PlacedShard) × (is : IsPlacedOf q z) × (Some (listed (records_in p y all.0)) ≡ Some (listed (records_in q z is)))) (same_Some y x at) (p, all.0, refl)
+      subst (λ z. (q : OpenShard) × (is : IsOpenOf q z) × (Some (listed (records_in p y all.0)) ≡ Some (listed (records_in q z is)))) (same_Some y x at) (p, all.0, refl)
   list_of (p ∷ shards) (y ∷ inputs) all (suc i) x at = list_of shards inputs all.1 i x at
 
-  input_of : (shards : List PlacedShard) (inputs : List (List ℕ)) (all : AllZip IsPlacedOf shards inputs) (i : ℕ) (rs : List R) → slice_get (lists_of shards inputs all) i ≡ Some rs
-      → (x : List ℕ) × (slice_get inputs i ≡ Some x) × (p : PlacedShard) × (is : IsPlacedOf p x) × (listed (records_in p x is) ≡ rs)
+  input_of : (shards : List OpenShard) (inputs : List (List ℕ)) (all : AreOpened inputs shards) (i : ℕ) (rs : List R) → slice_get (lists_of shards inputs all) i ≡ Some rs
+      → (x : List ℕ) × (slice_get inputs i ≡ Some x) × (p : OpenShard) × (is : IsOpenOf p x) × (listed (records_in p x is) ≡ rs)
   input_of [] inputs all i rs at = absurd (none-some rs at)
   input_of (p ∷ shards) [] all i rs at = absurd all
   input_of (p ∷ shards) (y ∷ inputs) all zero rs at = (y, refl, p, all.0, same_Some (listed (records_in p y all.0)) rs at)
   input_of (p ∷ shards) (y ∷ inputs) all (suc i) rs at = input_of shards inputs all.1 i rs at
 
   module _ {H : Type 0} (K : RecordKind H R) (agree : R → R → Type 0) (records_of : Shard → FinMap hash_cmp R) (are : (records : Records) → records_of (shard_of records) ≡ list_map K (listed records))
-      (ascend : (p : PlacedShard) (x : List ℕ) (is : IsPlacedOf p x) → Ascends K (listed (records_in p x is))) (shards : List PlacedShard) (inputs : List (List ℕ)) (all : AllZip IsPlacedOf shards inputs) where
+      (ascend : (p : OpenShard) (x : List ℕ) (is : IsOpenOf p x) → Ascends K (listed (records_in p x is))) (shards : List OpenShard) (inputs : List (List ℕ)) (all : AreOpened inputs shards) where
     -- a record of a list is one of the shard that the input holds
     record IsHeldBy (i : ℕ) (r : R) : Type 0 where
       shard : Shard
@@ -136,39 +132,23 @@ module _ {R : Type 0} (listed : Records → List R) where
         agrees i j a b left.0 right.0 left.1 right.1
 
 -- the lists of files, and those of xorbs
-files_ascend : (p : PlacedShard) (x : List ℕ) (is : IsPlacedOf p x) → Ascends file_records (records_in p x is).files
+files_ascend : (p : OpenShard) (x : List ℕ) (is : IsOpenOf p x) → Ascends file_records (records_in p x is).files
 files_ascend p x is = (united_in p x is).files_ascend
 
-xorbs_ascend : (p : PlacedShard) (x : List ℕ) (is : IsPlacedOf p x) → Ascends xorb_records (records_in p x is).xorbs
+xorbs_ascend : (p : OpenShard) (x : List ℕ) (is : IsOpenOf p x) → Ascends xorb_records (records_in p x is).xorbs
 xorbs_ascend p x is = (united_in p x is).xorbs_ascend
 
-placed_files : (shards : List PlacedShard) (inputs : List (List ℕ)) (all : AllZip IsPlacedOf shards inputs) → AllZip (MayUnite file_records) (map (λ s. s.files.items) shards) (lists_of (λ (r : Records). r.files) shards inputs all)
+pub placed_files : (shards : List OpenShard) (inputs : List (List ℕ)) (all : AreOpened inputs shards) → AllZip (MayUnite file_records) (map (λ s. s.records.files.items) shards) (lists_of (λ (r : Records). r.files) shards inputs all)
 placed_files [] inputs all = tt
 placed_files (p ∷ shards) [] all = absurd all
 placed_files (p ∷ shards) (x ∷ inputs) all = (record { places = (united_in p x all.0).places.files; ascends = (united_in p x all.0).files_ascend }, placed_files shards inputs all.1)
 
-placed_xorbs : (shards : List PlacedShard) (inputs : List (List ℕ)) (all : AllZip IsPlacedOf shards inputs) → AllZip (MayUnite xorb_records) (map (λ s. s.xorbs.items) shards) (lists_of (λ (r : Records). r.xorbs) shards inputs all)
+pub placed_xorbs : (shards : List OpenShard) (inputs : List (List ℕ)) (all : AreOpened inputs shards) → AllZip (MayUnite xorb_records) (map (λ s. s.records.xorbs.items) shards) (lists_of (λ (r : Records). r.xorbs) shards inputs all)
 placed_xorbs [] inputs all = tt
 placed_xorbs (p ∷ shards) [] all = absurd all
 placed_xorbs (p ∷ shards) (x ∷ inputs) all = (record { places = (united_in p x all.0).places.xorbs; ascends = (united_in p x all.0).xorbs_ascend }, placed_xorbs shards inputs all.1)
 
-map_twice : {A B C : Type 0} (f : B → C) (g : A → B) (xs : List A) → map f (map g xs) ≡ map (λ x. f (g x)) xs
-map_twice f g [] = refl
-map_twice f g (x ∷ xs) = ap (λ l. f (g x) ∷ l) (map_twice f g xs)
-
--- those in a list of lists are these
-module _ (inputs : List (List ℕ)) (placed : PlacedInputs) (are : ArePlaced inputs placed) where
-  pub files_lie : (lists : List (Vec (PlacedRecord FileDataSequenceHeader) Global)) → lists ≡ placed.files.items → AllZip (MayUnite file_records) (map (λ l. l.items) lists) (lists_of (λ (r : Records). r.files) are.shards inputs are.each)
-  files_lie lists is =
-      subst (λ ls. AllZip (MayUnite file_records) ls (lists_of (λ (r : Records). r.files) are.shards inputs are.each)) (sym (ap (map (λ l. l.items)) (is ∙ are.files) ∙ map_twice (λ l. l.items) (λ (s : PlacedShard). s.files) are.shards))
-      (placed_files are.shards inputs are.each)
-
-  pub xorbs_lie : (lists : List (Vec (PlacedRecord XorbChunkSequenceHeader) Global)) → lists ≡ placed.xorbs.items → AllZip (MayUnite xorb_records) (map (λ l. l.items) lists) (lists_of (λ (r : Records). r.xorbs) are.shards inputs are.each)
-  xorbs_lie lists is =
-      subst (λ ls. AllZip (MayUnite xorb_records) ls (lists_of (λ (r : Records). r.xorbs) are.shards inputs are.each)) (sym (ap (map (λ l. l.items)) (is ∙ are.xorbs) ∙ map_twice (λ l. l.items) (λ (s : PlacedShard). s.xorbs) are.shards))
-      (placed_xorbs are.shards inputs are.each)
-
-module _ (shards : List PlacedShard) (inputs : List (List ℕ)) (all : AllZip IsPlacedOf shards inputs) (files xorbs : List Differing)
+module _ (shards : List OpenShard) (inputs : List (List ℕ)) (all : AreOpened inputs shards) (files xorbs : List Differing)
     (files_found : FindsDiffering file_records Agree (lists_of (λ (r : Records). r.files) shards inputs all) files) (xorbs_found : FindsDiffering xorb_records AreEqual (lists_of (λ (r : Records). r.xorbs) shards inputs all) xorbs) where
   abbrev of_file : Differing → Disagreement
   of_file = disagreement_of File

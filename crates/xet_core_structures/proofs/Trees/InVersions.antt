@@ -29,7 +29,7 @@ use Rattle.xet_shards.proofs.Write.Written.{layout-parts}
 use Rattle.xet_core_structures.specs.declared.set_operations.MergePlan.{MergePlan}
 use Rattle.xet_core_structures.specs.declared.set_operations.MergePlan.TheVariants.{Leaf, Both'}
 use Rattle.xet_core_structures.specs.declared.set_operations.trees.parts.TreePart.{TreePart}
-use Rattle.xet_core_structures.specs.declared.set_operations.trees.parts.TreePart.TheVariants.{Input, Placed, United}
+use Rattle.xet_core_structures.specs.declared.set_operations.trees.parts.TreePart.TheVariants.{Input, United}
 use Rattle.xet_core_structures.specs.declared.set_operations.trees.parts.PlacedShard.{PlacedShard}
 use Rattle.xet_core_structures.specs.declared.set_operations.trees.placed.PlacedRecord.{PlacedRecord}
 use Rattle.xet_core_structures.specs.TwoShards.ByteResults.{keyed_options}
@@ -162,16 +162,14 @@ filled_numbered true false bytes old mid new size header (size_is, inr (past, un
 module _ (Makes : List ℕ → Type 0) (Refuses : CoreError → Type 0) (bytes : List ℕ) (makes : Makes bytes) (no_memory : Refuses OutOfMemory) where
   pub made_of_union : (version : FormatVersion) (part : TreePart) (out : List ℕ) → IsUnionPart bytes part → IsPartIn version part bytes out → MadeIn version Makes out
   made_of_union V3 part out is same = subst Makes (sym same) makes
-  made_of_union V2 (Input x) out is made = absurd is
-  made_of_union V2 (Placed x lists) out is made = absurd is
+  made_of_union V2 (Input x placed) out is made = absurd is
   made_of_union V2 (United shard) out is made = (bytes, makes, made)
 
   pub refused_of_union : (version : FormatVersion) (part : TreePart) (e : CoreError) → IsUnionPart bytes part → IsNotWritten version part bytes e → RefusedIn version Makes Refuses e
   refused_of_union V3 part e is (inl lacks) = subst Refuses (sym lacks) no_memory
   refused_of_union V3 part e is (inr (invalid, new)) = absurd new
   refused_of_union V2 part e is (inl lacks) = inl (subst Refuses (sym lacks) no_memory)
-  refused_of_union V2 (Input x) e is (inr (invalid, new)) = absurd new
-  refused_of_union V2 (Placed x lists) e is (inr (invalid, new)) = absurd new
+  refused_of_union V2 (Input x placed) e is (inr (invalid, new)) = absurd new
   refused_of_union V2 (United shard) e is (inr (invalid, new)) = inr (invalid, (bytes, makes, new))
 
 -- what is made of what a tree gives
@@ -179,8 +177,7 @@ module _ (inputs : List (List ℕ)) where
   pub made_of_tree : (version : FormatVersion) (plan : MergePlan) (bytes : List ℕ) (part : TreePart) (out : List ℕ) → TreeWrites inputs plan bytes → IsPartOf plan bytes part → IsPartIn version part bytes out
       → TreeWritesIn version inputs plan out
   made_of_tree V3 plan bytes part out writes is same = subst (TreeWrites inputs plan) (sym same) writes
-  made_of_tree V2 (Leaf i) bytes (Input x) out writes is same = subst (TreeWrites inputs (Leaf i)) (sym same) writes
-  made_of_tree V2 (Leaf i) bytes (Placed x lists) out writes is same = subst (TreeWrites inputs (Leaf i)) (sym same) writes
+  made_of_tree V2 (Leaf i) bytes (Input x placed) out writes is same = subst (TreeWrites inputs (Leaf i)) (sym same) writes
   made_of_tree V2 (Leaf i) bytes (United shard) out writes is same = absurd is
   made_of_tree V2 (Both' p left q right) bytes part out writes is made =
       made_of_union (TreeWrites inputs (Both' p left q right)) (TreeRefusal inputs (Both' p left q right)) bytes writes (no_memory_after inputs (Both' p left q right) bytes writes) V2 part out is made
@@ -190,8 +187,7 @@ module _ (inputs : List (List ℕ)) where
   refused_of_tree V3 plan bytes part e writes is (inl lacks) = subst (TreeRefusal inputs plan) (sym lacks) (no_memory_after inputs plan bytes writes)
   refused_of_tree V3 plan bytes part e writes is (inr (invalid, new)) = absurd new
   refused_of_tree V2 (Leaf i) bytes part e writes is (inl lacks) = subst (TreeRefusal inputs (Leaf i)) (sym lacks) (no_memory_after inputs (Leaf i) bytes writes)
-  refused_of_tree V2 (Leaf i) bytes (Input x) e writes is (inr (invalid, new)) = absurd new
-  refused_of_tree V2 (Leaf i) bytes (Placed x lists) e writes is (inr (invalid, new)) = absurd new
+  refused_of_tree V2 (Leaf i) bytes (Input x placed) e writes is (inr (invalid, new)) = absurd new
   refused_of_tree V2 (Leaf i) bytes (United shard) e writes is (inr (invalid, new)) = absurd is
   refused_of_tree V2 (Both' p left q right) bytes part e writes is refused =
       refused_of_union (TreeWrites inputs (Both' p left q right)) (TreeRefusal inputs (Both' p left q right)) bytes writes (no_memory_after inputs (Both' p left q right) bytes writes) V2 part e is refused

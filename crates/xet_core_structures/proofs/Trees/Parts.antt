@@ -29,7 +29,7 @@ use Rattle.xet_core_structures.specs.declared.set_operations.MergePlan.{MergePla
 use Rattle.xet_core_structures.specs.declared.set_operations.MergePlan.TheVariants.{Leaf, Both'}
 use Rattle.xet_core_structures.specs.declared.set_operations.trees.parts.PlacedShard.{PlacedShard}
 use Rattle.xet_core_structures.specs.declared.set_operations.trees.parts.TreePart.{TreePart}
-use Rattle.xet_core_structures.specs.declared.set_operations.trees.parts.TreePart.TheVariants.{Input, Placed, United}
+use Rattle.xet_core_structures.specs.declared.set_operations.trees.parts.TreePart.TheVariants.{Input, United}
 use Rattle.xet_core_structures.specs.Records.ByteUnion.{IsEitherFile, IsEitherXorb, IsByteUnion}
 use Rattle.xet_core_structures.specs.TwoShards.ByteResults.{keyed_layout, keyed_info, key_of, HaveResult, HaveNoUnionOf, HaveNoUnion, InputRefusal, UnitesBytes, BytesRefusal}
 use Rattle.xet_core_structures.specs.Steps.ByteResults.{Records, HaveInputs, AreCombined}
@@ -219,14 +219,12 @@ lists_refused x i y j one other e first second (inr (invalid, none)) = inr (inva
 
 -- a union is a part
 pub part_of_union : (bytes : List ℕ) (part : TreePart) → IsUnionPart bytes part → IsPart bytes part
-part_of_union bytes (Input x) is = absurd is
-part_of_union bytes (Placed x lists) is = absurd is
+part_of_union bytes (Input x placed) is = absurd is
 part_of_union bytes (United shard) is = is
 
 -- so is what a tree gives
 pub part_of_tree : (plan : MergePlan) (bytes : List ℕ) (part : TreePart) → IsPartOf plan bytes part → IsPart bytes part
-part_of_tree (Leaf i) bytes (Input x) is = is
-part_of_tree (Leaf i) bytes (Placed x lists) is = is
+part_of_tree (Leaf i) bytes (Input x placed) is = is
 part_of_tree (Leaf i) bytes (United shard) is = absurd is
 part_of_tree (Both' p left q right) bytes part is = part_of_union bytes part is
 

@@ -20,12 +20,12 @@ use Rattle.xet_core_structures.specs.declared.set_operations.agreement.AgreedPar
 use Rattle.xet_core_structures.specs.declared.set_operations.MergePlan.{MergePlan}
 use Rattle.xet_core_structures.specs.declared.set_operations.MergePlan.TheVariants.{Leaf, Both'}
 use Rattle.xet_core_structures.specs.declared.set_operations.agreement.WellFormed.{WellFormed}
-use Rattle.xet_core_structures.specs.declared.set_operations.agreement.WellFormed.TheVariants.{Placed, Malformed as FormedMalformed}
+use Rattle.xet_core_structures.specs.declared.set_operations.agreement.WellFormed.TheVariants.{Opened, Malformed as FormedMalformed}
 use Rattle.xet_core_structures.specs.Agreement.Agreement.{HasMalformed, HoldShards, IsFirstMalformed, InputsAgree, HasAllDisagreements}
 use Rattle.xet_core_structures.specs.Records.ShardContents.{HasShard}
 use Rattle.xet_core_structures.specs.Trees.MergeTrees.{TreeWrites}
 use Rattle.xet_core_structures.specs.TwoShards.ByteResults.{UnitesBytes}
-use Rattle.xet_core_structures.specs.Steps.Parts.{ArePlaced, IsPartOf}
+use Rattle.xet_core_structures.specs.Steps.Parts.{AreOpened, IsPartOf}
 use Rattle.xet_core_structures.specs.Steps.Placed.{PlacesAll}
 
 -- two xorbs agree if they are equal
@@ -65,9 +65,9 @@ FindsMalformedIn bytes found =
     MatchOption found ((s : Shard) × HasShard s bytes × IsShard s)
     (λ h. (s : Shard) × HasShard s bytes × HasMalformed s h)
 
--- inputs that hold well-formed shards were placed, or one holds a record that no shard may have
+-- inputs that hold well-formed shards were opened, or one holds a record that no shard may have
 abbrev pub IsWellFormedOr : List (List ℕ) → WellFormed → Type 0
-IsWellFormedOr inputs (Placed placed) = HoldShards inputs × ArePlaced inputs placed
+IsWellFormedOr inputs (Opened opened) = HoldShards inputs × AreOpened inputs opened.items
 IsWellFormedOr inputs (FormedMalformed m) = IsFirstMalformed inputs m
 
 -- two records agree, if both are there

@@ -7,7 +7,7 @@ use Rattle.xet_records.specs.declared.record_reader.FormatVersion.{FormatVersion
 use Rattle.xet_records.specs.declared.record_reader.FormatVersion.TheVariants.{V2, V3}
 use Rattle.xet_records.specs.Version.{number_of}
 use Rattle.xet_core_structures.specs.declared.set_operations.trees.parts.TreePart.{TreePart}
-use Rattle.xet_core_structures.specs.declared.set_operations.trees.parts.TreePart.TheVariants.{Input, Placed, United}
+use Rattle.xet_core_structures.specs.declared.set_operations.trees.parts.TreePart.TheVariants.{Input, United}
 use Rattle.xet_core_structures.specs.Trees.InVersions.{AreInBothVersions, HasNewFiles}
 
 -- bytes with the number of version 2 in their header
@@ -22,15 +22,13 @@ AreNumbered false bytes out = out ≡ bytes
 -- the bytes of a part in a version; an input has the version that it has
 abbrev pub IsPartIn : FormatVersion → TreePart → List ℕ → List ℕ → Type 0
 IsPartIn V3 part bytes out = out ≡ bytes
-IsPartIn V2 (Input x) bytes out = out ≡ bytes
-IsPartIn V2 (Placed x lists) bytes out = out ≡ bytes
+IsPartIn V2 (Input x placed) bytes out = out ≡ bytes
 IsPartIn V2 (United shard) bytes out = AreInBothVersions bytes out
 
 -- a part has a file that the version in which it is to be written does not have
 abbrev pub IsTooNew : FormatVersion → TreePart → List ℕ → Type 0
 IsTooNew V3 part bytes = ⊥
-IsTooNew V2 (Input x) bytes = ⊥
-IsTooNew V2 (Placed x lists) bytes = ⊥
+IsTooNew V2 (Input x placed) bytes = ⊥
 IsTooNew V2 (United shard) bytes = HasNewFiles bytes
 
 -- why a part is not written in a version

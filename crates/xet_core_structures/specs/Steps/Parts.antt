@@ -1,5 +1,5 @@
 -- Steps towards what `Parts` defines, which only contracts inside the crate speak of.
-use Rattle.std.specs.Prelude.{◌≡◌, ◌⊎◌, ℕ, List, map, Option}
+use Rattle.std.specs.Prelude.{◌≡◌, ◌⊎◌, ℕ, List, Option, IfSome}
 use Rattle.std.specs.FinMap.{values}
 use Rattle.std.specs.List.{AllZip}
 use Rattle.xet_records.specs.declared.file_structs.MDBFileInfo.{MDBFileInfo}
@@ -12,15 +12,14 @@ use Rattle.xet_shards.specs.Write.WithOptions.{Ascends, FitsSection}
 use Rattle.xet_shards.specs.Content.Shard.{Shard}
 use Rattle.xet_core_structures.specs.declared.set_operations.MergePlan.{MergePlan}
 use Rattle.xet_core_structures.specs.declared.set_operations.MergePlan.TheVariants.{Leaf, Both'}
-use Rattle.xet_core_structures.specs.declared.set_operations.trees.inputs.PlacedInputs.{PlacedInputs}
-use Rattle.xet_core_structures.specs.declared.set_operations.trees.parts.PlacedLists.{PlacedLists}
+use Rattle.xet_core_structures.specs.declared.set_operations.trees.inputs.OpenShard.{OpenShard}
 use Rattle.xet_core_structures.specs.declared.set_operations.trees.parts.PlacedShard.{PlacedShard}
 use Rattle.xet_core_structures.specs.declared.set_operations.trees.parts.TreePart.{TreePart}
-use Rattle.xet_core_structures.specs.declared.set_operations.trees.parts.TreePart.TheVariants.{Input, Placed, United}
+use Rattle.xet_core_structures.specs.declared.set_operations.trees.parts.TreePart.TheVariants.{Input, United}
 use Rattle.xet_core_structures.specs.declared.set_operations.trees.parts.OpenPart.{OpenPart}
-use Rattle.xet_core_structures.specs.declared.set_operations.trees.parts.OpenPart.TheVariants.{Input as OpenedInput, Placed as OpenedPlaced, United as OpenedUnion}
+use Rattle.xet_core_structures.specs.declared.set_operations.trees.parts.OpenPart.TheVariants.{Input as OpenedInput, Listed}
 use Rattle.xet_core_structures.specs.declared.set_operations.trees.parts.PartRecords.{PartRecords}
-use Rattle.xet_core_structures.specs.declared.set_operations.trees.parts.PartRecords.TheVariants.{Own, Placed as PlacedBefore}
+use Rattle.xet_core_structures.specs.declared.set_operations.trees.parts.PartRecords.TheVariants.{Own, Placed}
 use Rattle.xet_core_structures.specs.TwoShards.ByteResults.{key_of, keyed_info}
 use Rattle.xet_core_structures.specs.Steps.ByteResults.{Records}
 use Rattle.xet_core_structures.specs.Steps.ShardContents.{HoldsLists}
@@ -57,23 +56,18 @@ abbrev pub IsPlacedOf : PlacedShard → List ℕ → Type 0
 IsPlacedOf shard bytes =
     (info : MDBShardInfo) × HasHeaderAndFooter bytes info × PlacesShard bytes info shard
 
--- these are the records of inputs in memory
-pub record ArePlaced (inputs : List (List ℕ)) (placed : PlacedInputs) : Type 0 where
-  pub shards : List PlacedShard
-  pub each : AllZip IsPlacedOf shards inputs
-  pub bytes : map (λ x. x.now) placed.inputs.items ≡ inputs
-  pub keys : placed.keys.items ≡ map (λ s. s.key) shards
-  pub files : placed.files.items ≡ map (λ s. s.files) shards
-  pub xorbs : placed.xorbs.items ≡ map (λ s. s.xorbs) shards
+-- an opened input has these bytes, and the records of the shard that they hold
+abbrev pub IsOpenOf : OpenShard → List ℕ → Type 0
+IsOpenOf opened bytes = (opened.bytes.now ≡ bytes) × IsPlacedOf opened.records bytes
 
--- the shard in memory that has these records
-abbrev pub shard_with : PlacedLists → PlacedShard
-shard_with l = record { key = l.key; files = l.files.now; xorbs = l.xorbs.now }
+-- these are inputs, opened
+abbrev pub AreOpened : List (List ℕ) → List OpenShard → Type 0
+AreOpened inputs opened = AllZip IsOpenOf opened inputs
 
 -- the shard in memory that has the records of a part
 abbrev pub shard_in : PartRecords → PlacedShard
 shard_in (Own shard) = shard
-shard_in (PlacedBefore lists) = shard_with lists
+shard_in (Placed shard) = shard.now
 
 -- files or xorbs have no such union within the rows of a section
 abbrev pub HaveNoRecordUnion :
@@ -94,28 +88,24 @@ pub record IsUnited (bytes : List ℕ) (info : MDBShardInfo) (shard : PlacedShar
 
 -- a part stands for these bytes
 abbrev pub IsPart : List ℕ → TreePart → Type 0
-IsPart bytes (Input x) = x.now ≡ bytes
-IsPart bytes (Placed x lists) = (x.now ≡ bytes) × IsPlacedOf (shard_with lists) bytes
+IsPart bytes (Input x placed) = (x.now ≡ bytes) × IfSome placed (λ shard. IsPlacedOf shard.now bytes)
 IsPart bytes (United shard) = (info : MDBShardInfo) × IsUnited bytes info shard
 
 -- a part is a union that stands for these bytes
 abbrev pub IsUnionPart : List ℕ → TreePart → Type 0
-IsUnionPart bytes (Input x) = ⊥
-IsUnionPart bytes (Placed x lists) = ⊥
+IsUnionPart bytes (Input x placed) = ⊥
 IsUnionPart bytes (United shard) = IsPart bytes (United shard)
 
 -- a part that a tree gives stands for these bytes: that of a leaf is an input, any other a union
 abbrev pub IsPartOf : MergePlan → List ℕ → TreePart → Type 0
-IsPartOf (Leaf i) bytes (Input x) = x.now ≡ bytes
-IsPartOf (Leaf i) bytes (Placed x lists) = IsPart bytes (Placed x lists)
+IsPartOf (Leaf i) bytes (Input x placed) = IsPart bytes (Input x placed)
 IsPartOf (Leaf i) bytes (United shard) = ⊥
 IsPartOf (Both' p left q right) bytes part = IsUnionPart bytes part
 
 -- a part stands for these bytes, in which these are the header and the footer
 abbrev pub IsOpened : List ℕ → MDBShardInfo → OpenPart → Type 0
 IsOpened bytes info (OpenedInput x i) = (x.now ≡ bytes) × (i ≡ info)
-IsOpened bytes info (OpenedPlaced lists) = PlacesShard bytes info (shard_with lists)
-IsOpened bytes info (OpenedUnion shard) = IsUnited bytes info shard
+IsOpened bytes info (Listed records) = PlacesShard bytes info (shard_in records)
 
 -- these are the records of two byte strings under one key
 abbrev pub AreListed : (x y : List ℕ) → PlacedShard → PlacedShard → Type 0

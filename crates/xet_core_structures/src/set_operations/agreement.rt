@@ -21,7 +21,7 @@ ghost use Rattle.xet_core_structures.specs.Trees.InVersions.{TreeRefusalIn};
 ghost use Rattle.xet_core_structures.specs.Trees.MergeTrees.{TreeRefusal};
 ghost use Rattle.xet_core_structures.specs.Agreement.Agreement.{InputsAgree, InputsDisagree, HasAllDisagreements, InputsRefusal, HoldShards, IsFirstMalformed, IsMerged, MergesOrFinds, FillsOrFinds, disagreement_of};
 ghost use Rattle.xet_core_structures.specs.Steps.Agreement.{FindsMalformedIn, IsAgreed, IsAgreedPart, IsWellFormedOr};
-ghost use Rattle.xet_core_structures.specs.Steps.Parts.{ArePlaced, IsPlacedOf};
+ghost use Rattle.xet_core_structures.specs.Steps.Parts.{AreOpened, IsPlacedOf};
 
 mod differing;
 mod kinds;
@@ -31,7 +31,7 @@ mod runs;
 mod strict_tree;
 
 use super::MergePlan;
-use crate::set_operations::trees::inputs::{PlacedInputs, input_at, place_input, place_inputs};
+use crate::set_operations::trees::inputs::{OpenShard, input_at, open_input, open_inputs};
 use crate::set_operations::trees::parts::{PlacedShard, TreePart, place_tree_of};
 use crate::set_operations::trees::versions::{fill_with_part_in, part_bytes_in};
 use crate::set_operations::two_shards::record_operation::OfUnion;
@@ -84,18 +84,18 @@ pub fn find_disagreements(alloc: Global, inputs: &[&[u8]]) -> Result<Vec<Disagre
         (λ found. HasAllDisagreements (map (λ x. x.now) inputs.now) found.items)
         (InputsRefusal (map (λ x. x.now) inputs.now)) }
 {
-    let placed = place_inputs(alloc, inputs)?;
-    disagreements_of(alloc, &placed)
+    let opened = open_inputs(alloc, inputs)?;
+    disagreements_of(alloc, opened.as_slice())
 }
 
-// The same of inputs whose records are placed.
-fn disagreements_of(alloc: Global, placed: &PlacedInputs<'_>) -> Result<Vec<Disagreement>>
-    ensures ok { (inputs : List (List ℕ)) → ArePlaced inputs placed.now
+// The same of inputs that are opened.
+fn disagreements_of(alloc: Global, opened: &[OpenShard<'_>]) -> Result<Vec<Disagreement>>
+    ensures ok { (inputs : List (List ℕ)) → AreOpened inputs opened.now
         → IfOk result (λ found. HasAllDisagreements inputs found.items) }
     ensures causes { IfErr result (λ e. e ≡ OutOfMemory) }
 {
-    let files = find_differing::<MDBFileInfo, OfUnion>(alloc, placed.files.as_slice())?;
-    let xorbs = find_differing::<MDBXorbInfo, OfUnion>(alloc, placed.xorbs.as_slice())?;
+    let files = find_differing::<MDBFileInfo, OfUnion>(alloc, opened)?;
+    let xorbs = find_differing::<MDBXorbInfo, OfUnion>(alloc, opened)?;
     let mut found = Vec::new(alloc);
     add_all::<MDBFileInfo, OfUnion>(&mut found, files.as_slice())?;
     add_all::<MDBXorbInfo, OfUnion>(&mut found, xorbs.as_slice())?;
@@ -149,8 +149,8 @@ pub fn find_malformed(alloc: Global, inputs: &[&[u8]]) -> Result<Option<Malforme
         (InputsRefusal (map (λ x. x.now) inputs.now)) }
 {
     for at in 0..inputs.len() {
-        let shard = place_input(alloc, input_at(inputs, at))?;
-        if let Some(record_hash) = malformed_in(&shard) {
+        let opened = open_input(alloc, input_at(inputs, at))?;
+        if let Some(record_hash) = malformed_in(&opened.records) {
             return Ok(Some(MalformedRecord {
                 record_hash,
                 input: at,
@@ -207,37 +207,36 @@ pub fn merge_or_disagreements(
         (λ e. InputsRefusal (map (λ x. x.now) inputs.now) e
         ⊎ TreeRefusalIn version (map (λ x. x.now) inputs.now) plan.now e) }
 {
-    let formed = place_well_formed(alloc, inputs)?;
+    let formed = open_well_formed(alloc, inputs)?;
     merge_formed(alloc, plan, &formed, version)
 }
 
-/// Inputs that hold well-formed shards, placed; or a record that no shard may have.
+/// Inputs that hold well-formed shards, opened; or a record that no shard may have.
 #[derive(Drop)]
 pub enum WellFormed<'a> {
-    Placed(PlacedInputs<'a>),
+    Opened(Vec<OpenShard<'a>>),
     Malformed(MalformedRecord),
 }
 
-// Places the inputs one after another, up to one that holds a malformed record.
-fn place_well_formed<'a>(alloc: Global, inputs: &[&'a [u8]]) -> Result<WellFormed<'a>>
+// Opens the inputs one after another, up to one that holds a malformed record.
+fn open_well_formed<'a>(alloc: Global, inputs: &[&'a [u8]]) -> Result<WellFormed<'a>>
     ensures { MatchResult result (IsWellFormedOr (map (λ x. x.now) inputs.now))
         (InputsRefusal (map (λ x. x.now) inputs.now)) }
 {
-    let mut placed = PlacedInputs::new(alloc);
+    let mut opened = Vec::new(alloc);
     let mut at = 0;
     while at < inputs.len() {
-        let bytes = input_at(inputs, at);
-        let shard = place_input(alloc, bytes)?;
-        if let Some(hash) = malformed_in(&shard) {
+        let shard = open_input(alloc, input_at(inputs, at))?;
+        if let Some(hash) = malformed_in(&shard.records) {
             return Ok(WellFormed::Malformed(MalformedRecord {
                 record_hash: hash,
                 input: at,
             }));
         }
-        placed.add(bytes, shard)?;
+        opened.push(shard)?;
         at += 1;
     }
-    Ok(WellFormed::Placed(placed))
+    Ok(WellFormed::Opened(opened))
 }
 
 // The merge of inputs of which is known whether they hold well-formed shards.
@@ -253,27 +252,27 @@ fn merge_formed(
         (λ e. InputsRefusal inputs e ⊎ TreeRefusalIn version inputs plan.now e) }
 {
     match formed {
-        WellFormed::Placed(placed) => merge_in_arena(alloc, plan, placed, version),
+        WellFormed::Opened(opened) => merge_in_arena(alloc, plan, opened.as_slice(), version),
         WellFormed::Malformed(found) => Ok(AgreeingMerge::Malformed(*found)),
     }
 }
 
-// The merge of inputs that hold well-formed shards and whose records are placed. The list and its
+// The merge of inputs that hold well-formed shards and are opened. The list and its
 // records share one lifetime: the borrow checker finds no lifetime within both theirs and the
 // arena's.
 fn merge_in_arena<'a>(
     alloc: Global,
     plan: &MergePlan,
-    placed: &'a PlacedInputs<'a>,
+    opened: &'a [OpenShard<'a>],
     version: FormatVersion,
 ) -> Result<AgreeingMerge>
-    requires { (inputs : List (List ℕ)) × ArePlaced inputs placed.now × HoldShards inputs }
-    ensures { (inputs : List (List ℕ)) → ArePlaced inputs placed.now → HoldShards inputs
+    requires { (inputs : List (List ℕ)) × AreOpened inputs opened.now × HoldShards inputs }
+    ensures { (inputs : List (List ℕ)) → AreOpened inputs opened.now → HoldShards inputs
         → MatchResult result (MergesOrFinds version inputs plan.now)
         (λ e. InputsRefusal inputs e ⊎ TreeRefusalIn version inputs plan.now e) }
 {
     let arena = Bump::new(alloc);
-    let agreed = agreed_part(alloc, &arena, plan, placed)?;
+    let agreed = agreed_part(alloc, &arena, plan, opened)?;
     match agreed {
         AgreedPart::Agreed(part) => {
             let bytes = part_bytes_in(alloc, part, version)?;
@@ -312,7 +311,7 @@ pub fn merge_or_disagreements_into(
         ⊎ TreeRefusalIn version (map (λ x. x.now) inputs.now) plan.now e)
         × (out.new ≡ out.old)) }
 {
-    let formed = place_well_formed(alloc, inputs)?;
+    let formed = open_well_formed(alloc, inputs)?;
     fill_formed(alloc, plan, &formed, version, out)
 }
 
@@ -331,7 +330,7 @@ fn fill_formed(
         × (out.new ≡ out.old)) }
 {
     match formed {
-        WellFormed::Placed(placed) => fill_in_arena(alloc, plan, placed, version, out),
+        WellFormed::Opened(opened) => fill_in_arena(alloc, plan, opened.as_slice(), version, out),
         WellFormed::Malformed(found) => Ok(AgreeingFill::Malformed(*found)),
     }
 }
@@ -340,18 +339,18 @@ fn fill_formed(
 fn fill_in_arena<'a>(
     alloc: Global,
     plan: &MergePlan,
-    placed: &'a PlacedInputs<'a>,
+    opened: &'a [OpenShard<'a>],
     version: FormatVersion,
     out: &mut [u8],
 ) -> Result<AgreeingFill>
-    requires { (inputs : List (List ℕ)) × ArePlaced inputs placed.now × HoldShards inputs }
-    ensures { (inputs : List (List ℕ)) → ArePlaced inputs placed.now → HoldShards inputs
+    requires { (inputs : List (List ℕ)) × AreOpened inputs opened.now × HoldShards inputs }
+    ensures { (inputs : List (List ℕ)) → AreOpened inputs opened.now → HoldShards inputs
         → MatchResult result (FillsOrFinds version inputs plan.now out.old out.new)
         (λ e. (InputsRefusal inputs e ⊎ TreeRefusalIn version inputs plan.now e)
         × (out.new ≡ out.old)) }
 {
     let arena = Bump::new(alloc);
-    let agreed = agreed_part(alloc, &arena, plan, placed)?;
+    let agreed = agreed_part(alloc, &arena, plan, opened)?;
     match agreed {
         AgreedPart::Agreed(part) => {
             let size = fill_with_part_in(alloc, part, version, out)?;
@@ -373,17 +372,16 @@ fn agreed_part<'a>(
     alloc: Global,
     arena: &'a Bump,
     plan: &MergePlan,
-    placed: &'a PlacedInputs<'a>,
+    opened: &'a [OpenShard<'a>],
 ) -> Result<AgreedPart<'a>>
-    requires { (inputs : List (List ℕ)) × ArePlaced inputs placed.now }
-    ensures { (inputs : List (List ℕ)) → ArePlaced inputs placed.now → HoldShards inputs
+    ensures { (inputs : List (List ℕ)) → AreOpened inputs opened.now → HoldShards inputs
         → MatchResult result (IsAgreedPart inputs plan.now)
         (λ e. InputsRefusal inputs e ⊎ TreeRefusal inputs plan.now e) }
 {
-    let tried = tried_tree(alloc, arena, plan, placed)?;
+    let tried = tried_tree(alloc, arena, plan, opened)?;
     match tried {
         Some(part) => Ok(AgreedPart::Agreed(part)),
-        None => compared_tree(alloc, arena, plan, placed),
+        None => compared_tree(alloc, arena, plan, opened),
     }
 }
 
@@ -392,17 +390,16 @@ fn tried_tree<'a>(
     alloc: Global,
     arena: &'a Bump,
     plan: &MergePlan,
-    placed: &'a PlacedInputs<'a>,
+    opened: &'a [OpenShard<'a>],
 ) -> Result<Option<TreePart<'a>>>
-    requires { (inputs : List (List ℕ)) × ArePlaced inputs placed.now }
-    ensures { (inputs : List (List ℕ)) → ArePlaced inputs placed.now → HoldShards inputs
+    ensures { (inputs : List (List ℕ)) → AreOpened inputs opened.now → HoldShards inputs
         → MatchResult result (λ tried. IfSome tried (IsAgreed inputs plan.now))
         (λ e. e ≡ OutOfMemory) }
 {
-    if end_of_leaves(plan, 0) < placed.inputs.len() {
+    if end_of_leaves(plan, 0) < opened.len() {
         return Ok(None);
     }
-    match place_agreeing_tree(alloc, arena, plan, placed) {
+    match place_agreeing_tree(alloc, arena, plan, opened) {
         Ok(part) => Ok(Some(part)),
         Err(CoreError::OutOfMemory) => Err(CoreError::OutOfMemory),
         Err(_) => Ok(None),
@@ -414,17 +411,16 @@ fn compared_tree<'a>(
     alloc: Global,
     arena: &'a Bump,
     plan: &MergePlan,
-    placed: &'a PlacedInputs<'a>,
+    opened: &'a [OpenShard<'a>],
 ) -> Result<AgreedPart<'a>>
-    requires { (inputs : List (List ℕ)) × ArePlaced inputs placed.now }
-    ensures { (inputs : List (List ℕ)) → ArePlaced inputs placed.now → MatchResult result
+    ensures { (inputs : List (List ℕ)) → AreOpened inputs opened.now → MatchResult result
         (IsAgreedPart inputs plan.now) (λ e. InputsRefusal inputs e ⊎ TreeRefusal inputs plan.now e) }
 {
-    let found = disagreements_of(alloc, &*placed)?;
+    let found = disagreements_of(alloc, opened)?;
     if !found.is_empty() {
         return Ok(AgreedPart::Disagreements(found));
     }
-    let part = place_tree_of(alloc, arena, plan, placed)?;
+    let part = place_tree_of(alloc, arena, plan, opened)?;
     Ok(AgreedPart::Agreed(part))
 }
 

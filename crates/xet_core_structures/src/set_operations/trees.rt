@@ -4,8 +4,8 @@
 //! list of `PlacedRecord`s, each a header and the bytes from its rows on, and `unite_placed` unites
 //! two lists. What a tree gives is a `TreePart`, an input or two such lists under a key, and the
 //! contract of `place_tree` says which bytes it stands for (`IsPart`): those that the tree writes.
-//! So all that is said of trees is about bytes. Inputs whose records are
-//! placed already (`inputs`) are leaves of `place_tree_of`. A mix of two files lies in neither input:
+//! So all that is said of trees is about bytes. Inputs that are opened once (`inputs`), an
+//! `OpenShard` each, are leaves of `place_tree_of`. A mix of two files lies in neither input:
 //! `mixed_rows` writes its rows as `mix` does, and `place_mix` puts them into an arena that lasts
 //! as long as the tree.
 //!

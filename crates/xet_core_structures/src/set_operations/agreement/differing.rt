@@ -1,4 +1,4 @@
-//! The hashes under which lists of records have records that do not agree.
+//! The hashes under which inputs have records that do not agree.
 
 ghost use Rattle.std.specs.Prelude.{◌≡◌, ◌+◌, ◌<◌, ℕ, IsTrue, List, Contains, Some, length, map, slice_get, MatchOption, MatchResult};
 ghost use Rattle.std.specs.List.{AllZip};
@@ -11,47 +11,48 @@ ghost use Rattle.xet_core_structures.specs.Steps.Differing.{place_cmp, IsPlace, 
 use super::kinds::Agreement;
 use super::pairs::{are_copies, read_placed};
 use super::runs::{Place, run_end, sorted_places};
+use crate::set_operations::trees::inputs::OpenShard;
 use crate::set_operations::trees::placed::{PlacedRecord, copy_of};
 use std::alloc::Global;
 use xet_base::error::Result;
 use xet_base::merklehash::MerkleHash;
 use xet_records::record_reader::SectionRecord;
 
-/// Two lists that have records with one hash that do not agree.
+/// Two inputs that have records with one hash that do not agree.
 #[derive(Clone, Copy)]
 pub struct Differing {
     pub hash: MerkleHash,
-    /// The number of the one list.
+    /// The number of the one input.
     pub first: usize,
     /// The number of the other.
     pub second: usize,
 }
 
-/// A record that was read, and the number of the list that has it.
+/// A record that was read, and the number of the input that has it.
 #[derive(Drop)]
 pub struct ReadRecord<R> {
     pub input: usize,
     pub value: R,
 }
 
-/// For each hash under which two lists have records that do not agree, two such lists, in ascending
-/// order of the hashes.
+/// For each hash under which two inputs have records that do not agree, two such inputs, in
+/// ascending order of the hashes.
 pub fn find_differing<R: SectionRecord + Drop, A: Agreement<R>>(
     alloc: Global,
-    lists: &[Vec<PlacedRecord<'_, R::Header>>],
+    opened: &[OpenShard<'_>],
 ) -> Result<Vec<Differing>>
     ensures { MatchResult result
         (λ found. (all : List (List R))
-        → AllZip (MayUnite R.kind) (map (λ l. l.items) lists.now) all
+        → AllZip (MayUnite R.kind) (map A.listed opened.now) all
         → FindsDiffering R.kind A.agree all found.items)
         (λ e. e ≡ OutOfMemory) }
 {
     R::laws();
-    let places = sorted_places::<R>(alloc, lists)?;
+    let places = sorted_places::<R, A>(alloc, opened)?;
     let mut found = Vec::new(alloc);
     let mut from = 0;
     while from < places.len() {
-        from = compare_run::<R, A>(alloc, lists, places.as_slice(), from, &mut found)?;
+        from = compare_run::<R, A>(alloc, opened, places.as_slice(), from, &mut found)?;
     }
     Ok(found)
 }
@@ -59,7 +60,7 @@ pub fn find_differing<R: SectionRecord + Drop, A: Agreement<R>>(
 // Compares the records of the run that begins at a place, and adds what differs. Where it ends.
 fn compare_run<R: SectionRecord + Drop, A: Agreement<R>>(
     alloc: Global,
-    lists: &[Vec<PlacedRecord<'_, R::Header>>],
+    opened: &[OpenShard<'_>],
     places: &[Place],
     from: usize,
     found: &mut Vec<Differing>,
@@ -67,15 +68,15 @@ fn compare_run<R: SectionRecord + Drop, A: Agreement<R>>(
     requires within { from < length places.now }
     requires sorted { IsSorted place_cmp places.now }
     requires each { (p : Place) → Contains places.now p
-        → IsPlace R.kind (map (λ l. l.items) lists.now) p }
+        → IsPlace R.kind (map A.listed opened.now) p }
     ensures { MatchResult result
         (λ to. IsRun places.now from to
-        × ComparesRun R.kind A.agree (map (λ l. l.items) lists.now) places.now from to
+        × ComparesRun R.kind A.agree (map A.listed opened.now) places.now from to
         found.old.items found.new.items)
         (λ e. e ≡ OutOfMemory) }
 {
     let to = run_end(places, from);
-    match differ_in_run::<R, A>(alloc, lists, places, from, to)? {
+    match differ_in_run::<R, A>(alloc, opened, places, from, to)? {
         Some(differing) => {
             found.push(differing)?;
             Ok(to)
@@ -88,18 +89,18 @@ fn compare_run<R: SectionRecord + Drop, A: Agreement<R>>(
 // parts that no other has, so that each is read once and compared with few.
 fn differ_in_run<R: SectionRecord + Drop, A: Agreement<R>>(
     alloc: Global,
-    lists: &[Vec<PlacedRecord<'_, R::Header>>],
+    opened: &[OpenShard<'_>],
     places: &[Place],
     from: usize,
     to: usize,
 ) -> Result<Option<Differing>>
     requires run { IsRun places.now from to }
     requires each { (p : Place) → Contains places.now p
-        → IsPlace R.kind (map (λ l. l.items) lists.now) p }
+        → IsPlace R.kind (map A.listed opened.now) p }
     ensures { MatchResult result
         (λ found. MatchOption found
-        (AgreeWithin R.kind A.agree (map (λ l. l.items) lists.now) places.now from to)
-        (DifferWithin R.kind A.agree (map (λ l. l.items) lists.now) places.now from to))
+        (AgreeWithin R.kind A.agree (map A.listed opened.now) places.now from to)
+        (DifferWithin R.kind A.agree (map A.listed opened.now) places.now from to))
         (λ e. e ≡ OutOfMemory) }
 {
     R::laws();
@@ -107,7 +108,7 @@ fn differ_in_run<R: SectionRecord + Drop, A: Agreement<R>>(
         return Ok(None);
     }
     let first = places[from];
-    let value = read_at::<R>(alloc, lists, first)?;
+    let value = read_at::<R, A>(alloc, opened, first)?;
     let mut kept = Vec::new(alloc);
     kept.push(ReadRecord {
         input: first.input,
@@ -115,7 +116,7 @@ fn differ_in_run<R: SectionRecord + Drop, A: Agreement<R>>(
     })?;
     let mut at = from + 1;
     while at < to {
-        match compare_place::<R, A>(alloc, lists, first, places[at], &mut kept)? {
+        match compare_place::<R, A>(alloc, opened, first, places[at], &mut kept)? {
             Some(differing) => return Ok(Some(differing)),
             None => at += 1,
         }
@@ -127,25 +128,25 @@ fn differ_in_run<R: SectionRecord + Drop, A: Agreement<R>>(
 // first place, which is one of these.
 fn compare_place<R: SectionRecord + Drop, A: Agreement<R>>(
     alloc: Global,
-    lists: &[Vec<PlacedRecord<'_, R::Header>>],
+    opened: &[OpenShard<'_>],
     first: Place,
     place: Place,
     kept: &mut Vec<ReadRecord<R>>,
 ) -> Result<Option<Differing>>
-    requires first { IsPlace R.kind (map (λ l. l.items) lists.now) first }
-    requires place { IsPlace R.kind (map (λ l. l.items) lists.now) place }
+    requires first { IsPlace R.kind (map A.listed opened.now) first }
+    requires place { IsPlace R.kind (map A.listed opened.now) place }
     ensures { MatchResult result
         (λ found. MatchOption found
-        (ComparesPlace R.kind A.agree (map (λ l. l.items) lists.now) first place kept.old.items
+        (ComparesPlace R.kind A.agree (map A.listed opened.now) first place kept.old.items
         kept.new.items)
-        (DiffersAt R.kind A.agree (map (λ l. l.items) lists.now) place kept.old.items))
+        (DiffersAt R.kind A.agree (map A.listed opened.now) place kept.old.items))
         (λ e. e ≡ OutOfMemory) }
 {
     R::laws();
-    if is_copy::<R, A>(lists, first, place) {
+    if is_copy::<R, A>(opened, first, place) {
         return Ok(None);
     }
-    let next = read_at::<R>(alloc, lists, place)?;
+    let next = read_at::<R, A>(alloc, opened, place)?;
     match keep_record::<R, A>(kept, place.input, next)? {
         Some(first) => Ok(Some(Differing {
             hash: place.hash,
@@ -156,7 +157,7 @@ fn compare_place<R: SectionRecord + Drop, A: Agreement<R>>(
     }
 }
 
-// Keeps a record unless one that is kept covers it. The number of the list of one that does not
+// Keeps a record unless one that is kept covers it. The number of the input of one that does not
 // agree with it, or `None`.
 fn keep_record<R: SectionRecord + Drop, A: Agreement<R>>(
     kept: &mut Vec<ReadRecord<R>>,
@@ -181,7 +182,7 @@ fn keep_record<R: SectionRecord + Drop, A: Agreement<R>>(
     }
 }
 
-// The number of the list of a record that does not agree with this one, or `None`.
+// The number of the input of a record that does not agree with this one, or `None`.
 fn find_against<R: SectionRecord, A: Agreement<R>>(
     kept: &[ReadRecord<R>],
     next: &R,
@@ -214,43 +215,44 @@ fn is_covered<R: SectionRecord, A: Agreement<R>>(kept: &[ReadRecord<R>], next: &
 
 // Whether the record at a place has the bytes of that at another.
 fn is_copy<R: SectionRecord, A: Agreement<R>>(
-    lists: &[Vec<PlacedRecord<'_, R::Header>>],
+    opened: &[OpenShard<'_>],
     first: Place,
     place: Place,
 ) -> bool
-    requires first { IsPlace R.kind (map (λ l. l.items) lists.now) first }
-    requires place { IsPlace R.kind (map (λ l. l.items) lists.now) place }
-    ensures { IsTrue result → (r : R) → IsRecordAt R.kind (map (λ l. l.items) lists.now) place r
-        → IsRecordAt R.kind (map (λ l. l.items) lists.now) first r }
+    requires first { IsPlace R.kind (map A.listed opened.now) first }
+    requires place { IsPlace R.kind (map A.listed opened.now) place }
+    ensures { IsTrue result → (r : R) → IsRecordAt R.kind (map A.listed opened.now) place r
+        → IsRecordAt R.kind (map A.listed opened.now) first r }
 {
     R::laws();
-    let one = placed_at(lists, first);
-    let other = placed_at(lists, place);
+    let one = placed_at::<R, A>(opened, first);
+    let other = placed_at::<R, A>(opened, place);
     are_copies::<R, A>(&one, &other)
 }
 
-fn read_at<R: SectionRecord + Drop>(
+fn read_at<R: SectionRecord + Drop, A: Agreement<R>>(
     alloc: Global,
-    lists: &[Vec<PlacedRecord<'_, R::Header>>],
+    opened: &[OpenShard<'_>],
     place: Place,
 ) -> Result<R>
-    requires { IsPlace R.kind (map (λ l. l.items) lists.now) place }
+    requires { IsPlace R.kind (map A.listed opened.now) place }
     ensures { MatchResult result
-        (λ found. (r : R) → IsRecordAt R.kind (map (λ l. l.items) lists.now) place r → found ≡ r)
+        (λ found. (r : R) → IsRecordAt R.kind (map A.listed opened.now) place r → found ≡ r)
         (λ e. e ≡ OutOfMemory) }
 {
     R::laws();
-    let placed = placed_at(lists, place);
+    let placed = placed_at::<R, A>(opened, place);
     read_placed::<R>(alloc, &placed)
 }
 
-fn placed_at<'a, H: Copy>(lists: &[Vec<PlacedRecord<'a, H>>], place: Place) -> PlacedRecord<'a, H>
-    requires input { place.input < length lists.now }
-    requires index { (l : List (PlacedRecord H))
-        → slice_get (map (λ l. l.items) lists.now) place.input ≡ Some l → place.index < length l }
-    ensures { (l : List (PlacedRecord H))
-        → slice_get (map (λ l. l.items) lists.now) place.input ≡ Some l
+fn placed_at<'a, R: SectionRecord, A: Agreement<R>>(
+    opened: &[OpenShard<'a>],
+    place: Place,
+) -> PlacedRecord<'a, R::Header>
+    requires { IsPlace R.kind (map A.listed opened.now) place }
+    ensures { (l : List (PlacedRecord R.Header))
+        → slice_get (map A.listed opened.now) place.input ≡ Some l
         → slice_get l place.index ≡ Some result }
 {
-    copy_of(&lists[place.input].as_slice()[place.index])
+    copy_of(&A::records(&opened[place.input])[place.index])
 }

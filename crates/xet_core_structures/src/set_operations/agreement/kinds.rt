@@ -1,15 +1,19 @@
 //! When two records with one hash agree: xorbs if they are equal, and files if they have equal
 //! segments, and an equal optional part wherever both have it.
 
-ghost use Rattle.std.specs.Prelude.{◌≡◌, ◌↔◌, IsTrue};
+ghost use Rattle.std.specs.Prelude.{◌≡◌, ◌↔◌, IsTrue, List};
 ghost use Rattle.xet_base.specs.declared.merklehash.DataHash.{DataHash};
 ghost use Rattle.xet_records.specs.Merging.{Agree};
 ghost use Rattle.xet_records.specs.Part.{rows_of};
 ghost use Rattle.xet_core_structures.specs.declared.set_operations.agreement.RecordHash.{RecordHash};
 ghost use Rattle.xet_core_structures.specs.declared.set_operations.agreement.RecordHash.TheVariants.{File, Xorb};
+ghost use Rattle.xet_core_structures.specs.declared.set_operations.trees.inputs.OpenShard.{OpenShard};
+ghost use Rattle.xet_core_structures.specs.declared.set_operations.trees.placed.PlacedRecord.{PlacedRecord};
 ghost use Rattle.xet_core_structures.specs.Steps.Agreement.{AreEqual, AgreeOn};
 
 use super::RecordHash;
+use crate::set_operations::trees::inputs::OpenShard;
+use crate::set_operations::trees::placed::PlacedRecord;
 use crate::set_operations::two_shards::record_operation::OfUnion;
 use xet_base::merklehash::MerkleHash;
 use xet_records::file_structs::{FileDataSequenceHeader, MDBFileInfo, OptionalPart};
@@ -21,6 +25,12 @@ pub trait Agreement<R: SectionRecord> {
     ghost agree: { R → R → Type 0 };
 
     ghost named: { DataHash → RecordHash };
+
+    ghost listed: { OpenShard → List (PlacedRecord R.Header) };
+
+    /// The records of an input.
+    fn records<'s, 'a>(opened: &'s OpenShard<'a>) -> &'s [PlacedRecord<'a, R::Header>]
+        ensures { result.now ≡ listed opened.now };
 
     /// A hash, and whose it is.
     fn name(hash: MerkleHash) -> RecordHash
@@ -51,6 +61,14 @@ impl Agreement<MDBFileInfo> for OfUnion {
     ghost agree = { Agree };
 
     ghost named = { File };
+
+    ghost listed = { λ o. o.records.files.items };
+
+    fn records<'s, 'a>(
+        opened: &'s OpenShard<'a>,
+    ) -> &'s [PlacedRecord<'a, FileDataSequenceHeader>] {
+        opened.records.files.as_slice()
+    }
 
     fn name(hash: MerkleHash) -> RecordHash {
         RecordHash::File(hash)
@@ -123,6 +141,14 @@ impl Agreement<MDBXorbInfo> for OfUnion {
     ghost agree = { AreEqual };
 
     ghost named = { Xorb };
+
+    ghost listed = { λ o. o.records.xorbs.items };
+
+    fn records<'s, 'a>(
+        opened: &'s OpenShard<'a>,
+    ) -> &'s [PlacedRecord<'a, XorbChunkSequenceHeader>] {
+        opened.records.xorbs.as_slice()
+    }
 
     fn name(hash: MerkleHash) -> RecordHash {
         RecordHash::Xorb(hash)

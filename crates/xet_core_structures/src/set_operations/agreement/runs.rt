@@ -6,13 +6,15 @@ ghost use Rattle.std.specs.List.Sorted.{IsSorted};
 ghost use Rattle.xet_base.specs.declared.error.CoreError.TheVariants.{OutOfMemory};
 ghost use Rattle.xet_core_structures.specs.Steps.Differing.{place_cmp, AddsPlaces, HasPlaces, IsRun};
 
+use super::kinds::Agreement;
+use crate::set_operations::trees::inputs::OpenShard;
 use crate::set_operations::trees::placed::PlacedRecord;
 use std::alloc::Global;
 use xet_base::error::Result;
 use xet_base::merklehash::MerkleHash;
 use xet_records::record_reader::SectionRecord;
 
-/// Where a record is: the number of the list that has it, and its index there.
+/// Where a record is: the number of the input that has it, and its index among the input's.
 #[derive(Clone, Copy, Debug, PartialEq, Eq, PartialOrd, Ord)]
 pub struct Place {
     pub hash: MerkleHash,
@@ -20,27 +22,27 @@ pub struct Place {
     pub index: usize,
 }
 
-/// The places of all records of these lists, in ascending order of their hashes.
-pub fn sorted_places<R: SectionRecord>(
+/// The places of all records of one kind, in ascending order of their hashes.
+pub fn sorted_places<R: SectionRecord, A: Agreement<R>>(
     alloc: Global,
-    lists: &[Vec<PlacedRecord<'_, R::Header>>],
+    opened: &[OpenShard<'_>],
 ) -> Result<Vec<Place>>
     ensures { MatchResult result
-        (λ places. HasPlaces R.kind (map (λ l. l.items) lists.now) places.items
+        (λ places. HasPlaces R.kind (map A.listed opened.now) places.items
         × IsSorted place_cmp places.items)
         (λ e. e ≡ OutOfMemory) }
 {
     let mut places = Vec::new(alloc);
     let mut input = 0;
-    while input < lists.len() {
-        add_places::<R>(&mut places, lists[input].as_slice(), input)?;
+    while input < opened.len() {
+        add_places::<R>(&mut places, A::records(&opened[input]), input)?;
         input += 1;
     }
     places.sort_unstable();
     Ok(places)
 }
 
-// Adds the places of the records of the list with this number.
+// Adds the places of the records of the input with this number.
 fn add_places<R: SectionRecord>(
     places: &mut Vec<Place>,
     list: &[PlacedRecord<'_, R::Header>],

@@ -8,14 +8,14 @@ ghost use Rattle.xet_core_structures.specs.Records.ByteUnion.{IsEitherFile, IsEi
 ghost use Rattle.xet_core_structures.specs.Trees.MergeTrees.{leaves};
 ghost use Rattle.xet_core_structures.specs.TwoShards.ByteResults.{UnitesBytes};
 ghost use Rattle.xet_core_structures.specs.Steps.Agreement.{AreEqual, MadeIfAgreed, BytesAgree, WritesAgreeing};
-ghost use Rattle.xet_core_structures.specs.Steps.Parts.{ArePlaced, IsPart, IsUnionPart, IsPartOf};
+ghost use Rattle.xet_core_structures.specs.Steps.Parts.{AreOpened, IsPart, IsUnionPart, IsPartOf};
 ghost use Rattle.xet_core_structures.specs.Steps.Placed.{MakesPlaced, MakesNothing};
 
 use super::kinds::Agreement;
 use super::pairs::agree_in_place;
 use crate::set_operations::MergePlan;
-use crate::set_operations::trees::inputs::PlacedInputs;
-use crate::set_operations::trees::parts::{TreePart, list_both, placed_leaf, unite_lists};
+use crate::set_operations::trees::inputs::OpenShard;
+use crate::set_operations::trees::parts::{TreePart, list_both, open_leaf, unite_lists};
 use crate::set_operations::trees::placed::{PlacedRecord, PlacedUnion};
 use crate::set_operations::two_shards::record_operation::OfUnion;
 use bumpalo::Bump;
@@ -33,18 +33,17 @@ pub fn place_agreeing_tree<'a>(
     alloc: Global,
     arena: &'a Bump,
     plan: &MergePlan,
-    placed: &'a PlacedInputs<'a>,
+    opened: &'a [OpenShard<'a>],
 ) -> Result<TreePart<'a>>
-    requires { (inputs : List (List ℕ)) × ArePlaced inputs placed.now }
-    ensures { (inputs : List (List ℕ)) → ArePlaced inputs placed.now → IfOk result
+    ensures { (inputs : List (List ℕ)) → AreOpened inputs opened.now → IfOk result
         (λ part. (bytes : List ℕ) × WritesAgreeing inputs plan.now bytes
         × IsPartOf plan.now bytes part) }
 {
     match plan {
-        MergePlan::Leaf(index) => placed_leaf(placed, *index),
+        MergePlan::Leaf(index) => open_leaf(opened, *index),
         MergePlan::Both(left, right) => {
-            let first = place_agreeing_tree(alloc, arena, left, placed)?;
-            let second = place_agreeing_tree(alloc, arena, right, placed)?;
+            let first = place_agreeing_tree(alloc, arena, left, opened)?;
+            let second = place_agreeing_tree(alloc, arena, right, opened)?;
             unite_agreeing(alloc, arena, first, second)
         }
     }
@@ -61,7 +60,7 @@ fn unite_agreeing<'a>(
         × IsUnionPart bytes part) }
 {
     let (first, second) = list_both(alloc, left, right)?;
-    let shard = unite_lists::<OfAgreeing, OfAgreeing>(alloc, arena, &first, &second)?;
+    let shard = unite_lists::<OfAgreeing, OfAgreeing>(alloc, arena, first.shard(), second.shard())?;
     Ok(TreePart::United(shard))
 }
 

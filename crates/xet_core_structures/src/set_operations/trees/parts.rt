@@ -13,10 +13,10 @@ ghost use Rattle.xet_core_structures.specs.Steps.ByteResults.{Records, AreCombin
 ghost use Rattle.xet_core_structures.specs.Trees.Filling.{Fills, FillsWith};
 ghost use Rattle.xet_core_structures.specs.Trees.MergeTrees.{TreeWrites, TreeRefusal};
 ghost use Rattle.xet_core_structures.specs.Trees.Parts.{SectionsRefusal};
-ghost use Rattle.xet_core_structures.specs.Steps.Parts.{PlacesRecords, MayBeUnited, MayBeWritten, PlacesShard, HaveNoRecordUnion, ArePlaced, IsPart, IsUnionPart, IsPartOf, IsOpened, AreListed, shard_in};
+ghost use Rattle.xet_core_structures.specs.Steps.Parts.{PlacesRecords, MayBeUnited, MayBeWritten, PlacesShard, HaveNoRecordUnion, AreOpened, IsPart, IsUnionPart, IsPartOf, IsOpened, AreListed, shard_in};
 
 use super::filling::{frame_of, put_shard};
-use super::inputs::PlacedInputs;
+use super::inputs::OpenShard;
 use super::placed::{PlacedRecord, PlacedUnion, place_records, unite_placed};
 use crate::set_operations::MergePlan;
 use crate::set_operations::two_shards::record_operation::OfUnion;
@@ -39,28 +39,11 @@ pub struct PlacedShard<'a> {
     pub xorbs: Vec<PlacedRecord<'a, XorbChunkSequenceHeader>>,
 }
 
-/// The records of an input that is placed already, and the key of its chunk hashes.
-#[derive(Clone, Copy)]
-pub struct PlacedLists<'a> {
-    pub key: HMACKey,
-    pub files: &'a Vec<PlacedRecord<'a, FileDataSequenceHeader>>,
-    pub xorbs: &'a Vec<PlacedRecord<'a, XorbChunkSequenceHeader>>,
-}
-
 /// What a tree gives: an input, whose records may be placed already, or a union of which no byte is
 /// written yet.
 #[derive(Drop)]
 pub enum TreePart<'a> {
-    Input(&'a [u8]),
-    Placed(&'a [u8], PlacedLists<'a>),
-    United(PlacedShard<'a>),
-}
-
-/// The same, with the header and the footer of an input whose records are not placed yet.
-#[derive(Drop)]
-pub enum OpenPart<'a> {
-    Input(&'a [u8], MDBShardInfo),
-    Placed(PlacedLists<'a>),
+    Input(&'a [u8], Option<&'a PlacedShard<'a>>),
     United(PlacedShard<'a>),
 }
 
@@ -68,36 +51,26 @@ pub enum OpenPart<'a> {
 #[derive(Drop)]
 pub enum PartRecords<'a> {
     Own(PlacedShard<'a>),
-    Placed(PlacedLists<'a>),
+    Placed(&'a PlacedShard<'a>),
 }
 
 impl<'a> PartRecords<'a> {
-    fn key(&self) -> HMACKey
-        ensures { result ≡ (shard_in self.now).key }
+    /// The records and their key.
+    pub fn shard(&self) -> &PlacedShard<'a>
+        ensures { result.now ≡ shard_in self.now }
     {
         match self {
-            PartRecords::Own(shard) => shard.key,
-            PartRecords::Placed(lists) => lists.key,
+            PartRecords::Own(shard) => shard,
+            PartRecords::Placed(shard) => shard,
         }
     }
+}
 
-    fn files(&self) -> &[PlacedRecord<'a, FileDataSequenceHeader>]
-        ensures { result.now ≡ (shard_in self.now).files.items }
-    {
-        match self {
-            PartRecords::Own(shard) => shard.files.as_slice(),
-            PartRecords::Placed(lists) => lists.files.as_slice(),
-        }
-    }
-
-    fn xorbs(&self) -> &[PlacedRecord<'a, XorbChunkSequenceHeader>]
-        ensures { result.now ≡ (shard_in self.now).xorbs.items }
-    {
-        match self {
-            PartRecords::Own(shard) => shard.xorbs.as_slice(),
-            PartRecords::Placed(lists) => lists.xorbs.as_slice(),
-        }
-    }
+/// A part of which the key is known: an input with its header and footer, or records.
+#[derive(Drop)]
+pub enum OpenPart<'a> {
+    Input(&'a [u8], MDBShardInfo),
+    Listed(PartRecords<'a>),
 }
 
 /// What a tree gives. Records that are in no input are placed in the arena.
@@ -117,7 +90,7 @@ pub fn place_tree<'a>(
             if *index >= inputs.len() {
                 return Err(CoreError::InvalidArguments);
             }
-            Ok(TreePart::Input(inputs[*index]))
+            Ok(TreePart::Input(inputs[*index], None))
         }
         MergePlan::Both(left, right) => {
             let one = place_tree(alloc, arena, left, inputs)?;
@@ -132,41 +105,35 @@ pub fn place_tree_of<'a>(
     alloc: Global,
     arena: &'a Bump,
     plan: &MergePlan,
-    placed: &'a PlacedInputs<'a>,
+    opened: &'a [OpenShard<'a>],
 ) -> Result<TreePart<'a>>
-    requires { (inputs : List (List ℕ)) × ArePlaced inputs placed.now }
-    ensures { (inputs : List (List ℕ)) → ArePlaced inputs placed.now → MatchResult result
+    ensures { (inputs : List (List ℕ)) → AreOpened inputs opened.now → MatchResult result
         (λ part. (bytes : List ℕ) × TreeWrites inputs plan.now bytes
         × IsPartOf plan.now bytes part)
         (TreeRefusal inputs plan.now) }
 {
     match plan {
-        MergePlan::Leaf(index) => placed_leaf(placed, *index),
+        MergePlan::Leaf(index) => open_leaf(opened, *index),
         MergePlan::Both(left, right) => {
-            let first = place_tree_of(alloc, arena, left, placed)?;
-            let second = place_tree_of(alloc, arena, right, placed)?;
+            let first = place_tree_of(alloc, arena, left, opened)?;
+            let second = place_tree_of(alloc, arena, right, opened)?;
             unite_parts(alloc, arena, first, second)
         }
     }
 }
 
 /// The input at an index.
-pub fn placed_leaf<'a>(placed: &'a PlacedInputs<'a>, index: usize) -> Result<TreePart<'a>>
-    requires { (inputs : List (List ℕ)) × ArePlaced inputs placed.now }
-    ensures { (inputs : List (List ℕ)) → ArePlaced inputs placed.now → MatchResult result
+pub fn open_leaf<'a>(opened: &'a [OpenShard<'a>], index: usize) -> Result<TreePart<'a>>
+    ensures { (inputs : List (List ℕ)) → AreOpened inputs opened.now → MatchResult result
         (λ part. (bytes : List ℕ) × (slice_get inputs index ≡ Some bytes)
         × IsPartOf (Leaf index) bytes part)
         (λ e. (e ≡ InvalidArguments) × (length inputs ≤ index)) }
 {
-    if index >= placed.inputs.len() {
+    if index >= opened.len() {
         return Err(CoreError::InvalidArguments);
     }
-    let lists = PlacedLists {
-        key: placed.keys[index],
-        files: &placed.files[index],
-        xorbs: &placed.xorbs[index],
-    };
-    Ok(TreePart::Placed(placed.inputs[index], lists))
+    let shard = &opened[index];
+    Ok(TreePart::Input(shard.bytes, Some(&shard.records)))
 }
 
 /// The union of two parts.
@@ -181,7 +148,7 @@ pub fn unite_parts<'a>(
         (BytesRefusal x y) }
 {
     let (first, second) = list_both(alloc, left, right)?;
-    let shard = unite_lists::<OfUnion, OfUnion>(alloc, arena, &first, &second)?;
+    let shard = unite_lists::<OfUnion, OfUnion>(alloc, arena, first.shard(), second.shard())?;
     Ok(TreePart::United(shard))
 }
 
@@ -206,20 +173,20 @@ pub fn list_both<'a>(
     Ok((first, second))
 }
 
-// A part, and the header and the footer if it is an input.
+// A part, and the header and the footer if it is an input whose records are not placed yet.
 fn open<'a>(alloc: Global, part: TreePart<'a>) -> Result<OpenPart<'a>>
     ensures { (bytes : List ℕ) → IsPart bytes part.entry → MatchResult result
         (λ opened. (info : MDBShardInfo) × HasHeaderAndFooter bytes info × IsOpened bytes info opened)
         (LoadRefusal bytes) }
 {
     match part {
-        TreePart::Input(bytes) => {
+        TreePart::Input(bytes, None) => {
             let mut source = MemorySource::new(bytes);
             let info = MDBShardInfo::load_from_reader(alloc, &mut source)?;
             Ok(OpenPart::Input(bytes, info))
         }
-        TreePart::Placed(_, lists) => Ok(OpenPart::Placed(lists)),
-        TreePart::United(shard) => Ok(OpenPart::United(shard)),
+        TreePart::Input(_, Some(shard)) => Ok(OpenPart::Listed(PartRecords::Placed(shard))),
+        TreePart::United(shard) => Ok(OpenPart::Listed(PartRecords::Own(shard))),
     }
 }
 
@@ -229,8 +196,7 @@ fn key(opened: &OpenPart<'_>) -> HMACKey
 {
     match opened {
         OpenPart::Input(_, info) => info.metadata.chunk_hash_hmac_key,
-        OpenPart::Placed(lists) => lists.key,
-        OpenPart::United(shard) => shard.key,
+        OpenPart::Listed(records) => records.shard().key,
     }
 }
 
@@ -247,8 +213,7 @@ fn lists<'a>(alloc: Global, opened: OpenPart<'a>) -> Result<PartRecords<'a>>
 {
     match opened {
         OpenPart::Input(bytes, info) => Ok(PartRecords::Own(place_shard(alloc, bytes, &info)?)),
-        OpenPart::Placed(lists) => Ok(PartRecords::Placed(lists)),
-        OpenPart::United(shard) => Ok(PartRecords::Own(shard)),
+        OpenPart::Listed(records) => Ok(records),
     }
 }
 
@@ -279,23 +244,33 @@ pub fn place_shard<'a>(
     })
 }
 
-/// The union of the records of two parts, by these unions of files and of xorbs.
+/// The union of the records of two shards, by these unions of files and of xorbs.
 pub fn unite_lists<'a, F: PlacedUnion<MDBFileInfo>, X: PlacedUnion<MDBXorbInfo>>(
     alloc: Global,
     arena: &'a Bump,
-    first: &PartRecords<'a>,
-    second: &PartRecords<'a>,
+    first: &PlacedShard<'a>,
+    second: &PlacedShard<'a>,
 ) -> Result<PlacedShard<'a>>
-    ensures { (one other : Records) → MayBeUnited (shard_in first.now) one
-        → MayBeUnited (shard_in second.now) other → MatchResult result
+    ensures { (one other : Records) → MayBeUnited first.now one → MayBeUnited second.now other
+        → MatchResult result
         (λ shard. (made : Records) × AreCombined F.makes X.makes one other made
-        × PlacesRecords shard made × (shard.key ≡ (shard_in first.now).key))
+        × PlacesRecords shard made × (shard.key ≡ first.now.key))
         (λ e. (e ≡ OutOfMemory) ⊎ (IsInvalidShard e × HaveNoRecordUnion F.makes X.makes one other)) }
 {
-    let files = unite_placed::<MDBFileInfo, F>(alloc, arena, first.files(), second.files())?;
-    let xorbs = unite_placed::<MDBXorbInfo, X>(alloc, arena, first.xorbs(), second.xorbs())?;
+    let files = unite_placed::<MDBFileInfo, F>(
+        alloc,
+        arena,
+        first.files.as_slice(),
+        second.files.as_slice(),
+    )?;
+    let xorbs = unite_placed::<MDBXorbInfo, X>(
+        alloc,
+        arena,
+        first.xorbs.as_slice(),
+        second.xorbs.as_slice(),
+    )?;
     Ok(PlacedShard {
-        key: first.key(),
+        key: first.key,
         files,
         xorbs,
     })
@@ -308,8 +283,7 @@ pub fn part_bytes(alloc: Global, part: TreePart<'_>) -> Result<Vec<u8>>
         (λ written. written.items ≡ bytes) (λ e. e ≡ OutOfMemory) }
 {
     match part {
-        TreePart::Input(bytes) => Ok(Vec::from_slice(alloc, bytes)?),
-        TreePart::Placed(bytes, _) => Ok(Vec::from_slice(alloc, bytes)?),
+        TreePart::Input(bytes, _) => Ok(Vec::from_slice(alloc, bytes)?),
         TreePart::United(shard) => shard_bytes(alloc, &shard),
     }
 }
@@ -335,8 +309,7 @@ pub fn fill_with_part(alloc: Global, part: TreePart<'_>, out: &mut [u8]) -> Resu
         → FillsWith (λ made. made ≡ bytes) (λ e. e ≡ OutOfMemory) out.old out.new result }
 {
     match part {
-        TreePart::Input(bytes) => Ok(fill_with(out, bytes)),
-        TreePart::Placed(bytes, _) => Ok(fill_with(out, bytes)),
+        TreePart::Input(bytes, _) => Ok(fill_with(out, bytes)),
         TreePart::United(shard) => fill_with_shard(alloc, &shard, out),
     }
 }

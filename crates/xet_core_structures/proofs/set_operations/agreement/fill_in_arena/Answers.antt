@@ -6,9 +6,6 @@ use Rattle.xet_core_structures.proofs.Trees.InVersions.{made_of_tree, refused_of
 use Rattle.xet_core_structures.proofs.Trees.Parts.{part_of_tree}
 use Rattle.xet_core_structures.proofs.set_operations.agreement.fill_in_arena.Goals as goal
 
-pub agreed_part-requires : goal.agreed_part-requires
-agreed_part-requires c = (c.requires.0, c.requires.1)
-
 pub fill_with_part_in-requires : goal.fill_with_part_in-requires
 fill_with_part_in-requires c =
     let (inputs, are, hold) = c.requires in

@@ -10,14 +10,14 @@ use Rattle.xet_core_structures.proofs.set_operations.agreement.find_malformed.Go
 pub returns-in-Some : goal.returns-in-Some
 returns-in-Some c =
     let found : (s : Shard) × HasShard s c.input_at.result.now × HasMalformed s c.in-Some.record_hash =
-    subst (FindsMalformedIn c.input_at.result.now) c.in-Some.is (c.malformed_in.ensures c.input_at.result.now c.in_ok-shard.ensures) in
+    subst (FindsMalformedIn c.input_at.result.now) c.in-Some.is (c.malformed_in.ensures c.input_at.result.now c.in_ok-opened.ensures.1) in
     (found.0, (c.input_at.result.now, c.input_at.ensures, found.1), found.2, c.loop-at.invariant)
 
 pub loop-at-preserved : goal.loop-at-preserved
 loop-at-preserved c = λ i low.
     let inputs : List (List ℕ) = map (λ (x : Bor (List ℕ)). x.now) c.args.inputs.now in
     let found : (s : Shard) × HasShard s c.input_at.result.now × IsShard s =
-    subst (FindsMalformedIn c.input_at.result.now) c.in_default.is (c.malformed_in.ensures c.input_at.result.now c.in_ok-shard.ensures) in
+    subst (FindsMalformedIn c.input_at.result.now) c.in_default.is (c.malformed_in.ensures c.input_at.result.now c.in_ok-opened.ensures.1) in
     elim (below_or_at i c.loop-at.at low) [
       | inl less ↦ c.loop-at.invariant i less
       | inr same ↦ subst (λ j. (s : Shard) × HoldsAt inputs j s × IsShard s) (sym same) (found.0, (c.input_at.result.now, c.input_at.ensures, found.1), found.2)

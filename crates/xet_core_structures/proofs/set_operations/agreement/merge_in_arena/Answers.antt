@@ -6,9 +6,6 @@ use Rattle.xet_core_structures.proofs.Trees.InVersions.{made_of_tree, refused_of
 use Rattle.xet_core_structures.proofs.Trees.Parts.{part_of_tree}
 use Rattle.xet_core_structures.proofs.set_operations.agreement.merge_in_arena.Goals as goal
 
-pub agreed_part-requires : goal.agreed_part-requires
-agreed_part-requires c = (c.requires.0, c.requires.1)
-
 pub part_bytes_in-requires : goal.part_bytes_in-requires
 part_bytes_in-requires c =
     let (inputs, are, hold) = c.requires in

@@ -20,7 +20,7 @@ loop-at-init g c =
     let alone : c.push.new.self.items ≡ one ∷ [] = c.in_ok-push.ensures.items ∙ ap (λ l. l ++ one ∷ []) c.new-kept.ensures.items in (
       omega arith,
       omega (arith, c.requires.run.some),
-      subst (IsComparing g.R.SectionRecord.kind g.A.Agreement.agree (map (λ x. x.items) c.args.lists.now) c.args.places.now c.args.from (c.args.from + 1)) (sym alone)
+      subst (IsComparing g.R.SectionRecord.kind g.A.Agreement.agree (map g.A.Agreement.listed c.args.opened.now) c.args.places.now c.args.from (c.args.from + 1)) (sym alone)
           (comparing_first g.R.SectionRecord.kind c.laws.ensures _ g.A.Agreement.agree c.args.places.now c.args.from g.met.A.Agreement.agrees_with_itself g.met.A.Agreement.either_way
           first (slice_get-get_or c.args.places.now c.args.from no_place low) c.in_ok-value.value c.in_ok-value.ensures),
     )
@@ -29,7 +29,7 @@ pub loop-at-preserved : goal.loop-at-preserved
 loop-at-preserved g c =
     let K = g.R.SectionRecord.kind in
     let agree = g.A.Agreement.agree in
-    let lists = map (λ x. x.items) c.args.lists.now in
+    let lists = map g.A.Agreement.listed c.args.opened.now in
     let places = c.args.places.now in
     let at = c.loop-at.at in
     let first_low : c.args.from < length places = omega (arith, c.requires.run.some, c.requires.run.within) in
@@ -48,7 +48,7 @@ pub returns-in-Some : goal.returns-in-Some
 returns-in-Some g c =
     let K = g.R.SectionRecord.kind in
     let agree = g.A.Agreement.agree in
-    let lists = map (λ x. x.items) c.args.lists.now in
+    let lists = map g.A.Agreement.listed c.args.opened.now in
     let places = c.args.places.now in
     let at = c.loop-at.at in
     let below : at < c.args.to = search rules in
@@ -63,4 +63,4 @@ pub returns : goal.returns
 returns g c =
     let past : c.args.to ≤ c.loop-at.at = search rules in
     let same : c.loop-at.at ≡ c.args.to = omega (arith, past, c.loop-at.invariant.1) in
-    subst (AgreeWithin g.R.SectionRecord.kind g.A.Agreement.agree (map (λ x. x.items) c.args.lists.now) c.args.places.now c.args.from) same c.loop-at.invariant.2.agrees
+    subst (AgreeWithin g.R.SectionRecord.kind g.A.Agreement.agree (map g.A.Agreement.listed c.args.opened.now) c.args.places.now c.args.from) same c.loop-at.invariant.2.agrees

@@ -9,8 +9,8 @@ use Rattle.xet_core_structures.proofs.set_operations.agreement.strict_tree.+plac
 
 pub returns-in-Leaf : goal.returns-in-Leaf
 returns-in-Leaf t c = λ inputs are.
-    subst (λ (plan : MergePlan). IfOk c.placed_leaf.result (λ part. (bytes : List ℕ) × WritesAgreeing inputs plan bytes × IsPartOf plan bytes part)) (sym c.in-Leaf.is)
-    (if_made c.placed_leaf.result _ _ (c.placed_leaf.ensures inputs are))
+    subst (λ (plan : MergePlan). IfOk c.open_leaf.result (λ part. (bytes : List ℕ) × WritesAgreeing inputs plan bytes × IsPartOf plan bytes part)) (sym c.in-Leaf.is)
+    (if_made c.open_leaf.result _ _ (c.open_leaf.ensures inputs are))
 
 pub returns-in_ok-second-in-Both : goal.returns-in_ok-second-in-Both
 returns-in_ok-second-in-Both t c = λ inputs are.

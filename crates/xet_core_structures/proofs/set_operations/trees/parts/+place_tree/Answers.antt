@@ -1,4 +1,4 @@
-use Rattle.std.proofs.Common.{ℕ, List, [], map, get_or, rules, refl, sym, subst}
+use Rattle.std.proofs.Common.{ℕ, List, [], None, map, get_or, rules, refl, sym, subst}
 use Rattle.std.specs.Borrow.{Bor}
 use Rattle.std.specs.Prelude.{MatchResult}
 use Rattle.xet_core_structures.specs.Trees.MergeTrees.{TreeWrites, TreeRefusal}
@@ -21,4 +21,4 @@ pub returns-else-index-inputs : goal.returns-else-index-inputs
 returns-else-index-inputs t c =
     let inputs : List (List ℕ) = map (λ (x : Bor (List ℕ)). x.now) c.args.inputs.now in
     let input : Bor (List ℕ) = get_or c.args.inputs.now c.in-Leaf.index (record { ref_ptr = (0, 0); now = [] }) in
-    subst (λ plan. (x : List ℕ) × TreeWrites inputs plan x × IsPartOf plan x (Input input)) (sym c.in-Leaf.is) (input.now, at_input c.args.inputs.now c.in-Leaf.index (record { ref_ptr = (0, 0); now = [] }) (search rules), refl)
+    subst (λ plan. (x : List ℕ) × TreeWrites inputs plan x × IsPartOf plan x (Input input None)) (sym c.in-Leaf.is) (input.now, at_input c.args.inputs.now c.in-Leaf.index (record { ref_ptr = (0, 0); now = [] }) (search rules), (refl, tt))

@@ -8,8 +8,8 @@ use Rattle.xet_core_structures.proofs.set_operations.trees.parts.+place_tree_of.
 
 pub returns-in-Leaf : goal.returns-in-Leaf
 returns-in-Leaf t c = λ inputs are.
-    subst (λ plan. MatchResult c.placed_leaf.result (λ part. (bytes : List ℕ) × TreeWrites inputs plan bytes × IsPartOf plan bytes part) (TreeRefusal inputs plan)) (sym c.in-Leaf.is)
-    (leaf_part inputs c.in-Leaf.index c.placed_leaf.result (c.placed_leaf.ensures inputs are))
+    subst (λ plan. MatchResult c.open_leaf.result (λ part. (bytes : List ℕ) × TreeWrites inputs plan bytes × IsPartOf plan bytes part) (TreeRefusal inputs plan)) (sym c.in-Leaf.is)
+    (leaf_part inputs c.in-Leaf.index c.open_leaf.result (c.open_leaf.ensures inputs are))
 
 pub returns-in_ok-second-in-Both : goal.returns-in_ok-second-in-Both
 returns-in_ok-second-in-Both t c = λ inputs are.

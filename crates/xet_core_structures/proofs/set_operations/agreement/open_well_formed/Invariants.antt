@@ -1,13 +1,13 @@
 use Rattle.std.proofs.Common.{◌-◌, ℕ, ◌<◌, length, map, take}
 use Rattle.xet_shards.specs.Content.Shard.{Shard, IsShard}
 use Rattle.xet_core_structures.specs.Agreement.Agreement.{HoldsAt}
-use Rattle.xet_core_structures.specs.Steps.Parts.{ArePlaced}
-use Rattle.xet_core_structures.proofs.set_operations.agreement.place_well_formed.Given as goal
+use Rattle.xet_core_structures.specs.Steps.Parts.{AreOpened}
+use Rattle.xet_core_structures.proofs.set_operations.agreement.open_well_formed.Given as goal
 
 abbrev pub invariant-loop-at : goal.invariant-loop-at
 invariant-loop-at l =
     ((i : ℕ) → i < l.at → (s : Shard) × HoldsAt (map (λ x. x.now) l.inputs) i s × IsShard s)
-    × ArePlaced (take l.at (map (λ x. x.now) l.inputs)) l.placed
+    × AreOpened (take l.at (map (λ x. x.now) l.inputs)) l.opened.items
 
 abbrev pub decreases-loop-at : goal.decreases-loop-at
 decreases-loop-at l = length l.inputs - l.at
