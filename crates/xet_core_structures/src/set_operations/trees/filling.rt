@@ -2,7 +2,7 @@
 //! comes before the first byte: what stands before the sections and after them, a `Frame`, is made
 //! first.
 
-ghost use Rattle.std.specs.Prelude.{◌≡◌, ℕ, ◌+◌, ◌*◌, ◌≤◌, ◌++◌, List, length, drop, flat_map, map, All, IfOk, MatchResult};
+ghost use Rattle.std.specs.Prelude.{◌≡◌, ℕ, ◌+◌, ◌*◌, ◌≤◌, ◌++◌, List, [], length, drop, flat_map, map, All, IfOk, MatchResult};
 ghost use Rattle.xet_base.specs.declared.error.CoreError.TheVariants.{OutOfMemory};
 ghost use Rattle.xet_records.specs.declared.file_structs.rows.HashRow.{HashRow};
 ghost use Rattle.xet_records.specs.FileRow.{hash_row, FitsHashRow, clear};
@@ -23,10 +23,14 @@ use xet_base::error::{CoreError, Result};
 use xet_base::fields::{put, put_u64};
 use xet_records::file_structs::{FileDataSequenceHeader, MDBFileInfo};
 use xet_records::record_reader::SectionRecord;
-use xet_records::row_copier::CopyResult;
+use xet_records::row_copier::{CopyFailure, CopyResult};
 use xet_records::rows::{ROW_SIZE, Row};
 use xet_records::xorb_structs::{MDBXorbInfo, XorbChunkSequenceHeader};
+use xet_shards::shard_format::CHUNK_ROW_SIZE;
 use xet_shards::shard_writer::{LayoutOptions, WrittenFiles, WrittenXorbs};
+
+// The size of a footer, in bytes.
+const FOOTER_SIZE: usize = 200;
 
 /// What stands before the sections of a shard and after them, and the size of the whole.
 #[derive(Drop)]
@@ -55,7 +59,7 @@ fn collected_frame(alloc: Global, shard: &PlacedShard<'_>) -> CopyResult<Frame>
     ensures { IfOk result (λ frame. (records : Records) → MayBeWritten shard.now records
         → IsFrame shard.now.key records frame) }
 {
-    let mut header = Vec::new(alloc);
+    let mut header = with_room(alloc, ROW_SIZE)?;
     write_header(&mut header)?;
     let mut nowhere = io::sink();
     let files = write_placed::<WrittenFiles, Sink>(alloc, shard.files.as_slice(), &mut nowhere)?;
@@ -66,7 +70,7 @@ fn collected_frame(alloc: Global, shard: &PlacedShard<'_>) -> CopyResult<Frame>
         key: shard.key,
         ..LayoutOptions::plain(None)
     };
-    let mut tables = Vec::new(alloc);
+    let mut tables = with_room(alloc, size_after_sections(&files, &xorbs))?;
     write_tables(&mut tables, &files, xorbs, &options)?;
     let size = ROW_SIZE * rows + tables.len();
     Ok(Frame {
@@ -74,6 +78,28 @@ fn collected_frame(alloc: Global, shard: &PlacedShard<'_>) -> CopyResult<Frame>
         tables,
         size,
     })
+}
+
+// An empty vector with room for so many bytes.
+fn with_room(alloc: Global, size: usize) -> CopyResult<Vec<u8>>
+    ensures { IfOk result (λ bytes. bytes.items ≡ []) }
+{
+    match Vec::with_capacity(alloc, size) {
+        Ok(bytes) => Ok(bytes),
+        Err(error) => Err(CopyFailure::Output(CoreError::from(error))),
+    }
+}
+
+// The size of the lookup tables and the footer of a shard with these sections.
+fn size_after_sections(files: &WrittenFiles, xorbs: &WrittenXorbs) -> usize {
+    let chunk_table = CHUNK_ROW_SIZE.saturating_mul(xorbs.chunk_rows.len());
+    let tables = files
+        .table
+        .bytes
+        .len()
+        .saturating_add(xorbs.table.bytes.len())
+        .saturating_add(chunk_table);
+    tables.saturating_add(FOOTER_SIZE)
 }
 
 /// Writes a shard with its frame to the front of a slice that has room for it.
