@@ -12,7 +12,10 @@ use Rattle.xet_core_structures.specs.Trees.MergeTrees.{leaves, TreeWrites}
 use Rattle.xet_core_structures.specs.Records.Sizes.{bytes_at}
 use Rattle.xet_core_structures.specs.declared.set_operations.ranges.HashRange.{HashRange}
 use Rattle.xet_core_structures.specs.Trees.RangeTrees.{IsRangeOf, RangeWrites}
+use Rattle.xet_core_structures.specs.declared.set_operations.rows.SectionRows.{SectionRows}
+use Rattle.xet_core_structures.specs.Trees.RowTrees.{IsRowsOf, RowsWrite}
 use Rattle.xet_core_structures.proofs.LawProofs.RangeSizes.{bytes_of_range, bytes_of_repeated_range}
+use Rattle.xet_core_structures.proofs.LawProofs.RowSizes.{bytes_of_rows, bytes_of_repeated_rows}
 use Rattle.xet_core_structures.proofs.LawProofs.UnionSizes.{bytes_of_union, bytes_of_tree, bytes_of_difference, bytes_of_repetition}
 use Rattle.shard_bytes.specs.declared.combine.Operation.{Operation}
 use Rattle.shard_bytes.specs.declared.combine.Operation.TheVariants.{Union, Difference}
@@ -64,8 +67,8 @@ only_input [] x one is = absurd (omega (arith, one))
 only_input (y ∷ []) x one is = grind arith
 only_input (y ∷ z ∷ zs) x one is = absurd (omega (arith, one))
 
-same_input : (inputs : List (List ℕ)) (x y : List ℕ) → slice_get inputs 0 ≡ Some x → slice_get inputs 0 ≡ Some y → y ≡ x
-same_input inputs x y first second = cc
+same_item : {X : Type 0} (xs : List X) (x y : X) → slice_get xs 0 ≡ Some x → slice_get xs 0 ≡ Some y → y ≡ x
+same_item xs x y first second = cc
 
 pub size_of_merge : (inputs : List (List ℕ)) (plan : MergePlan) (out : List ℕ) → IsMergePlan (length inputs) plan → TreeWrites inputs plan out → IsResultSize inputs (length out)
 size_of_merge inputs (Leaf i) out (inl (one, none)) writes = absurd none
@@ -73,7 +76,7 @@ size_of_merge inputs (Leaf i) out (inr (more, (one, is))) writes = absurd (omega
 size_of_merge inputs (Both' p left q right) out (inl (one, (first, second))) (x, y, x_written, y_written, unites) =
     let x_is = subst (λ l. TreeWrites inputs l x) first x_written in
     let y_is = subst (λ l. TreeWrites inputs l y) second y_written in
-    omega (arith, bytes_of_repetition x out (subst (λ z. UnitesBytes x z out) (same_input inputs x y x_is y_is) unites), only_input inputs x one x_is)
+    omega (arith, bytes_of_repetition x out (subst (λ z. UnitesBytes x z out) (same_item inputs x y x_is y_is) unites), only_input inputs x one x_is)
 size_of_merge inputs (Both' p left q right) out (inr (more, balanced)) writes =
     omega (arith, bytes_of_tree inputs (Both' p left q right) out tt writes, balanced_bytes inputs 0 (length inputs) (Both' p left q right) balanced, sizes_of_all inputs)
 
@@ -90,10 +93,30 @@ size_of_range range inputs (Leaf i) out (inr (more, (one, is))) writes = absurd 
 size_of_range range inputs (Both' p left q right) out (inl (one, (first, second))) (x, y, x_written, y_written, unites) =
     let x_is = subst (λ l. RangeWrites range inputs l x) first x_written in
     let y_is = subst (λ l. RangeWrites range inputs l y) second y_written in
-    let same = same_input inputs x_is.0 y_is.0 x_is.1 y_is.1 in
+    let same = same_item inputs x_is.0 y_is.0 x_is.1 y_is.1 in
     omega (arith, bytes_of_repeated_range range x_is.0 x y out x_is.2 (subst (λ b. IsRangeOf range b y) same y_is.2) unites, only_input inputs x_is.0 one x_is.1)
 size_of_range range inputs (Both' p left q right) out (inr (more, balanced)) writes =
     omega (arith, bytes_of_range range inputs (Both' p left q right) out tt writes, balanced_bytes inputs 0 (length inputs) (Both' p left q right) balanced, sizes_of_all inputs)
+
+-- so have the rows of a merge
+pub size_of_rows : (range : HashRange) (starts ends : List SectionRows) (inputs : List (List ℕ)) (plan : MergePlan) (out : List ℕ) → IsMergePlan (length inputs) plan → RowsWrite range starts ends inputs plan out → IsResultSize inputs (length out)
+size_of_rows range starts ends inputs (Leaf i) out (inl (one, none)) writes = absurd none
+size_of_rows range starts ends inputs (Leaf i) out (inr (more, (one, is))) writes = absurd (omega arith)
+size_of_rows range starts ends inputs (Both' p left q right) out (inl (one, (first, second))) (x, y, x_written, y_written, unites) =
+    let leaf = subst (λ l. RowsWrite range starts ends inputs l x) first x_written in
+    let other = subst (λ l. RowsWrite range starts ends inputs l y) second y_written in
+    let start = same_item starts leaf.0 other.0 leaf.3 other.3 in
+    let end = same_item ends leaf.1 other.1 leaf.4 other.4 in
+    let input = same_item inputs leaf.2 other.2 leaf.5 other.5 in
+    let also : IsRowsOf range leaf.0 leaf.1 leaf.2 y = subst (λ t. t) (λ j. IsRowsOf range (start j) (end j) (input j) y) other.6 in
+    omega (arith, bytes_of_repeated_rows range leaf.0 leaf.1 leaf.2 x y out leaf.6 also unites, only_input inputs leaf.2 one leaf.5)
+size_of_rows range starts ends inputs (Both' p left q right) out (inr (more, balanced)) writes =
+    omega (
+      arith,
+      bytes_of_rows range inputs starts ends (Both' p left q right) out tt writes,
+      balanced_bytes inputs 0 (length inputs) (Both' p left q right) balanced,
+      sizes_of_all inputs,
+    )
 
 -- a fact on each value that is made is one on the result
 pub if_made : {T E : Type 0} (r : Result T E) (P Q : T → Type 0) (Refused : E → Type 0) → ((v : T) → P v → Q v) → MatchResult r P Refused → IfOk r Q

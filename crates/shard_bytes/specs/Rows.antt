@@ -1,11 +1,13 @@
 -- Merges of the records in given rows of byte strings.
-use Rattle.std.specs.Prelude.{◌≡◌, ◌⊎◌, ⊤, ℕ, ◌+◌, ◌-◌, ◌*◌, ◌/◌, ◌<◌, ◌≤◌, List, [], ◌∷◌, length, take, drop, min, Contains, Option, None, Some}
+use Rattle.std.specs.Prelude.{◌≡◌, ◌⊎◌, ⊤, ℕ, ◌+◌, ◌-◌, ◌*◌, ◌/◌, ◌<◌, ◌≤◌, List, [], ◌∷◌, length, take, drop, min, slice_get, All, Option, None, Some}
 use Rattle.std.specs.List.{AllZip}
 use Rattle.xet_core_structures.specs.declared.error.CoreError.{CoreError}
 use Rattle.xet_core_structures.specs.declared.error.CoreError.TheVariants.{InvalidArguments, OutOfMemory}
 use Rattle.xet_core_structures.specs.declared.set_operations.MergePlan.{MergePlan}
 use Rattle.xet_core_structures.specs.declared.set_operations.ranges.HashRange.{HashRange}
 use Rattle.xet_core_structures.specs.declared.set_operations.rows.SectionRows.{SectionRows}
+use Rattle.xet_core_structures.specs.declared.shard_format.MDBShardInfo.{MDBShardInfo}
+use Rattle.xet_core_structures.specs.Ends.{HasHeaderAndFooter}
 use Rattle.xet_core_structures.specs.Trees.RowTrees.{RowsWrite, RowsRefusal}
 use Rattle.xet_core_structures.specs.TwoShards.ByteResults.{LoadRefusal}
 use Rattle.xet_core_structures.specs.declared.merklehash.DataHash.{DataHash}
@@ -51,6 +53,7 @@ IsRowIn table i row = take 4 (drop (12 * i + 8) table) ≡ u32_bytes row
 -- neighbours tell. In a table that ascends there is one such place. This is the row there, or `last`
 -- at the end of the table
 pub record IsPlaceOf (table : List ℕ) (word last i row : ℕ) : Type 0 where
+  pub within : 12 * i ≤ length table
   pub before : (j : ℕ) → i ≡ j + 1 → word_in table j < word
   pub there : ((12 * i + 12 ≤ length table) × (word ≤ word_in table i) × IsRowIn table i row)
       ⊎ ((length table < 12 * i + 12) × (row ≡ last))
@@ -81,6 +84,14 @@ AreEndRows to bytes rows =
 abbrev pub AreEndsOf : Option DataHash → List (List ℕ) → List SectionRows → Type 0
 AreEndsOf to inputs ends = AllZip (AreEndRows to) inputs ends
 
--- why they are not found: an allocation failed, or header and footer of a shard are not read
+-- bytes have a header and a footer
+abbrev pub HasEnds : List ℕ → Type 0
+HasEnds bytes = (info : MDBShardInfo) × HasHeaderAndFooter bytes info
+
+-- why they are not found: an allocation failed, or header and footer of a shard are not read, and
+-- those of all shards before it are
 abbrev pub RefusesEnds : List (List ℕ) → CoreError → Type 0
-RefusesEnds inputs e = (e ≡ OutOfMemory) ⊎ ((x : List ℕ) × Contains inputs x × LoadRefusal x e)
+RefusesEnds inputs e =
+    (e ≡ OutOfMemory)
+    ⊎ ((i : ℕ) × (x : List ℕ) × (slice_get inputs i ≡ Some x) × LoadRefusal x e
+    × All HasEnds (take i inputs))

@@ -1,16 +1,21 @@
 //! Merges of the records in given rows of shards, and the rows of a range as lookup tables have
 //! them.
 
-ghost use Rattle.std.specs.Prelude.{◌≡◌, ◌+◌, ◌*◌, ◌≤◌, ℕ, List, None, map, length, MatchResult};
+ghost use Rattle.std.specs.Prelude.{◌≡◌, ◌+◌, ◌*◌, ◌<◌, ◌≤◌, ℕ, List, None, map, length, IfOk, MatchResult};
 ghost use Rattle.std.specs.List.{AllZip};
 ghost use Rattle.xet_core_structures.specs.declared.merklehash.DataHash.{DataHash};
 ghost use Rattle.xet_core_structures.specs.declared.set_operations.rows.SectionRows.{SectionRows};
 ghost use Rattle.xet_core_structures.specs.Records.Ranges.{ranges_between, AreCuts};
 ghost use Rattle.xet_core_structures.specs.Trees.Filling.{FillsWith};
 ghost use Rattle.xet_core_structures.specs.Trees.InVersions.{MadeIn, RefusedIn};
+ghost use Rattle.xet_core_structures.specs.Trees.MergeTrees.{MergeRefused};
+ghost use Rattle.xet_core_structures.specs.Trees.RangeTrees.{IsHeldLayout};
+ghost use Rattle.xet_core_structures.specs.Trees.RowTrees.{HaveRowsOfRange};
+ghost use Rattle.xet_core_structures.specs.Shard.{Shard};
 ghost use Rattle.xet_core_structures.specs.TwoShards.ByteResults.{LoadRefusal};
-ghost use Rattle.shard_bytes.specs.Merging.{MergesRange};
+ghost use Rattle.shard_bytes.specs.Merging.{MergesRange, IsRangeMergeOfList};
 ghost use Rattle.shard_bytes.specs.Rows.{MergesRows, MergeInRows, RefusesRows, word_in, IsRowIn, IsPlaceOf, IsEndRow, AreEndRows, AreEndsOf, RefusesEnds, table_rows, last_row};
+ghost use Rattle.shard_bytes.specs.Sizes.{IsResultSize};
 
 use crate::load::load_bytes;
 use crate::merge::merge_plan;
@@ -24,7 +29,7 @@ use xet_core_structures::shard_format::START_ROW_SIZE;
 
 /// Writes what [`merge_range_bytes_into`](crate::merge::merge_range_bytes_into) writes, but of the
 /// records in these rows of the shards alone: those from the rows in `starts` on and before the rows
-/// in `ends`, one of each list for each shard.
+/// in `ends`, one of each list for each shard. The bytes are at most 344 and 8/3 of the shards'.
 ///
 /// `InvalidArguments` if the list is empty. Else the errors are those of [`merge_rows_into`].
 #[tactic(auto, using(xet_core_structures::proofs::Trees::InVersions::refused_in_version))]
@@ -37,12 +42,19 @@ pub fn merge_rows_bytes_into(
     version: FormatVersion,
     out: &mut [u8],
 ) -> Result<usize>
-    ensures { FillsWith
+    ensures any_bytes { FillsWith
         (MadeIn version (MergesRows range.now starts.now ends.now (map (λ x. x.now) shards.now)))
         (RefusedIn version
         (MergesRows range.now starts.now ends.now (map (λ x. x.now) shards.now))
         (RefusesRows range.now starts.now ends.now (map (λ x. x.now) shards.now))) out.old out.new
         result }
+    ensures one_byte_string { (key : DataHash) → (all : List Shard) → (join part : Shard)
+        → IsRangeMergeOfList range.now key (map (λ x. x.now) shards.now) all join part
+        → HaveRowsOfRange range.now starts.now ends.now (map (λ x. x.now) shards.now)
+        (λ i. i < length shards.now)
+        → FillsWith (MadeIn version (IsHeldLayout key part))
+        (RefusedIn version (IsHeldLayout key part) (MergeRefused part)) out.old out.new result }
+    ensures size { IfOk result (IsResultSize (map (λ x. x.now) shards.now)) }
 {
     if shards.is_empty() {
         return Err(CoreError::InvalidArguments);
