@@ -1,8 +1,15 @@
 //! Merges of the records in given rows of shards, and the rows of a range.
 
-ghost use Rattle.std.specs.Prelude.{map};
+ghost use Rattle.std.specs.Prelude.{◌<◌, List, length, map};
+ghost use Rattle.xet_core_structures.specs.declared.merklehash.DataHash.{DataHash};
 ghost use Rattle.xet_core_structures.specs.declared.set_operations.ranges.HashRange.{HashRange};
+ghost use Rattle.xet_core_structures.specs.Shard.{Shard};
+ghost use Rattle.xet_core_structures.specs.Trees.MergeTrees.{MergeRefused};
+ghost use Rattle.xet_core_structures.specs.Trees.RangeTrees.{IsHeldLayout};
+ghost use Rattle.xet_core_structures.specs.Trees.RowTrees.{HaveRowsOfRange};
+ghost use Rattle.shard_bytes.specs.Merging.{IsRangeMergeOfList};
 ghost use Rattle.shard_bytes.specs.Rows.{MergesRows, RefusesRows, AreEndsOf, RefusesEnds};
+ghost use Rattle.shard_bytes.specs.Sizes.{IsResultSize};
 ghost use Rattle.xet_c.specs.Arguments.{AsksForRange};
 ghost use Rattle.xet_c.specs.Output.{Outcome};
 
@@ -24,10 +31,16 @@ pub extern "C" fn xet_merge_rows(
     out: &mut [u8],
     written: &mut usize,
 ) -> u32
-    ensures { (asked : HashRange) × AsksForRange range.now asked
+    ensures rows { (asked : HashRange) × AsksForRange range.now asked
         × Outcome (MergesRows asked starts.now ends.now (map (λ x. x.now) shards.now))
         (RefusesRows asked starts.now ends.now (map (λ x. x.now) shards.now)) out.old out.new
-        written.new result }
+        written.new result
+        × ((key : DataHash) → (all : List Shard) → (join part : Shard)
+        → IsRangeMergeOfList asked key (map (λ x. x.now) shards.now) all join part
+        → HaveRowsOfRange asked starts.now ends.now (map (λ x. x.now) shards.now)
+        (λ i. i < length shards.now)
+        → Outcome (IsHeldLayout key part) (MergeRefused part) out.old out.new written.new result) }
+    ensures size { IsResultSize (map (λ x. x.now) shards.now) written.new }
 {
     let asked = range_of(range);
     let filled = merge_rows_bytes_into(alloc, shards, starts, ends, &asked, FormatVersion::V3, out);
