@@ -265,8 +265,8 @@ typedef struct xet_rows {
  * shard, those of the first file and of the first xorb whose hash has a first word that is not below that of `range->to`.
  * Where there is none, or with no `to`, it is the last row for which the section has room, where its bookend is.
  *
- * Nothing is checked but the header and the footer of each shard: the errors are those of xet_load, and
- * XET_OUT_OF_MEMORY, XET_SHORT. */
+ * Nothing is checked but the header and the footer of each shard: the error is that of xet_load for the first shard that
+ * it refuses, or XET_OUT_OF_MEMORY or XET_SHORT. */
 uint32_t xet_find_ends(const xet_bytes *shards, size_t count, const xet_range *range, xet_rows *ends, size_t capacity,
                        size_t *written);
 
