@@ -3,7 +3,7 @@
 use xet_base::merklehash::MerkleHash;
 
 /// A segment of a file, with the xorb that it names.
-#[derive(Clone, Copy, Debug, PartialEq, Eq, PartialOrd, Ord)]
+#[derive(Clone, Copy, PartialEq, Eq, PartialOrd, Ord)]
 pub struct Segment {
     pub xorb: MerkleHash,
     pub file: MerkleHash,
@@ -18,7 +18,7 @@ pub struct Segment {
 }
 
 /// What is wrong with a xorb, or with a segment that names it.
-#[derive(Clone, Copy, Debug, PartialEq, Eq, PartialOrd, Ord)]
+#[derive(Clone, Copy, PartialEq, Eq, PartialOrd, Ord)]
 pub enum Fault {
     /// No segment names the xorb.
     Unnamed,
@@ -36,7 +36,7 @@ pub enum Fault {
 }
 
 /// A fault, and the xorb that it is about.
-#[derive(Clone, Copy, Debug, PartialEq, Eq, PartialOrd, Ord)]
+#[derive(Clone, Copy, PartialEq, Eq, PartialOrd, Ord)]
 pub struct Finding {
     pub xorb: MerkleHash,
     pub fault: Fault,

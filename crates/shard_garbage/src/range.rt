@@ -7,7 +7,7 @@ ghost use Rattle.shard_garbage.specs.Ranges.{in_range, InRange};
 use xet_base::merklehash::MerkleHash;
 
 /// The hashes from one on, up to another, which is excluded; without one there is no such limit.
-#[derive(Clone, Copy, Debug, PartialEq, Eq)]
+#[derive(Clone, Copy)]
 pub struct HashRange {
     pub from: Option<MerkleHash>,
     pub to: Option<MerkleHash>,
