@@ -9,7 +9,7 @@ use std::fmt;
 use std::io::ErrorKind;
 
 /// What a failure is about.
-#[derive(Clone, Copy, Debug, PartialEq, Eq)]
+#[derive(Clone, Copy)]
 pub enum Subject<'a> {
     File(&'a str),
     Pair(&'a str, &'a str),
@@ -43,12 +43,15 @@ impl<'a> Failure<'a> {
         matches!(self.fault, Fault::Disagree(..) | Fault::Malformed(_))
     }
 
+    /// Whether it is on standard output.
+    pub fn is_on_output(&self) -> bool {
+        matches!(self.subject, Subject::StandardOutput)
+    }
+
     /// Whether nobody reads standard output any more.
     pub fn is_closed_pipe(&self) -> bool {
         match &self.fault {
-            Fault::Device(error) => {
-                self.subject == Subject::StandardOutput && error.kind() == ErrorKind::BrokenPipe
-            }
+            Fault::Device(error) => self.is_on_output() && error.kind() == ErrorKind::BrokenPipe,
             _ => false,
         }
     }

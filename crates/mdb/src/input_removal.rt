@@ -21,7 +21,7 @@ pub struct ReadInput<'a> {
 }
 
 /// A file, and the hash of its bytes.
-#[derive(Clone, Copy, Debug, PartialEq, Eq)]
+#[derive(Clone, Copy, PartialEq, Eq)]
 pub struct HashedFile {
     pub stamp: Stamp,
     pub hash: MerkleHash,

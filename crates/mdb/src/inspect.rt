@@ -1,7 +1,7 @@
 //! Running the commands that print what each of some shards answers.
 
 use crate::expiry::report_expired_in;
-use crate::failure::{Failure, Subject};
+use crate::failure::Failure;
 use crate::files::{Contents, open_sized, read_ends, read_shard};
 use crate::inputs::Inputs;
 use crate::make::contents_of;
@@ -102,7 +102,7 @@ fn inspect_all<R: Files + Input + Clock + Eprint + AllocGlobal, W: Write>(
             Ok(Answer::HasFindings) => status = status.and_found(),
             // The reader of the output has closed it.
             Err(failure) if failure.is_closed_pipe() => return Err(status),
-            Err(failure) if failure.subject == Subject::StandardOutput => {
+            Err(failure) if failure.is_on_output() => {
                 return Err(report_failure(rt, &failure));
             }
             Err(failure) => status = report_failure(rt, &failure),

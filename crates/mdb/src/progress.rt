@@ -8,7 +8,7 @@ use std::time::{Duration, Instant};
 const PAUSE: u64 = 1;
 
 /// What a command does.
-#[derive(Clone, Copy, Debug, PartialEq, Eq)]
+#[derive(Clone, Copy)]
 pub enum Stage {
     /// So many of all the shards are read.
     Reading { read: usize, all: usize },

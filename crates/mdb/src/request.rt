@@ -25,7 +25,7 @@ pub enum Request<'a> {
 }
 
 /// How answers about shards are printed.
-#[derive(Clone, Copy, Debug, PartialEq, Eq)]
+#[derive(Clone, Copy)]
 pub struct PrintOptions {
     pub style: Style,
     /// The order of the shards; `None` if it is that in which they are named.
@@ -37,7 +37,7 @@ pub struct PrintOptions {
 }
 
 /// By what shards are sorted, in ascending order.
-#[derive(Clone, Copy, Debug, PartialEq, Eq)]
+#[derive(Clone, Copy)]
 pub enum Sort {
     Name,
     /// The number of bytes.
@@ -47,7 +47,7 @@ pub enum Sort {
 }
 
 /// How what does not fit together in shards is found and printed.
-#[derive(Clone, Copy, Debug, PartialEq, Eq)]
+#[derive(Clone, Copy)]
 pub struct Collection {
     pub style: Style,
     /// About how many bytes of memory are taken.
@@ -57,7 +57,7 @@ pub struct Collection {
 }
 
 /// How an overview of shards is made.
-#[derive(Clone, Copy, Debug, PartialEq, Eq)]
+#[derive(Clone, Copy)]
 pub struct OverviewOptions<'a> {
     /// The path to write to, or `-` for standard output.
     pub output: &'a str,
@@ -70,7 +70,7 @@ pub struct OverviewOptions<'a> {
 }
 
 /// Where a shard is written, and in which version of the format.
-#[derive(Clone, Copy, Debug, PartialEq, Eq)]
+#[derive(Clone, Copy)]
 pub struct Target<'a> {
     /// A path, or `-` for standard output; of a merge by keys a folder.
     pub path: &'a str,
@@ -91,7 +91,7 @@ pub struct Sources<'a> {
 }
 
 /// A file that lists hashes.
-#[derive(Clone, Copy, Debug, PartialEq, Eq)]
+#[derive(Clone, Copy)]
 pub struct HashList<'a> {
     pub path: &'a str,
     /// The byte that ends each hash.
@@ -122,7 +122,7 @@ pub struct Removal<'a> {
 }
 
 /// The expiry of what is written.
-#[derive(Clone, Copy, Debug, PartialEq, Eq)]
+#[derive(Clone, Copy)]
 pub enum NewExpiry {
     /// There is none.
     Unset,
@@ -133,7 +133,7 @@ pub enum NewExpiry {
 }
 
 /// How shards are merged.
-#[derive(Clone, Copy, Debug, PartialEq, Eq)]
+#[derive(Clone, Copy)]
 pub struct Merge<'a> {
     pub target: Target<'a>,
     pub strictness: Strictness,
@@ -155,7 +155,7 @@ pub struct Merge<'a> {
 }
 
 /// How shards are merged in groups.
-#[derive(Clone, Copy, Debug, PartialEq, Eq)]
+#[derive(Clone, Copy)]
 pub struct Compaction {
     /// The most bytes that the shards of a group have together.
     pub max_size: u64,
@@ -166,7 +166,7 @@ pub struct Compaction {
 }
 
 /// What is done where shards that are to be merged do not agree.
-#[derive(Clone, Copy, Debug, PartialEq, Eq)]
+#[derive(Clone, Copy)]
 pub enum Strictness {
     /// One record is kept, and the difference is reported.
     Lenient,

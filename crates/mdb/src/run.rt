@@ -25,7 +25,7 @@ use std::random::RandomSource;
 use std::rt::{Clock, Env, Files};
 
 /// The exit status of a run.
-#[derive(Clone, Copy, Debug, PartialEq, Eq)]
+#[derive(Clone, Copy)]
 pub enum Status {
     /// All was done, and a check found nothing.
     Done,

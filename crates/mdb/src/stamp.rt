@@ -4,7 +4,7 @@ use std::fs::Metadata;
 use std::os::unix::fs::MetadataExt;
 
 /// Which file of which device a file is: all its names lead to it.
-#[derive(Clone, Copy, Debug, PartialEq, Eq)]
+#[derive(Clone, Copy, PartialEq, Eq)]
 pub struct FileId {
     device: u64,
     node: u64,
@@ -21,7 +21,7 @@ impl FileId {
 
 /// A file and the time of its last change: another file has another stamp, and so has one that was
 /// changed.
-#[derive(Clone, Copy, Debug, PartialEq, Eq)]
+#[derive(Clone, Copy, PartialEq, Eq)]
 pub struct Stamp {
     pub id: FileId,
     pub size: u64,

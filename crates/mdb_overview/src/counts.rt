@@ -19,7 +19,7 @@ pub fn count_one(counts: &mut Counts, number: u64) -> Result<(), AllocError>
 }
 
 /// Numbers from `first` to `last`, and how often those of them that were counted occur together.
-#[derive(Clone, Copy, Debug, PartialEq, Eq)]
+#[derive(Clone, Copy)]
 pub(crate) struct Span {
     pub(crate) first: u64,
     pub(crate) last: u64,

@@ -103,7 +103,7 @@ fn count_of(rows: u64, start: u64, end: u64, others: u64) -> Option<u64>
 
 /// Sums over some shards; one that would pass the greatest number stays there. A sum is not known
 /// if one of its counts is not.
-#[derive(Clone, Copy, Debug, PartialEq, Eq, Serialize)]
+#[derive(Clone, Copy, Serialize)]
 pub struct Total {
     pub shards: u64,
     pub bytes: u64,

@@ -20,7 +20,7 @@ use xet_core_structures::shard_format::MDBShardInfo;
 use xet_core_structures::utils::parse_shard_filename;
 
 /// What is not as it should be with a file.
-#[derive(Clone, Copy, Debug, PartialEq, Eq)]
+#[derive(Clone, Copy)]
 pub enum FileFinding {
     /// The bytes are not those that the library would write.
     Bytes(Finding),
@@ -43,7 +43,7 @@ impl FileFinding {
 }
 
 /// A finding, and the file that has it.
-#[derive(Clone, Copy, Debug, PartialEq, Eq, Serialize)]
+#[derive(Clone, Copy, Serialize)]
 pub struct FindingReport<'a> {
     /// The name of the shard's file.
     pub shard: &'a str,

@@ -9,7 +9,7 @@ use std::fmt;
 use xet_core_structures::merklehash::MerkleHash;
 
 /// A hash that is written as its 64 digits, in text and in JSON.
-#[derive(Clone, Copy, Debug, PartialEq, Eq)]
+#[derive(Clone, Copy)]
 pub struct Hex(pub MerkleHash);
 
 impl fmt::Display for Hex {
@@ -43,7 +43,7 @@ impl<'de> Deserialize<'de> for Hex {
 }
 
 /// A hash on a line of its own.
-#[derive(Clone, Copy, Debug, PartialEq, Eq, Serialize)]
+#[derive(Clone, Copy, Serialize)]
 pub struct HashReport {
     pub hash: Hex,
 }

@@ -72,7 +72,7 @@ pub enum Inquiry {
 }
 
 /// What a check looks at, beside whether a shard is as the library would write it.
-#[derive(Clone, Copy, Debug, PartialEq, Eq)]
+#[derive(Clone, Copy)]
 pub struct Checks {
     /// Whether the file has the name of a shard.
     pub named: bool,
@@ -97,7 +97,7 @@ impl Inquiry {
 }
 
 /// What came of an inquiry.
-#[derive(Clone, Copy, Debug, PartialEq, Eq)]
+#[derive(Clone, Copy)]
 pub enum Answer {
     Printed,
     /// A check found something, or the offsets of a footer do not ascend.

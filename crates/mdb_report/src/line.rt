@@ -11,7 +11,7 @@ use std::io;
 use std::io::Write;
 
 /// How values are printed.
-#[derive(Clone, Copy, Debug, PartialEq, Eq)]
+#[derive(Clone, Copy)]
 pub enum Style {
     /// As text, for people.
     Text,
@@ -20,7 +20,7 @@ pub enum Style {
 }
 
 /// Of which shard a value is. In JSON its name is the member `shard`.
-#[derive(Clone, Copy, Debug, PartialEq, Eq)]
+#[derive(Clone, Copy)]
 pub enum Origin<'a> {
     /// The value says it itself.
     Said,
@@ -33,7 +33,7 @@ pub enum Origin<'a> {
 }
 
 /// How values are printed, and of which shard they are.
-#[derive(Clone, Copy, Debug, PartialEq, Eq)]
+#[derive(Clone, Copy)]
 pub struct Layout<'a> {
     pub style: Style,
     pub origin: Origin<'a>,

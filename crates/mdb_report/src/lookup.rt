@@ -31,7 +31,7 @@ pub struct FoundReport {
 }
 
 /// The seeks of a lookup and the bytes that it read, those of header and footer not counted.
-#[derive(Clone, Copy, Debug, PartialEq, Eq, Serialize)]
+#[derive(Clone, Copy, Serialize)]
 pub struct Costs {
     pub seeks: u64,
     pub bytes_read: u64,
@@ -168,13 +168,13 @@ impl fmt::Display for FoundReport {
 }
 
 /// The run that a query found.
-#[derive(Clone, Copy, Debug, PartialEq, Eq, Serialize)]
+#[derive(Clone, Copy, Serialize)]
 pub struct RunReport {
     pub run: Option<Run>,
 }
 
 /// So many of the queried chunks, from the first on, that a xorb has one after another.
-#[derive(Clone, Copy, Debug, PartialEq, Eq, Serialize)]
+#[derive(Clone, Copy, Serialize)]
 pub struct Run {
     pub chunks: usize,
     pub segment: SegmentReport,

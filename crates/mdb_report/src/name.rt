@@ -10,7 +10,7 @@ use xet_core_structures::merklehash::{HMACKey, keyed_hash};
 use xet_core_structures::utils::shard_file_name;
 
 /// The name of a file.
-#[derive(Clone, Copy, Debug, PartialEq, Eq, Serialize)]
+#[derive(Clone, Copy, Serialize)]
 pub struct NameReport<'a> {
     pub name: &'a str,
 }

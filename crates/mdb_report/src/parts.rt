@@ -10,7 +10,7 @@ use std::fmt;
 use xet_core_structures::shard_format::MDBShardInfo;
 
 /// The bytes of a part: offsets from the start of the shard, the end excluded.
-#[derive(Clone, Copy, Debug, PartialEq, Eq, Serialize)]
+#[derive(Clone, Copy, Serialize)]
 pub struct PartRange {
     pub start: u64,
     pub end: u64,
@@ -24,7 +24,7 @@ impl fmt::Display for PartRange {
 }
 
 /// The bytes of a table and its rows.
-#[derive(Clone, Copy, Debug, PartialEq, Eq, Serialize)]
+#[derive(Clone, Copy, Serialize)]
 pub struct Table {
     pub start: u64,
     pub end: u64,
@@ -39,7 +39,7 @@ impl fmt::Display for Table {
 }
 
 /// The parts of a shard as its footer has them; each ends where the next one starts.
-#[derive(Clone, Copy, Debug, PartialEq, Eq, Serialize)]
+#[derive(Clone, Copy, Serialize)]
 pub struct Parts {
     pub header: PartRange,
     pub files: PartRange,

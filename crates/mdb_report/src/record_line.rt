@@ -28,7 +28,7 @@ pub enum Record {
 }
 
 /// Why a line is no record.
-#[derive(Clone, Copy, Debug, PartialEq, Eq)]
+#[derive(Clone, Copy)]
 pub enum LineFault {
     OutOfMemory,
     /// It is no JSON, from this column on.

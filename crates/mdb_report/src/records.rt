@@ -69,7 +69,7 @@ pub struct FileRows {
 }
 
 /// A segment: the chunks from `start` up to `end`, which is excluded, of a xorb.
-#[derive(Clone, Copy, Debug, PartialEq, Eq, Serialize, Deserialize)]
+#[derive(Clone, Copy, Serialize, Deserialize)]
 pub struct SegmentReport {
     pub xorb: Hex,
     pub flags: u32,
@@ -216,7 +216,7 @@ pub struct XorbReport {
 }
 
 /// A chunk of a xorb.
-#[derive(Clone, Copy, Debug, PartialEq, Eq, Serialize, Deserialize)]
+#[derive(Clone, Copy, Serialize, Deserialize)]
 pub struct ChunkRow {
     pub chunk: Hex,
     pub flags: u32,
@@ -226,7 +226,7 @@ pub struct ChunkRow {
 }
 
 /// A chunk of a xorb, with the xorb and its index there.
-#[derive(Clone, Copy, Debug, PartialEq, Eq, Serialize)]
+#[derive(Clone, Copy, Serialize)]
 pub struct ChunkReport {
     pub chunk: Hex,
     pub xorb: Hex,
@@ -237,7 +237,7 @@ pub struct ChunkReport {
 }
 
 /// What else is known of a chunk.
-#[derive(Clone, Copy, Debug, PartialEq, Eq, Serialize)]
+#[derive(Clone, Copy, Serialize)]
 pub struct ChunkRest {
     pub flags: u32,
     pub start: u32,

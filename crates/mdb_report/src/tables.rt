@@ -14,7 +14,7 @@ use xet_core_structures::source::MemorySource;
 use xet_core_structures::xorb_structs::XorbChunkSequenceHeader;
 
 /// A table of a shard.
-#[derive(Clone, Copy, Debug, PartialEq, Eq)]
+#[derive(Clone, Copy)]
 pub enum Table {
     Files,
     Xorbs,

@@ -22,11 +22,11 @@ use xet_core_structures::source::MemorySource;
 use xet_core_structures::xorb_structs::MDBXorbInfo;
 
 /// A finding, for `{}` to print.
-#[derive(Clone, Copy, Debug, PartialEq, Eq)]
+#[derive(Clone, Copy)]
 pub struct Unfit(pub Finding);
 
 /// A finding in a shard, or in some.
-#[derive(Clone, Copy, Debug, PartialEq, Eq, Serialize)]
+#[derive(Clone, Copy, Serialize)]
 pub struct UnfitReport<'a> {
     /// The name of the shard's file; `None` of some shards together.
     pub shard: Option<&'a str>,

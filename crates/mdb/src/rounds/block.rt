@@ -16,7 +16,7 @@ use xet_records::record_reader::{FormatVersion, SectionRecord, read_header};
 const EMPTY_SHARD_SIZE: usize = ENDS_SIZE + 2 * ROW_SIZE;
 
 /// How far a section is read.
-#[derive(Clone, Copy, Debug, PartialEq, Eq)]
+#[derive(Clone, Copy)]
 pub struct Mark {
     /// The bytes of the records that were read.
     pub bytes: usize,

@@ -13,7 +13,7 @@ use xet_core_structures::rows::ROW_SIZE;
 use xet_core_structures::shard_format::{CHUNK_ROW_SIZE, MDBShardFileFooter, START_ROW_SIZE};
 
 /// The numbers of rows of a shard's sections and tables, and its sums of bytes.
-#[derive(Clone, Copy, Debug, PartialEq, Eq)]
+#[derive(Clone, Copy)]
 pub struct Counts {
     /// The rows of the files, without the bookend.
     pub file_rows: u32,

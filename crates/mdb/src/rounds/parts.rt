@@ -156,7 +156,7 @@ impl<'a, F: Read + Write + Seek + Drop> Rounds<'a, F> {
         if let Err(error) = self.findings.add(alloc, inputs) {
             return Err(self.read_failure(rt, inputs, error));
         }
-        let strict = self.merge.strictness == Strictness::Strict;
+        let strict = matches!(self.merge.strictness, Strictness::Strict);
         if !self.has_one_key || (strict && !self.findings.is_empty()) {
             return Ok(());
         }

@@ -16,7 +16,7 @@ use xet_core_structures::shard_format::CHUNK_ROW_SIZE;
 use xet_shards::shard_writer::ChunkTableRow;
 
 /// A range of the bytes of a file.
-#[derive(Clone, Copy, Debug, PartialEq, Eq)]
+#[derive(Clone, Copy)]
 pub struct Extent {
     pub start: u64,
     pub size: u64,
@@ -34,7 +34,7 @@ struct Run {
 }
 
 /// The next row of the table with an index. Of equal rows, that of the first table comes first.
-#[derive(Clone, Copy, Debug, PartialEq, Eq, PartialOrd, Ord)]
+#[derive(Clone, Copy, PartialEq, Eq, PartialOrd, Ord)]
 struct Head {
     row: ChunkTableRow,
     run: usize,
