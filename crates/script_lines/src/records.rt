@@ -15,7 +15,7 @@ use xet_core_structures::merklehash::MerkleHash;
 use xet_core_structures::xorb_structs::XorbChunkSequenceEntry;
 
 /// Which fields of rows and records a line may have.
-#[derive(Clone, Copy, PartialEq, Eq)]
+#[derive(Clone, Copy)]
 pub enum Form {
     /// Those of well-formed records.
     Plain,

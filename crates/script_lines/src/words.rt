@@ -14,7 +14,7 @@ use std::alloc::{AllocError, AllocFailed};
 use xet_core_structures::merklehash::{DataHash, HMACKey, MerkleHash};
 
 /// Why a line can't be read.
-#[derive(Clone, Copy, Debug, PartialEq, Eq)]
+#[derive(Clone, Copy)]
 pub enum ParseError {
     /// A word does not have the form that its position requires.
     Unreadable,
