@@ -70,31 +70,31 @@ def range_merges(
         if strict:
             checks = [pool.submit(it, shards) for it in (find_disagreement, find_malformed)]
         ranges = [_range(*it) for it in zip(bounds, bounds[1:])]
+        listed, count = _list(data), len(data)
         # As in xet_union_room of xet.h.
         room = 352 + sum(length for _, length in data) // 3 * 8
 
         def merged(calls: Sequence[Any]) -> List[memoryview]:
-            merges = [pool.submit(_range_merge, call, (_list(data), len(data), *of), room) for call, of in calls]
+            merges = [pool.submit(_range_merge, call, (listed, count, *of), room) for call, of in calls]
             return [it.result() for it in merges] if all(it.result() is None for it in checks) else []
 
         if start is None and stop is None:
             try:
-                return merged(_row_calls(data, ranges, pool))
+                return merged(_row_calls(listed, count, ranges, pool))
             except XetError:
                 # A shard lacks tables, they are wrong, or a cut is not the least hash with its first word.
                 pass
         return merged([(_library.xet_merge_range, (byref(it),)) for it in ranges])
 
 
-def _row_calls(data: Sequence[Tuple[int, int]], ranges: Sequence[_Range], pool: ThreadPoolExecutor) -> List[Any]:
+def _row_calls(listed: Any, count: int, ranges: Sequence[_Range], pool: ThreadPoolExecutor) -> List[Any]:
     """Returns for each range the call that merges its rows, which are those between its end and that of the one before.
 
     The tables that say where ranges end are not trusted. A call refuses rows with anything else than the records of its
     range. If none does, they have written what merges of the ranges are.
     """
-    count = len(data)
     ends: List[Any] = [(_Rows * count)()]
-    ends += pool.map(lambda it: _range_ends(_list(data), count, it), ranges)
+    ends += pool.map(lambda it: _range_ends(listed, count, it), ranges)
     return [
         (_library.xet_merge_rows, (start, count, end, count, byref(it))) for start, end, it in zip(ends, ends[1:], ranges)
     ]
