@@ -25,14 +25,22 @@ impl Run<'_> {
     /// source of B1, and prints the number that the call returns.
     pub fn write_minimal(&mut self, words: &[&str], out: &mut Vec<u8>) -> Result<(), Stop> {
         let shard = minimal_shard(self.alloc, &mut self.first, "fx")?;
-        let command = parse_words(self.alloc, words, Form::Full)?;
-        let size = match &command {
-            Some(Command::Minimal { now, kept, .. }) => self.write_whole(&shard, *now, *kept),
-            Some(Command::Subset { subset, .. }) => self.write_subset(&shard, subset),
-            _ => return self.write_subset_only(&shard, words, out),
+        self.write_parts(&shard, words, out)
+    }
+
+    // Writes what words name of a minimal shard.
+    fn write_parts(
+        &mut self,
+        shard: &MDBMinimalShard,
+        words: &[&str],
+        out: &mut Vec<u8>,
+    ) -> Result<(), Stop> {
+        let size = match parse_words(self.alloc, words, Form::Full)? {
+            Some(Command::Minimal { now, kept, .. }) => self.write_whole(shard, now, kept),
+            Some(Command::Subset { subset, .. }) => self.write_subset(shard, &subset),
+            _ => return self.write_subset_only(shard, words, out),
         }?;
-        writeln!(out, "{size}")?;
-        Ok(())
+        Ok(writeln!(out, "{size}")?)
     }
 
     fn write_whole(&mut self, shard: &MDBMinimalShard, now: u64, kept: KeptParts) -> Written {

@@ -4,7 +4,7 @@ use crate::device::{Device, Output, Plan, Target};
 use crate::probe::Probe;
 use crate::stop::Stop;
 use std::alloc::Global;
-use std::io::Write;
+use std::io::{self, Write};
 use xet_core_structures::source::ShardSource;
 
 /// A command that runs through devices: a source for each input, an output, and its result.
@@ -105,6 +105,12 @@ impl Probe {
             run.answer?;
             return Ok(run.output.bytes);
         }
+        self.show_end(&run, out)?;
+        Ok(run.output.bytes)
+    }
+
+    // Prints why a run failed, and its costs if they are switched on.
+    fn show_end(&self, run: &Run<'_>, out: &mut Vec<u8>) -> Result<(), Stop> {
         match &run.answer {
             Ok(()) => {}
             Err(Stop::Unreadable) => return Err(Stop::Unreadable),
@@ -115,7 +121,7 @@ impl Probe {
             let read = run.first.bytes_read.saturating_add(run.second.bytes_read);
             writeln!(out, "seeks {seeks} read {read}")?;
         }
-        Ok(run.output.bytes)
+        Ok(())
     }
 
     // Runs a command through devices that work by a plan, once more if one fails and the plan says
@@ -131,12 +137,13 @@ impl Probe {
             (_, [_, first, ..]) => (self.buffer(first)?, &[]),
             _ => return Err(Stop::Unreadable),
         };
+        let output = Output::new(self.alloc, plan.of(Target::Output))?;
         let mut run = Run {
             alloc: self.alloc,
             probe: self,
             first: Device::new(first, plan.of(Target::First)),
             second: Device::new(second, plan.of(Target::Second)),
-            output: Output::new(self.alloc, plan.of(Target::Output))?,
+            output,
             answer: Ok(()),
         };
         let start = out.len();
@@ -167,27 +174,29 @@ impl Probe {
             runs_again,
             ..self.plan
         };
-        let mut printed = Vec::new(self.alloc);
-        let wanted = self.run_once(words, plan, &mut printed)?;
-        if let Err(Stop::Unreadable) = wanted.answer {
-            return Err(Stop::Unreadable);
-        }
-        let (count, answers) = self.run_failing(words, plan, wanted.output.bytes.as_slice())?;
-        let is_same = wanted.answer.is_ok() && answers == printed;
-        write!(out, "failed {count}: ")?;
-        match is_same {
-            true => write!(out, "as below")?,
-            false => out.write_all(answers.as_slice())?,
-        }
-        writeln!(out)?;
-        out.write_all(printed.as_slice())?;
-        wanted.answer?;
+        self.show_failures(words, plan, out)?;
         Ok(true)
     }
 
+    // Prints what the runs of a command with a failure print, and then what the one without prints.
+    fn show_failures(&self, words: &[&str], plan: Plan, out: &mut Vec<u8>) -> Result<(), Stop> {
+        let mut printed = Vec::new(self.alloc);
+        let Run { answer, output, .. } = self.run_once(words, plan, &mut printed)?;
+        if let Err(Stop::Unreadable) = answer {
+            return answer;
+        }
+        let (count, answers) = self.run_failing(words, plan, output.bytes.as_slice())?;
+        let is_same = answer.is_ok() && answers == printed;
+        let shown = match is_same {
+            true => "as below".as_bytes(),
+            false => answers.as_slice(),
+        };
+        show_answers(count, shown, printed.as_slice(), out)?;
+        answer
+    }
+
     // Runs a command with the 1st, 2nd .. call of a device failing, until a run meets no failure:
-    // how many failed, and what these runs printed, once if it is the same. What a command prints
-    // that ran once more ends in `other bytes` if it did not write these.
+    // how many failed, and what these runs printed, once if it is the same.
     fn run_failing(
         &self,
         words: &[&str],
@@ -197,25 +206,52 @@ impl Probe {
         let mut answers = Vec::new(self.alloc);
         let mut last = Vec::new(self.alloc);
         for turn in 1..u64::MAX {
-            let mut printed = Vec::new(self.alloc);
-            let run = self.run_once(words, plan.failing_at(turn), &mut printed)?;
-            if !run.has_failed() {
+            let Some(printed) = self.run_failed(words, plan.failing_at(turn), wanted)? else {
                 return Ok((turn - 1, answers));
-            }
-            if let Err(stop) = &run.answer {
-                write!(printed, "{stop}")?;
-            }
-            if plan.runs_again && run.output.bytes.as_slice() != wanted {
-                write!(printed, "other bytes")?;
-            }
+            };
             if printed != last {
-                if !answers.is_empty() {
-                    write!(answers, "; ")?;
-                }
-                answers.write_all(printed.as_slice())?;
+                add_answer(&mut answers, printed.as_slice())?;
                 last = printed;
             }
         }
         Ok((u64::MAX, answers))
     }
+
+    // What a run with a failure prints, or `None` if it meets none. What a command prints that ran
+    // once more ends in `other bytes` if it did not write those that are wanted.
+    fn run_failed(
+        &self,
+        words: &[&str],
+        plan: Plan,
+        wanted: &[u8],
+    ) -> Result<Option<Vec<u8>>, Stop> {
+        let mut printed = Vec::new(self.alloc);
+        let run = self.run_once(words, plan, &mut printed)?;
+        if !run.has_failed() {
+            return Ok(None);
+        }
+        if let Err(stop) = &run.answer {
+            write!(printed, "{stop}")?;
+        }
+        if plan.runs_again && run.output.bytes.as_slice() != wanted {
+            write!(printed, "other bytes")?;
+        }
+        Ok(Some(printed))
+    }
+}
+
+// Prints how many runs failed and what they printed, and then what the one without failure did.
+fn show_answers(count: u64, answers: &[u8], printed: &[u8], out: &mut Vec<u8>) -> io::Result<()> {
+    write!(out, "failed {count}: ")?;
+    out.write_all(answers)?;
+    writeln!(out)?;
+    out.write_all(printed)
+}
+
+// Appends what a run printed to the answers of those before it.
+fn add_answer(answers: &mut Vec<u8>, printed: &[u8]) -> io::Result<()> {
+    if !answers.is_empty() {
+        write!(answers, "; ")?;
+    }
+    answers.write_all(printed)
 }
