@@ -14,7 +14,7 @@ pub mod TreeXorbs
 pub mod TreesOfExports
 pub mod Parts
 pub mod InVersions
-pub mod PlacedInputs
+pub mod OpenedInputs
 pub mod PlacedMixes
 pub mod PlacedShards
 pub mod PlacedRanges

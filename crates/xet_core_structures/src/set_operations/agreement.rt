@@ -34,7 +34,6 @@ use super::MergePlan;
 use crate::set_operations::trees::inputs::{OpenShard, input_at, open_input, open_inputs};
 use crate::set_operations::trees::parts::{PlacedShard, TreePart, place_tree_of};
 use crate::set_operations::trees::versions::{fill_with_part_in, part_bytes_in};
-use crate::set_operations::two_shards::record_operation::OfUnion;
 use bumpalo::Bump;
 use differing::{Differing, find_differing};
 use kinds::Agreement;
@@ -44,7 +43,7 @@ use strict_tree::{end_of_leaves, place_agreeing_tree};
 use xet_base::error::{CoreError, Result};
 use xet_base::merklehash::MerkleHash;
 use xet_records::file_structs::MDBFileInfo;
-use xet_records::record_reader::{FormatVersion, SectionRecord};
+use xet_records::record_reader::FormatVersion;
 use xet_records::xorb_structs::MDBXorbInfo;
 
 /// The hash of a file or of a xorb.
@@ -94,26 +93,23 @@ fn disagreements_of(alloc: Global, opened: &[OpenShard<'_>]) -> Result<Vec<Disag
         → IfOk result (λ found. HasAllDisagreements inputs found.items) }
     ensures causes { IfErr result (λ e. e ≡ OutOfMemory) }
 {
-    let files = find_differing::<MDBFileInfo, OfUnion>(alloc, opened)?;
-    let xorbs = find_differing::<MDBXorbInfo, OfUnion>(alloc, opened)?;
+    let files = find_differing::<MDBFileInfo>(alloc, opened)?;
+    let xorbs = find_differing::<MDBXorbInfo>(alloc, opened)?;
     let mut found = Vec::new(alloc);
-    add_all::<MDBFileInfo, OfUnion>(&mut found, files.as_slice())?;
-    add_all::<MDBXorbInfo, OfUnion>(&mut found, xorbs.as_slice())?;
+    add_all::<MDBFileInfo>(&mut found, files.as_slice())?;
+    add_all::<MDBXorbInfo>(&mut found, xorbs.as_slice())?;
     Ok(found)
 }
 
 // Adds what differs in one kind of records.
-fn add_all<R: SectionRecord, A: Agreement<R>>(
-    found: &mut Vec<Disagreement>,
-    differing: &[Differing],
-) -> Result<()>
+fn add_all<R: Agreement>(found: &mut Vec<Disagreement>, differing: &[Differing]) -> Result<()>
     ensures ok { OnOk result
-        (found.new.items ≡ found.old.items ++ map (disagreement_of A.named) differing.now) }
+        (found.new.items ≡ found.old.items ++ map (disagreement_of R.named) differing.now) }
     ensures causes { IfErr result (λ e. e ≡ OutOfMemory) }
 {
     for one in differing {
         found.push(Disagreement {
-            record_hash: A::name(one.hash),
+            record_hash: R::name(one.hash),
             first: one.first,
             second: one.second,
         })?;
@@ -164,11 +160,11 @@ pub fn find_malformed(alloc: Global, inputs: &[&[u8]]) -> Result<Option<Malforme
 fn malformed_in(shard: &PlacedShard<'_>) -> Option<RecordHash>
     ensures { (bytes : List ℕ) → IsPlacedOf shard.now bytes → FindsMalformedIn bytes result }
 {
-    let file = find_malformed_record::<MDBFileInfo, OfUnion>(shard.files.as_slice());
+    let file = find_malformed_record::<MDBFileInfo>(shard.files.as_slice());
     if let Some(hash) = file {
         return Some(RecordHash::File(hash));
     }
-    let xorb = find_malformed_record::<MDBXorbInfo, OfUnion>(shard.xorbs.as_slice());
+    let xorb = find_malformed_record::<MDBXorbInfo>(shard.xorbs.as_slice());
     match xorb {
         Some(hash) => Some(RecordHash::Xorb(hash)),
         None => None,

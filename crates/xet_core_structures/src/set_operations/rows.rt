@@ -143,13 +143,7 @@ fn place_leaf<'a>(
         × IsUnionPart bytes part)
         (RowsRefusal range starts.now ends.now (map (λ x. x.now) inputs.now) (Leaf at)) }
 {
-    if at >= inputs.len() {
-        return Err(CoreError::InvalidArguments);
-    }
-    if at >= starts.len() {
-        return Err(CoreError::InvalidArguments);
-    }
-    if at >= ends.len() {
+    if at >= inputs.len() || at >= starts.len() || at >= ends.len() {
         return Err(CoreError::InvalidArguments);
     }
     place_in_rows(alloc, inputs[at], starts[at], ends[at], range)

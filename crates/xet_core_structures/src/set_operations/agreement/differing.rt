@@ -16,7 +16,6 @@ use crate::set_operations::trees::placed::{PlacedRecord, copy_of};
 use std::alloc::Global;
 use xet_base::error::Result;
 use xet_base::merklehash::MerkleHash;
-use xet_records::record_reader::SectionRecord;
 
 /// Two inputs that have records with one hash that do not agree.
 #[derive(Clone, Copy)]
@@ -37,28 +36,28 @@ pub struct ReadRecord<R> {
 
 /// For each hash under which two inputs have records that do not agree, two such inputs, in
 /// ascending order of the hashes.
-pub fn find_differing<R: SectionRecord + Drop, A: Agreement<R>>(
+pub fn find_differing<R: Agreement + Drop>(
     alloc: Global,
     opened: &[OpenShard<'_>],
 ) -> Result<Vec<Differing>>
     ensures { MatchResult result
         (λ found. (all : List (List R))
-        → AllZip (MayUnite R.kind) (map A.listed opened.now) all
-        → FindsDiffering R.kind A.agree all found.items)
+        → AllZip (MayUnite R.kind) (map R.listed opened.now) all
+        → FindsDiffering R.kind R.agree all found.items)
         (λ e. e ≡ OutOfMemory) }
 {
     R::laws();
-    let places = sorted_places::<R, A>(alloc, opened)?;
+    let places = sorted_places::<R>(alloc, opened)?;
     let mut found = Vec::new(alloc);
     let mut from = 0;
     while from < places.len() {
-        from = compare_run::<R, A>(alloc, opened, places.as_slice(), from, &mut found)?;
+        from = compare_run::<R>(alloc, opened, places.as_slice(), from, &mut found)?;
     }
     Ok(found)
 }
 
 // Compares the records of the run that begins at a place, and adds what differs. Where it ends.
-fn compare_run<R: SectionRecord + Drop, A: Agreement<R>>(
+fn compare_run<R: Agreement + Drop>(
     alloc: Global,
     opened: &[OpenShard<'_>],
     places: &[Place],
@@ -68,15 +67,15 @@ fn compare_run<R: SectionRecord + Drop, A: Agreement<R>>(
     requires within { from < length places.now }
     requires sorted { IsSorted place_cmp places.now }
     requires each { (p : Place) → Contains places.now p
-        → IsPlace R.kind (map A.listed opened.now) p }
+        → IsPlace R.kind (map R.listed opened.now) p }
     ensures { MatchResult result
         (λ to. IsRun places.now from to
-        × ComparesRun R.kind A.agree (map A.listed opened.now) places.now from to
+        × ComparesRun R.kind R.agree (map R.listed opened.now) places.now from to
         found.old.items found.new.items)
         (λ e. e ≡ OutOfMemory) }
 {
     let to = run_end(places, from);
-    match differ_in_run::<R, A>(alloc, opened, places, from, to)? {
+    match differ_in_run::<R>(alloc, opened, places, from, to)? {
         Some(differing) => {
             found.push(differing)?;
             Ok(to)
@@ -87,7 +86,7 @@ fn compare_run<R: SectionRecord + Drop, A: Agreement<R>>(
 
 // Two records of a run that do not agree. Of those that agree, a record is kept only if it has
 // parts that no other has, so that each is read once and compared with few.
-fn differ_in_run<R: SectionRecord + Drop, A: Agreement<R>>(
+fn differ_in_run<R: Agreement + Drop>(
     alloc: Global,
     opened: &[OpenShard<'_>],
     places: &[Place],
@@ -96,11 +95,11 @@ fn differ_in_run<R: SectionRecord + Drop, A: Agreement<R>>(
 ) -> Result<Option<Differing>>
     requires run { IsRun places.now from to }
     requires each { (p : Place) → Contains places.now p
-        → IsPlace R.kind (map A.listed opened.now) p }
+        → IsPlace R.kind (map R.listed opened.now) p }
     ensures { MatchResult result
         (λ found. MatchOption found
-        (AgreeWithin R.kind A.agree (map A.listed opened.now) places.now from to)
-        (DifferWithin R.kind A.agree (map A.listed opened.now) places.now from to))
+        (AgreeWithin R.kind R.agree (map R.listed opened.now) places.now from to)
+        (DifferWithin R.kind R.agree (map R.listed opened.now) places.now from to))
         (λ e. e ≡ OutOfMemory) }
 {
     R::laws();
@@ -108,7 +107,7 @@ fn differ_in_run<R: SectionRecord + Drop, A: Agreement<R>>(
         return Ok(None);
     }
     let first = places[from];
-    let value = read_at::<R, A>(alloc, opened, first)?;
+    let value = read_at::<R>(alloc, opened, first)?;
     let mut kept = Vec::new(alloc);
     kept.push(ReadRecord {
         input: first.input,
@@ -116,7 +115,7 @@ fn differ_in_run<R: SectionRecord + Drop, A: Agreement<R>>(
     })?;
     let mut at = from + 1;
     while at < to {
-        match compare_place::<R, A>(alloc, opened, first, places[at], &mut kept)? {
+        match compare_place::<R>(alloc, opened, first, places[at], &mut kept)? {
             Some(differing) => return Ok(Some(differing)),
             None => at += 1,
         }
@@ -126,28 +125,28 @@ fn differ_in_run<R: SectionRecord + Drop, A: Agreement<R>>(
 
 // Compares the record at a place with those that are kept, unless it has the bytes of that at the
 // first place, which is one of these.
-fn compare_place<R: SectionRecord + Drop, A: Agreement<R>>(
+fn compare_place<R: Agreement + Drop>(
     alloc: Global,
     opened: &[OpenShard<'_>],
     first: Place,
     place: Place,
     kept: &mut Vec<ReadRecord<R>>,
 ) -> Result<Option<Differing>>
-    requires first { IsPlace R.kind (map A.listed opened.now) first }
-    requires place { IsPlace R.kind (map A.listed opened.now) place }
+    requires first { IsPlace R.kind (map R.listed opened.now) first }
+    requires place { IsPlace R.kind (map R.listed opened.now) place }
     ensures { MatchResult result
         (λ found. MatchOption found
-        (ComparesPlace R.kind A.agree (map A.listed opened.now) first place kept.old.items
+        (ComparesPlace R.kind R.agree (map R.listed opened.now) first place kept.old.items
         kept.new.items)
-        (DiffersAt R.kind A.agree (map A.listed opened.now) place kept.old.items))
+        (DiffersAt R.kind R.agree (map R.listed opened.now) place kept.old.items))
         (λ e. e ≡ OutOfMemory) }
 {
     R::laws();
-    if is_copy::<R, A>(opened, first, place) {
+    if is_copy::<R>(opened, first, place) {
         return Ok(None);
     }
-    let next = read_at::<R, A>(alloc, opened, place)?;
-    match keep_record::<R, A>(kept, place.input, next)? {
+    let next = read_at::<R>(alloc, opened, place)?;
+    match keep_record::<R>(kept, place.input, next)? {
         Some(first) => Ok(Some(Differing {
             hash: place.hash,
             first,
@@ -159,21 +158,21 @@ fn compare_place<R: SectionRecord + Drop, A: Agreement<R>>(
 
 // Keeps a record unless one that is kept covers it. The number of the input of one that does not
 // agree with it, or `None`.
-fn keep_record<R: SectionRecord + Drop, A: Agreement<R>>(
+fn keep_record<R: Agreement + Drop>(
     kept: &mut Vec<ReadRecord<R>>,
     input: usize,
     next: R,
 ) -> Result<Option<usize>>
     ensures { MatchResult result
         (λ found. MatchOption found
-        (KeepsRecord A.agree input next kept.old.items kept.new.items)
-        (IsAgainst A.agree kept.old.items next))
+        (KeepsRecord R.agree input next kept.old.items kept.new.items)
+        (IsAgainst R.agree kept.old.items next))
         (λ e. e ≡ OutOfMemory) }
 {
-    match find_against::<R, A>(kept.as_slice(), &next) {
+    match find_against::<R>(kept.as_slice(), &next) {
         Some(first) => Ok(Some(first)),
         None => {
-            if is_covered::<R, A>(kept.as_slice(), &next) {
+            if is_covered::<R>(kept.as_slice(), &next) {
                 return Ok(None);
             }
             kept.push(ReadRecord { input, value: next })?;
@@ -183,16 +182,13 @@ fn keep_record<R: SectionRecord + Drop, A: Agreement<R>>(
 }
 
 // The number of the input of a record that does not agree with this one, or `None`.
-fn find_against<R: SectionRecord, A: Agreement<R>>(
-    kept: &[ReadRecord<R>],
-    next: &R,
-) -> Option<usize>
+fn find_against<R: Agreement>(kept: &[ReadRecord<R>], next: &R) -> Option<usize>
     ensures { MatchOption result
-        ((k : ReadRecord R) → Contains kept.now k → A.agree k.value next.now)
-        (IsAgainst A.agree kept.now next.now) }
+        ((k : ReadRecord R) → Contains kept.now k → R.agree k.value next.now)
+        (IsAgainst R.agree kept.now next.now) }
 {
     for one in kept {
-        if !A::are_agreed(&one.value, next) {
+        if !R::are_agreed(&one.value, next) {
             return Some(one.input);
         }
     }
@@ -200,13 +196,13 @@ fn find_against<R: SectionRecord, A: Agreement<R>>(
 }
 
 // Whether a record has no parts beyond those of one that is kept.
-fn is_covered<R: SectionRecord, A: Agreement<R>>(kept: &[ReadRecord<R>], next: &R) -> bool
-    requires { (k : ReadRecord R) → Contains kept.now k → A.agree k.value next.now }
+fn is_covered<R: Agreement>(kept: &[ReadRecord<R>], next: &R) -> bool
+    requires { (k : ReadRecord R) → Contains kept.now k → R.agree k.value next.now }
     ensures { IsTrue result
-        → (k : ReadRecord R) × Contains kept.now k × Covers A.agree k.value next.now }
+        → (k : ReadRecord R) × Contains kept.now k × Covers R.agree k.value next.now }
 {
     for one in kept {
-        if A::has_parts_of(&one.value, next) {
+        if R::has_parts_of(&one.value, next) {
             return true;
         }
     }
@@ -214,45 +210,37 @@ fn is_covered<R: SectionRecord, A: Agreement<R>>(kept: &[ReadRecord<R>], next: &
 }
 
 // Whether the record at a place has the bytes of that at another.
-fn is_copy<R: SectionRecord, A: Agreement<R>>(
-    opened: &[OpenShard<'_>],
-    first: Place,
-    place: Place,
-) -> bool
-    requires first { IsPlace R.kind (map A.listed opened.now) first }
-    requires place { IsPlace R.kind (map A.listed opened.now) place }
-    ensures { IsTrue result → (r : R) → IsRecordAt R.kind (map A.listed opened.now) place r
-        → IsRecordAt R.kind (map A.listed opened.now) first r }
+fn is_copy<R: Agreement>(opened: &[OpenShard<'_>], first: Place, place: Place) -> bool
+    requires first { IsPlace R.kind (map R.listed opened.now) first }
+    requires place { IsPlace R.kind (map R.listed opened.now) place }
+    ensures { IsTrue result → (r : R) → IsRecordAt R.kind (map R.listed opened.now) place r
+        → IsRecordAt R.kind (map R.listed opened.now) first r }
 {
     R::laws();
-    let one = placed_at::<R, A>(opened, first);
-    let other = placed_at::<R, A>(opened, place);
-    are_copies::<R, A>(&one, &other)
+    let one = placed_at::<R>(opened, first);
+    let other = placed_at::<R>(opened, place);
+    are_copies::<R>(&one, &other)
 }
 
-fn read_at<R: SectionRecord + Drop, A: Agreement<R>>(
-    alloc: Global,
-    opened: &[OpenShard<'_>],
-    place: Place,
-) -> Result<R>
-    requires { IsPlace R.kind (map A.listed opened.now) place }
+fn read_at<R: Agreement + Drop>(alloc: Global, opened: &[OpenShard<'_>], place: Place) -> Result<R>
+    requires { IsPlace R.kind (map R.listed opened.now) place }
     ensures { MatchResult result
-        (λ found. (r : R) → IsRecordAt R.kind (map A.listed opened.now) place r → found ≡ r)
+        (λ found. (r : R) → IsRecordAt R.kind (map R.listed opened.now) place r → found ≡ r)
         (λ e. e ≡ OutOfMemory) }
 {
     R::laws();
-    let placed = placed_at::<R, A>(opened, place);
+    let placed = placed_at::<R>(opened, place);
     read_placed::<R>(alloc, &placed)
 }
 
-fn placed_at<'a, R: SectionRecord, A: Agreement<R>>(
+fn placed_at<'a, R: Agreement>(
     opened: &[OpenShard<'a>],
     place: Place,
 ) -> PlacedRecord<'a, R::Header>
-    requires { IsPlace R.kind (map A.listed opened.now) place }
+    requires { IsPlace R.kind (map R.listed opened.now) place }
     ensures { (l : List (PlacedRecord R.Header))
-        → slice_get (map A.listed opened.now) place.input ≡ Some l
+        → slice_get (map R.listed opened.now) place.input ≡ Some l
         → slice_get l place.index ≡ Some result }
 {
-    copy_of(&A::records(&opened[place.input])[place.index])
+    copy_of(&R::records(&opened[place.input])[place.index])
 }

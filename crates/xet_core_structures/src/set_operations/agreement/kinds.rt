@@ -14,22 +14,21 @@ ghost use Rattle.xet_core_structures.specs.Steps.Agreement.{AreEqual, AgreeOn};
 use super::RecordHash;
 use crate::set_operations::trees::inputs::OpenShard;
 use crate::set_operations::trees::placed::PlacedRecord;
-use crate::set_operations::two_shards::record_operation::OfUnion;
 use xet_base::merklehash::MerkleHash;
 use xet_records::file_structs::{FileDataSequenceHeader, MDBFileInfo, OptionalPart};
 use xet_records::record_reader::SectionRecord;
 use xet_records::xorb_structs::{MDBXorbInfo, XorbChunkSequenceHeader};
 
 /// When two records with one hash agree.
-pub trait Agreement<R: SectionRecord> {
-    ghost agree: { R → R → Type 0 };
+pub trait Agreement: SectionRecord {
+    ghost agree: { Self → Self → Type 0 };
 
     ghost named: { DataHash → RecordHash };
 
-    ghost listed: { OpenShard → List (PlacedRecord R.Header) };
+    ghost listed: { OpenShard → List (PlacedRecord Self.Header) };
 
     /// The records of an input.
-    fn records<'s, 'a>(opened: &'s OpenShard<'a>) -> &'s [PlacedRecord<'a, R::Header>]
+    fn records<'s, 'a>(opened: &'s OpenShard<'a>) -> &'s [PlacedRecord<'a, Self::Header>]
         ensures { result.now ≡ listed opened.now };
 
     /// A hash, and whose it is.
@@ -37,25 +36,25 @@ pub trait Agreement<R: SectionRecord> {
         ensures { result ≡ named hash };
 
     /// Whether two records agree.
-    fn are_agreed(first: &R, second: &R) -> bool
+    fn are_agreed(first: &Self, second: &Self) -> bool
         ensures { IsTrue result ↔ agree first.now second.now };
 
     /// Whether a record has all parts of another. If they agree, what agrees with the first then
     /// agrees with the second.
-    fn has_parts_of(first: &R, second: &R) -> bool
-        ensures { IsTrue result → agree first.now second.now → (r : R) → agree first.now r
+    fn has_parts_of(first: &Self, second: &Self) -> bool
+        ensures { IsTrue result → agree first.now second.now → (r : Self) → agree first.now r
             → agree second.now r };
 
     /// Whether two headers are equal.
-    fn are_one_header(first: &R::Header, second: &R::Header) -> bool
+    fn are_one_header(first: &Self::Header, second: &Self::Header) -> bool
         ensures { IsTrue result → first.now ≡ second.now };
 
-    ghost agrees_with_itself: { (r : R) → agree r r };
+    ghost agrees_with_itself: { (r : Self) → agree r r };
 
-    ghost either_way: { (r s : R) → agree r s → agree s r };
+    ghost either_way: { (r s : Self) → agree r s → agree s r };
 }
 
-impl Agreement<MDBFileInfo> for OfUnion {
+impl Agreement for MDBFileInfo {
     ghost use Rattle.std.proofs.Common.{refl, sym};
 
     ghost agree = { Agree };
@@ -135,7 +134,7 @@ fn same_verification(first: &MDBFileInfo, second: &MDBFileInfo) -> bool
     first.verification == second.verification
 }
 
-impl Agreement<MDBXorbInfo> for OfUnion {
+impl Agreement for MDBXorbInfo {
     ghost use Rattle.std.proofs.Common.{refl, sym};
 
     ghost agree = { AreEqual };

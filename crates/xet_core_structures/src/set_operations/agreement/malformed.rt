@@ -8,7 +8,6 @@ ghost use Rattle.xet_core_structures.specs.Steps.Agreement.{IsPlainFile, HasFewB
 ghost use Rattle.xet_core_structures.specs.Steps.Placed.{Places};
 
 use crate::set_operations::trees::placed::PlacedRecord;
-use crate::set_operations::two_shards::record_operation::OfUnion;
 use crate::well_formed::{have_few_bytes, is_plain};
 use xet_base::merklehash::MerkleHash;
 use xet_records::file_structs::{FileDataSequenceHeader, MDBFileInfo};
@@ -17,30 +16,30 @@ use xet_records::rows::ROW_SIZE;
 use xet_records::xorb_structs::{MDBXorbInfo, XorbChunkSequenceHeader};
 
 /// The rule by which a shard may have a record that can be read.
-pub trait RecordRule<R: SectionRecord> {
-    ghost allowed: { R → Type 0 };
+pub trait RecordRule: SectionRecord {
+    ghost allowed: { Self → Type 0 };
 
     /// Whether a shard may have the record.
-    fn is_allowed(placed: &PlacedRecord<'_, R::Header>) -> bool
-        ensures { (r : R) → Places R.kind placed.now r → IsTrue result ↔ allowed r };
+    fn is_allowed(placed: &PlacedRecord<'_, Self::Header>) -> bool
+        ensures { (r : Self) → Places Self.kind placed.now r → IsTrue result ↔ allowed r };
 }
 
 /// The hash of the first of these records that no shard may have.
-pub fn find_malformed_record<R: SectionRecord, A: RecordRule<R>>(
+pub fn find_malformed_record<R: RecordRule>(
     placed: &[PlacedRecord<'_, R::Header>],
 ) -> Option<MerkleHash>
-    ensures { FindsMalformed R.kind A.allowed placed.now result }
+    ensures { FindsMalformed R.kind R.allowed placed.now result }
 {
     R::laws();
     for one in placed {
-        if !A::is_allowed(one) {
+        if !R::is_allowed(one) {
             return Some(R::hash(&one.header));
         }
     }
     None
 }
 
-impl RecordRule<MDBFileInfo> for OfUnion {
+impl RecordRule for MDBFileInfo {
     ghost allowed = { IsPlainFile };
 
     fn is_allowed(placed: &PlacedRecord<'_, FileDataSequenceHeader>) -> bool {
@@ -48,7 +47,7 @@ impl RecordRule<MDBFileInfo> for OfUnion {
     }
 }
 
-impl RecordRule<MDBXorbInfo> for OfUnion {
+impl RecordRule for MDBXorbInfo {
     ghost allowed = { HasFewBytes };
 
     fn is_allowed(placed: &PlacedRecord<'_, XorbChunkSequenceHeader>) -> bool {

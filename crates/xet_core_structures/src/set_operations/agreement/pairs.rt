@@ -14,27 +14,27 @@ use xet_records::record_reader::SectionRecord;
 use xet_records::rows::ROW_SIZE;
 
 /// Whether two records agree. Copies are not read.
-pub fn agree_in_place<R: SectionRecord + Drop, A: Agreement<R>>(
+pub fn agree_in_place<R: Agreement + Drop>(
     alloc: Global,
     first: &PlacedRecord<'_, R::Header>,
     second: &PlacedRecord<'_, R::Header>,
 ) -> Result<bool>
     ensures { MatchResult result
         (λ agreed. (r s : R) → Places R.kind first.now r → Places R.kind second.now s
-        → IsTrue agreed ↔ A.agree r s)
+        → IsTrue agreed ↔ R.agree r s)
         (λ e. e ≡ OutOfMemory) }
 {
     R::laws();
-    if are_copies::<R, A>(first, second) {
+    if are_copies::<R>(first, second) {
         return Ok(true);
     }
     let one = read_placed::<R>(alloc, first)?;
     let other = read_placed::<R>(alloc, second)?;
-    Ok(A::are_agreed(&one, &other))
+    Ok(R::are_agreed(&one, &other))
 }
 
 /// Whether the first record has the bytes of the second.
-pub fn are_copies<R: SectionRecord, A: Agreement<R>>(
+pub fn are_copies<R: Agreement>(
     first: &PlacedRecord<'_, R::Header>,
     second: &PlacedRecord<'_, R::Header>,
 ) -> bool
@@ -42,7 +42,7 @@ pub fn are_copies<R: SectionRecord, A: Agreement<R>>(
 {
     R::laws();
     let size = ROW_SIZE as u64 * R::rows_after(&first.header);
-    A::are_one_header(&first.header, &second.header) && begin_alike(first.rows, second.rows, size)
+    R::are_one_header(&first.header, &second.header) && begin_alike(first.rows, second.rows, size)
 }
 
 // Whether two byte strings have the same bytes at their front, so many of them.

@@ -23,19 +23,16 @@ pub struct Place {
 }
 
 /// The places of all records of one kind, in ascending order of their hashes.
-pub fn sorted_places<R: SectionRecord, A: Agreement<R>>(
-    alloc: Global,
-    opened: &[OpenShard<'_>],
-) -> Result<Vec<Place>>
+pub fn sorted_places<R: Agreement>(alloc: Global, opened: &[OpenShard<'_>]) -> Result<Vec<Place>>
     ensures { MatchResult result
-        (λ places. HasPlaces R.kind (map A.listed opened.now) places.items
+        (λ places. HasPlaces R.kind (map R.listed opened.now) places.items
         × IsSorted place_cmp places.items)
         (λ e. e ≡ OutOfMemory) }
 {
     let mut places = Vec::new(alloc);
     let mut input = 0;
     while input < opened.len() {
-        add_places::<R>(&mut places, A::records(&opened[input]), input)?;
+        add_places::<R>(&mut places, R::records(&opened[input]), input)?;
         input += 1;
     }
     places.sort_unstable();

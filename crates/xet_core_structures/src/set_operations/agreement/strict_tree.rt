@@ -22,7 +22,6 @@ use bumpalo::Bump;
 use std::alloc::Global;
 use xet_base::error::Result;
 use xet_records::file_structs::{FileDataSequenceHeader, MDBFileInfo};
-use xet_records::record_reader::SectionRecord;
 use xet_records::xorb_structs::{MDBXorbInfo, XorbChunkSequenceHeader};
 
 /// Marks the union of records that agree.
@@ -126,7 +125,7 @@ impl PlacedUnion<MDBXorbInfo> for OfAgreeing {
 }
 
 // What a union makes of two records, or nothing if they do not agree.
-fn make_of_agreeing<'a, R: SectionRecord + Drop, U: PlacedUnion<R> + Agreement<R>>(
+fn make_of_agreeing<'a, R: Agreement + Drop, U: PlacedUnion<R>>(
     alloc: Global,
     arena: &'a Bump,
     first: &PlacedRecord<'a, R::Header>,
@@ -135,11 +134,11 @@ fn make_of_agreeing<'a, R: SectionRecord + Drop, U: PlacedUnion<R> + Agreement<R
     requires { R.kind.hash_of first.now.header ≡ R.kind.hash_of second.now.header }
     ensures { MatchResult result
         (λ made. MatchOption made
-        (MakesNothing R.kind (MadeIfAgreed U.agree U.makes) first.now second.now)
-        (MakesPlaced R.kind (MadeIfAgreed U.agree U.makes) first.now second.now))
+        (MakesNothing R.kind (MadeIfAgreed R.agree U.makes) first.now second.now)
+        (MakesPlaced R.kind (MadeIfAgreed R.agree U.makes) first.now second.now))
         (λ e. e ≡ OutOfMemory) }
 {
-    if !agree_in_place::<R, U>(alloc, first, second)? {
+    if !agree_in_place::<R>(alloc, first, second)? {
         return Ok(None);
     }
     U::make(alloc, arena, first, second)

@@ -18,8 +18,8 @@ loop-one-preserved g c =
     let is = sym (get_or_from_slice_get all i one one (slice_get-get_or all i absent_item low)) in
     c.in_ok-push.ensures.items
     ∙ (λ j. c.loop-one.invariant j ++ record { record_hash = c.name.ensures j; first = one.first; second = one.second } ∷ [])
-    ∙ one_more_mapped (disagreement_of g.A.Agreement.named) c.args.found.now.items all i one low is
+    ∙ one_more_mapped (disagreement_of g.R.Agreement.named) c.args.found.now.items all i one low is
 
 pub returns-clause-ok : goal.returns-clause-ok
 returns-clause-ok g c =
-    c.loop-one.invariant ∙ ap (λ l. c.args.found.now.items ++ map (disagreement_of g.A.Agreement.named) l) (take_all c.loop-one.one-index c.args.differing.now c.loop-one-test.false)
+    c.loop-one.invariant ∙ ap (λ l. c.args.found.now.items ++ map (disagreement_of g.R.Agreement.named) l) (take_all c.loop-one.one-index c.args.differing.now c.loop-one-test.false)

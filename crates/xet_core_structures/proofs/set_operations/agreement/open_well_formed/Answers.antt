@@ -7,7 +7,7 @@ use Rattle.xet_core_structures.specs.Records.ShardContents.{HasShard}
 use Rattle.xet_core_structures.specs.Steps.Agreement.{FindsMalformedIn}
 use Rattle.xet_core_structures.specs.Steps.Parts.{AreOpened}
 use Rattle.xet_core_structures.proofs.Records.Items.{below_or_at}
-use Rattle.xet_core_structures.proofs.Trees.PlacedInputs.{one_more_opened}
+use Rattle.xet_core_structures.proofs.Trees.OpenedInputs.{one_more_opened}
 use Rattle.xet_core_structures.proofs.set_operations.agreement.open_well_formed.Goals as goal
 
 pub loop-at-init : goal.loop-at-init

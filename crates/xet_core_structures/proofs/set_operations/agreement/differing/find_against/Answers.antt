@@ -18,7 +18,7 @@ loop-one-preserved g c = λ i k low k_at.
     let yes = c.are_agreed.ensures.0 (search rules) in
     elim (below_or_at i c.loop-one.one-index low) [
       | inl less ↦ c.loop-one.invariant i k less k_at
-      | inr same ↦ subst (λ r. g.A.Agreement.agree r.value c.args.next.now) (same_Some c.one-item.result k (sym at ∙ ap (slice_get c.args.kept.now) (sym same) ∙ k_at)) yes
+      | inr same ↦ subst (λ r. g.R.Agreement.agree r.value c.args.next.now) (same_Some c.one-item.result k (sym at ∙ ap (slice_get c.args.kept.now) (sym same) ∙ k_at)) yes
     ]
 
 pub returns : goal.returns

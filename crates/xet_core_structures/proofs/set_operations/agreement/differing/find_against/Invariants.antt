@@ -4,4 +4,4 @@ use Rattle.xet_core_structures.specs.declared.set_operations.agreement.differing
 use Rattle.xet_core_structures.proofs.set_operations.agreement.differing.find_against.Given as goal
 
 abbrev pub invariant-loop-one : goal.invariant-loop-one
-invariant-loop-one g l = (i : ℕ) (k : ReadRecord g.row.R.Denot) → i < l.one-index → slice_get l.kept i ≡ Some k → g.A.Agreement.agree k.value l.next
+invariant-loop-one g l = (i : ℕ) (k : ReadRecord g.row.R.Denot) → i < l.one-index → slice_get l.kept i ≡ Some k → g.R.Agreement.agree k.value l.next

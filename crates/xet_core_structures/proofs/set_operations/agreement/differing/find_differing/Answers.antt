@@ -6,19 +6,19 @@ use Rattle.xet_core_structures.proofs.set_operations.agreement.differing.find_di
 
 pub loop-from-init : goal.loop-from-init
 loop-from-init g c =
-    subst (HasCompared g.R.SectionRecord.kind g.A.Agreement.agree (map g.A.Agreement.listed c.args.opened.now) c.in_ok-places.places.items 0) (sym c.new-found.ensures.items)
-    (compared_start g.R.SectionRecord.kind g.A.Agreement.agree (map g.A.Agreement.listed c.args.opened.now) c.in_ok-places.places.items)
+    subst (HasCompared g.R.SectionRecord.kind g.R.Agreement.agree (map g.R.Agreement.listed c.args.opened.now) c.in_ok-places.places.items 0) (sym c.new-found.ensures.items)
+    (compared_start g.R.SectionRecord.kind g.R.Agreement.agree (map g.R.Agreement.listed c.args.opened.now) c.in_ok-places.places.items)
 
 pub loop-from-preserved : goal.loop-from-preserved
 loop-from-preserved g c =
     let K = g.R.SectionRecord.kind in
-    let lists = map g.A.Agreement.listed c.args.opened.now in
+    let lists = map g.R.Agreement.listed c.args.opened.now in
     let from = c.loop-from.from in
-    compared_on K g.A.Agreement.agree lists c.in_ok-places.places.items from c.in_ok-from.from c.loop-from.found.items c.loop-from.invariant
+    compared_on K g.R.Agreement.agree lists c.in_ok-places.places.items from c.in_ok-from.from c.loop-from.found.items c.loop-from.invariant
     (subst (λ l. IsRun l from c.in_ok-from.from) c.as_slice.ensures.value c.in_ok-from.ensures.0) c.compare_run.new.found.items
-    (subst (λ l. ComparesRun K g.A.Agreement.agree lists l from c.in_ok-from.from c.loop-from.found.items c.compare_run.new.found.items) c.as_slice.ensures.value c.in_ok-from.ensures.1)
+    (subst (λ l. ComparesRun K g.R.Agreement.agree lists l from c.in_ok-from.from c.loop-from.found.items c.compare_run.new.found.items) c.as_slice.ensures.value c.in_ok-from.ensures.1)
 
 pub returns : goal.returns
 returns g c = λ all united.
     let past : length c.in_ok-places.places.items ≤ c.loop-from.from = search rules in
-    found_differing g.R.SectionRecord.kind c.laws.ensures g.A.Agreement.agree (map g.A.Agreement.listed c.args.opened.now) all united c.in_ok-places.places.items c.loop-from.found.items c.in_ok-places.ensures.0 c.loop-from.from past c.loop-from.invariant
+    found_differing g.R.SectionRecord.kind c.laws.ensures g.R.Agreement.agree (map g.R.Agreement.listed c.args.opened.now) all united c.in_ok-places.places.items c.loop-from.found.items c.in_ok-places.ensures.0 c.loop-from.from past c.loop-from.invariant

@@ -8,7 +8,7 @@ returns-then-not-is_allowed g c =
     let low : c.loop-one.one-index < length c.args.placed.now = search rules in
     let at = slice_get_read c.args.placed.now (length c.args.placed.now) c.loop-one.one-index c.one-item.result refl low c.one-item.is in
     let none : ¬ IsTrue false = search rules in
-    one_not_allowed g.R.SectionRecord.kind g.A.RecordRule.allowed c.args.placed.now c.laws.ensures c.loop-one.one-index c.one-item.result c.hash.result at c.hash.ensures
+    one_not_allowed g.R.SectionRecord.kind g.R.RecordRule.allowed c.args.placed.now c.laws.ensures c.loop-one.one-index c.one-item.result c.hash.result at c.hash.ensures
     (λ r here has. none (subst IsTrue c.if-not-is_allowed.true ((c.is_allowed.ensures r here).1 has)))
 
 pub loop-one-preserved : goal.loop-one-preserved
@@ -16,10 +16,10 @@ loop-one-preserved g c =
     let low : c.loop-one.one-index < length c.args.placed.now = search rules in
     let at = slice_get_read c.args.placed.now (length c.args.placed.now) c.loop-one.one-index c.one-item.result refl low c.one-item.is in
     let up : IsTrue c.is_allowed.result = search rules in
-    one_more_allowed g.R.SectionRecord.kind g.A.RecordRule.allowed c.args.placed.now c.loop-one.one-index c.one-item.result c.loop-one.invariant at
+    one_more_allowed g.R.SectionRecord.kind g.R.RecordRule.allowed c.args.placed.now c.loop-one.one-index c.one-item.result c.loop-one.invariant at
     (λ r here. (c.is_allowed.ensures r here).0 up)
 
 pub returns : goal.returns
 returns g c =
     let past : length c.args.placed.now ≤ c.loop-one.one-index = search rules in
-    all_allowed g.R.SectionRecord.kind g.A.RecordRule.allowed c.args.placed.now c.loop-one.one-index past c.loop-one.invariant
+    all_allowed g.R.SectionRecord.kind g.R.RecordRule.allowed c.args.placed.now c.loop-one.one-index past c.loop-one.invariant

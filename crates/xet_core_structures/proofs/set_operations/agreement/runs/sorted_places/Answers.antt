@@ -9,16 +9,16 @@ use Rattle.xet_core_structures.proofs.set_operations.agreement.runs.sorted_place
 pub loop-input-preserved : goal.loop-input-preserved
 loop-input-preserved g c =
     let low : c.loop-input.input < length c.args.opened.now = search rules in
-    let at = slice_get-map g.A.Agreement.listed c.args.opened.now c.loop-input.input
-    ∙ ap (option_map g.A.Agreement.listed) (slice_get_read c.args.opened.now (length c.args.opened.now) c.loop-input.input c.index-opened-input.result refl low c.index-opened-input.is) in
-    places_on g.R.SectionRecord.kind (map g.A.Agreement.listed c.args.opened.now) c.loop-input.input (g.A.Agreement.listed c.index-opened-input.result) c.loop-input.places.items c.add_places.new.places.items at c.loop-input.invariant
+    let at = slice_get-map g.R.Agreement.listed c.args.opened.now c.loop-input.input
+    ∙ ap (option_map g.R.Agreement.listed) (slice_get_read c.args.opened.now (length c.args.opened.now) c.loop-input.input c.index-opened-input.result refl low c.index-opened-input.is) in
+    places_on g.R.SectionRecord.kind (map g.R.Agreement.listed c.args.opened.now) c.loop-input.input (g.R.Agreement.listed c.index-opened-input.result) c.loop-input.places.items c.add_places.new.places.items at c.loop-input.invariant
     (subst (λ l. AddsPlaces g.R.SectionRecord.kind c.loop-input.input l c.loop-input.places.items c.add_places.new.places.items) c.records.ensures c.in_ok-add_places.ensures.ok)
 
 pub returns : goal.returns
 returns g c =
     let all : length c.args.opened.now ≤ c.loop-input.input = search rules in
-    let past : length (map g.A.Agreement.listed c.args.opened.now) ≤ c.loop-input.input = omega (arith, all, length-map c.args.opened.now g.A.Agreement.listed) in (
-      places_permuted g.R.SectionRecord.kind (map g.A.Agreement.listed c.args.opened.now) c.loop-input.places.items c.sort_unstable.new.self.items c.sort_unstable.ensures.permutation
-          (all_places g.R.SectionRecord.kind (map g.A.Agreement.listed c.args.opened.now) c.loop-input.input c.loop-input.places.items past c.loop-input.invariant),
+    let past : length (map g.R.Agreement.listed c.args.opened.now) ≤ c.loop-input.input = omega (arith, all, length-map c.args.opened.now g.R.Agreement.listed) in (
+      places_permuted g.R.SectionRecord.kind (map g.R.Agreement.listed c.args.opened.now) c.loop-input.places.items c.sort_unstable.new.self.items c.sort_unstable.ensures.permutation
+          (all_places g.R.SectionRecord.kind (map g.R.Agreement.listed c.args.opened.now) c.loop-input.input c.loop-input.places.items past c.loop-input.invariant),
       c.sort_unstable.ensures.sorted,
     )

@@ -3,7 +3,7 @@ use Rattle.std.specs.Borrow.{Bor}
 use Rattle.std.proofs.lemmas.List.{length-map}
 use Rattle.std.proofs.lemmas.Result.{err_from_is_err_and}
 use Rattle.xet_core_structures.specs.Steps.Parts.{AreOpened}
-use Rattle.xet_core_structures.proofs.Trees.PlacedInputs.{one_more_opened}
+use Rattle.xet_core_structures.proofs.Trees.OpenedInputs.{one_more_opened}
 use Rattle.xet_core_structures.proofs.set_operations.trees.inputs.open_inputs.Goals as goal
 
 pub loop-at-init : goal.loop-at-init

@@ -3,7 +3,7 @@ use Rattle.std.specs.Prelude.{MatchResult}
 use Rattle.xet_core_structures.specs.Trees.MergeTrees.{TreeWrites, TreeRefusal}
 use Rattle.xet_core_structures.specs.Steps.Parts.{IsPartOf, IsUnionPart}
 use Rattle.xet_core_structures.proofs.Trees.Parts.{both_parts, part_of_tree}
-use Rattle.xet_core_structures.proofs.Trees.PlacedInputs.{leaf_part}
+use Rattle.xet_core_structures.proofs.Trees.OpenedInputs.{leaf_part}
 use Rattle.xet_core_structures.proofs.set_operations.trees.parts.+place_tree_of.Goals as goal
 
 pub returns-in-Leaf : goal.returns-in-Leaf

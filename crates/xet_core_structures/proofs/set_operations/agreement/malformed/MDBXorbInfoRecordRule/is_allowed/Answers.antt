@@ -1,6 +1,6 @@
 use Rattle.std.proofs.Common.{◌∙◌}
 use Rattle.xet_core_structures.proofs.Agreement.Malformed.{rows_of_chunks, chunks_fit}
-use Rattle.xet_core_structures.proofs.set_operations.agreement.malformed.OfUnionRecordRuleMDBXorbInfo.is_allowed.Goals as goal
+use Rattle.xet_core_structures.proofs.set_operations.agreement.malformed.MDBXorbInfoRecordRule.is_allowed.Goals as goal
 
 pub returns : goal.returns
 returns c = λ r here.
