@@ -151,6 +151,29 @@ impl CoreError {
             CoreError::OutOfMemory => 18,
         }
     }
+
+    fn name(&self) -> &'static str {
+        match self {
+            CoreError::Io(_) => "Io",
+            CoreError::InternalError(_) => "InternalError",
+            CoreError::Other(_) => "Other",
+            CoreError::TruncatedHashCollision(_) => "TruncatedHashCollision",
+            CoreError::ShardVersion(_) => "ShardVersion",
+            CoreError::BadFilename(_) => "BadFilename",
+            CoreError::ShardNotFound(_) => "ShardNotFound",
+            CoreError::FileNotFound(_) => "FileNotFound",
+            CoreError::QueryFailed(_) => "QueryFailed",
+            CoreError::SmudgeQueryPolicy(_) => "SmudgeQueryPolicy",
+            CoreError::InvalidShard(_) => "InvalidShard",
+            CoreError::InvalidRange => "InvalidRange",
+            CoreError::InvalidArguments => "InvalidArguments",
+            CoreError::MalformedData(_) => "MalformedData",
+            CoreError::HashMismatch => "HashMismatch",
+            CoreError::HashParsing(_) => "HashParsing",
+            CoreError::ChunkHeaderParse => "ChunkHeaderParse",
+            CoreError::OutOfMemory => "OutOfMemory",
+        }
+    }
 }
 
 impl PartialEq for CoreError {
@@ -170,25 +193,27 @@ impl Eq for CoreError {
 // By hand, since an enum without variants has no derived `Debug`.
 impl fmt::Debug for CoreError {
     fn fmt<W: fmt::Write>(&self, f: &mut fmt::Formatter<W>) -> fmt::Result {
+        let name = self.name();
         match self {
-            CoreError::Io(error) => write!(f, "Io({error:?})"),
-            CoreError::InternalError(text) => write!(f, "InternalError({text:?})"),
-            CoreError::Other(text) => write!(f, "Other({text:?})"),
-            CoreError::TruncatedHashCollision(word) => write!(f, "TruncatedHashCollision({word})"),
-            CoreError::ShardVersion(text) => write!(f, "ShardVersion({text:?})"),
-            CoreError::BadFilename(text) => write!(f, "BadFilename({text:?})"),
-            CoreError::ShardNotFound(hash) => write!(f, "ShardNotFound({hash})"),
-            CoreError::FileNotFound(hash) => write!(f, "FileNotFound({hash})"),
-            CoreError::QueryFailed(text) => write!(f, "QueryFailed({text:?})"),
-            CoreError::SmudgeQueryPolicy(text) => write!(f, "SmudgeQueryPolicy({text:?})"),
-            CoreError::InvalidShard(text) => write!(f, "InvalidShard({text:?})"),
-            CoreError::InvalidRange => write!(f, "InvalidRange"),
-            CoreError::InvalidArguments => write!(f, "InvalidArguments"),
-            CoreError::MalformedData(text) => write!(f, "MalformedData({text:?})"),
-            CoreError::HashMismatch => write!(f, "HashMismatch"),
+            CoreError::Io(error) => write!(f, "{name}({error:?})"),
+            CoreError::InternalError(text)
+            | CoreError::Other(text)
+            | CoreError::ShardVersion(text)
+            | CoreError::BadFilename(text)
+            | CoreError::QueryFailed(text)
+            | CoreError::SmudgeQueryPolicy(text)
+            | CoreError::InvalidShard(text)
+            | CoreError::MalformedData(text) => write!(f, "{name}({text:?})"),
+            CoreError::TruncatedHashCollision(word) => write!(f, "{name}({word})"),
+            CoreError::ShardNotFound(hash) | CoreError::FileNotFound(hash) => {
+                write!(f, "{name}({hash})")
+            }
             CoreError::HashParsing(never) => match *never {},
-            CoreError::ChunkHeaderParse => write!(f, "ChunkHeaderParse"),
-            CoreError::OutOfMemory => write!(f, "OutOfMemory"),
+            CoreError::InvalidRange
+            | CoreError::InvalidArguments
+            | CoreError::HashMismatch
+            | CoreError::ChunkHeaderParse
+            | CoreError::OutOfMemory => write!(f, "{name}"),
         }
     }
 }
