@@ -1,5 +1,5 @@
 -- Merges of the records in given rows of byte strings.
-use Rattle.std.specs.Prelude.{◌≡◌, ◌⊎◌, ⊤, ℕ, ◌+◌, ◌-◌, ◌*◌, ◌/◌, ◌<◌, ◌≤◌, List, [], ◌∷◌, length, take, drop, min, slice_get, All, Option, None, Some}
+use Rattle.std.specs.Prelude.{◌≡◌, ◌⊎◌, ℕ, ◌+◌, ◌-◌, ◌*◌, ◌/◌, ◌<◌, ◌≤◌, List, [], length, take, drop, min, slice_get, All, Option, None, Some}
 use Rattle.std.specs.List.{AllZip}
 use Rattle.xet_core_structures.specs.declared.error.CoreError.{CoreError}
 use Rattle.xet_core_structures.specs.declared.error.CoreError.TheVariants.{InvalidArguments, OutOfMemory}
@@ -8,7 +8,7 @@ use Rattle.xet_core_structures.specs.declared.set_operations.ranges.HashRange.{H
 use Rattle.xet_core_structures.specs.declared.set_operations.rows.SectionRows.{SectionRows}
 use Rattle.xet_core_structures.specs.declared.shard_format.MDBShardInfo.{MDBShardInfo}
 use Rattle.xet_core_structures.specs.Ends.{HasHeaderAndFooter}
-use Rattle.xet_core_structures.specs.Trees.RowTrees.{RowsWrite, RowsRefusal}
+use Rattle.xet_core_structures.specs.Trees.RowTrees.{RowsWrite, RowsRefusal, EachInRows}
 use Rattle.xet_core_structures.specs.TwoShards.ByteResults.{LoadRefusal}
 use Rattle.xet_core_structures.specs.declared.merklehash.DataHash.{DataHash}
 use Rattle.xet_base.specs.Bytes.{u32_bytes, u64_from_bytes}
@@ -32,14 +32,11 @@ RefusesRows range starts ends inputs e =
     ⊎ ((plan : MergePlan) × IsMergePlan (length inputs) plan
     × RowsRefusal range starts ends inputs plan e)
 
--- inputs are merged to these byte strings of ranges, one by one: each of the rows from one list of
--- rows on and before the next
+-- inputs are merged to these byte strings of ranges in rows
 abbrev pub MergeInRows : List (List ℕ) → List HashRange → List (List SectionRows) → List (List ℕ)
     → Type 0
-MergeInRows inputs [] (ends ∷ []) [] = ⊤
-MergeInRows inputs (range ∷ ranges) (starts ∷ ends ∷ more) (out ∷ outs) =
-    MergesRows range starts ends inputs out × MergeInRows inputs ranges (ends ∷ more) outs
-MergeInRows inputs ranges rows outs = ⊥
+MergeInRows inputs =
+    EachInRows (λ range starts ends out. MergesRows range starts ends inputs out)
 
 -- the first word of a hash at an index of a file table or of a xorb table
 abbrev pub word_in : List ℕ → ℕ → ℕ

@@ -23,7 +23,7 @@ use std::alloc::Global;
 use xet_base::fields::{split_u32, split_u64};
 use xet_core_structures::error::{CoreError, Result};
 use xet_core_structures::merklehash::MerkleHash;
-use xet_core_structures::rows::ROW_SIZE;
+use xet_core_structures::rows::{ROW_LIMIT, ROW_SIZE};
 use xet_core_structures::set_operations::{FormatVersion, HashRange, SectionRows, merge_rows_into};
 use xet_core_structures::shard_format::START_ROW_SIZE;
 
@@ -121,7 +121,7 @@ fn last_between(start: u64, end: u64) -> u32
     ensures { result ≡ last_row start end }
 {
     let rows = end.saturating_sub(start) / ROW_SIZE as u64;
-    rows.saturating_sub(1).min(u64::from(u32::MAX)) as u32
+    rows.saturating_sub(1).min(ROW_LIMIT) as u32
 }
 
 // The rows of a table at an offset, as far as they are in these bytes.

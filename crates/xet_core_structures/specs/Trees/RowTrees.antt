@@ -101,12 +101,18 @@ abbrev pub HaveRowsOfRange : HashRange → (starts ends : List SectionRows) → 
 HaveRowsOfRange range starts ends inputs IsIndex =
     (i : ℕ) → IsIndex i → InputRowsAre starts ends inputs (AreRowsOfRange range) i
 
--- a tree writes these byte strings of ranges, one by one: each of the rows from one list of rows on
--- and before the next
+-- these byte strings are made of ranges, one by one: each of the rows from one list of rows on and
+-- before the next
+abbrev pub EachInRows
+    : (HashRange → (starts ends : List SectionRows) → List ℕ → Type 0) → List HashRange
+    → List (List SectionRows) → List (List ℕ) → Type 0
+EachInRows Makes [] (ends ∷ []) [] = ⊤
+EachInRows Makes (range ∷ ranges) (starts ∷ ends ∷ more) (out ∷ outs) =
+    Makes range starts ends out × EachInRows Makes ranges (ends ∷ more) outs
+EachInRows Makes ranges rows outs = ⊥
+
+-- a tree writes these byte strings of ranges in rows
 abbrev pub WriteInRows : List (List ℕ) → MergePlan → List HashRange → List (List SectionRows)
     → List (List ℕ) → Type 0
-WriteInRows inputs plan [] (ends ∷ []) [] = ⊤
-WriteInRows inputs plan (range ∷ ranges) (starts ∷ ends ∷ more) (out ∷ outs) =
-    RowsWrite range starts ends inputs plan out
-    × WriteInRows inputs plan ranges (ends ∷ more) outs
-WriteInRows inputs plan ranges rows outs = ⊥
+WriteInRows inputs plan =
+    EachInRows (λ range starts ends out. RowsWrite range starts ends inputs plan out)
