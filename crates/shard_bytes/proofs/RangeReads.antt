@@ -13,8 +13,8 @@ use Rattle.xet_core_structures.specs.ChunkQuery.{Run}
 use Rattle.xet_core_structures.specs.Ends.{HasHeaderAndFooter}
 use Rattle.xet_core_structures.specs.Lookup.{FindRecordFails, IndexFinds, IsRowAndIndex, LookupAnswer, LooksUpRecord, Visits, row_at}
 use Rattle.xet_core_structures.specs.RunReading.{AnswerAt, QueryAnswer, TriedAnswer, keyed_word, query_at}
-use Rattle.xet_core_structures.specs.Source.{Source}
-use Rattle.xet_core_structures.specs.Table.{Table, table_at, FitsTable, Finds, Hit, NoFailure}
+use Rattle.xet_core_structures.specs.Source.{Source, NoFailure}
+use Rattle.xet_core_structures.specs.Table.{Table, table_at, FitsTable, Finds, Hit}
 use Rattle.xet_records.specs.RecordKind.{RecordKind}
 use Rattle.xet_shards.specs.Read.SectionReading.{MayRead}
 use Rattle.xet_shards.specs.Write.Tables.{hash_in}

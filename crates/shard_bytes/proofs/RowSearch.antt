@@ -4,8 +4,7 @@ use Rattle.std.specs.Prelude.{All}
 use Rattle.std.proofs.lemmas.List.Elements.{All-nil, All-cons}
 use Rattle.std.proofs.lemmas.List.{drop-drop}
 use Rattle.xet_base.specs.Bytes.{u32_bytes, u64_bytes, u64_from_bytes}
-use Rattle.xet_base.proofs.Bytes.{length-u32_bytes, length-u64_bytes}
-use Rattle.xet_base.proofs.KnownTable.{u64_from_bytes-bytes}
+use Rattle.xet_base.proofs.Bytes.{length-u32_bytes, length-u64_bytes, u64_from_bytes-bytes}
 use Rattle.xet_base.proofs.Lists.{front_is, rest_is}
 use Rattle.xet_core_structures.specs.declared.merklehash.DataHash.{DataHash}
 use Rattle.xet_core_structures.specs.declared.set_operations.rows.SectionRows.{SectionRows}

@@ -10,7 +10,7 @@ use Rattle.xet_core_structures.specs.Lookup.{RecordAt, row_at}
 use Rattle.xet_core_structures.specs.FileRecord.{row_count}
 use Rattle.xet_core_structures.specs.SectionReading.{IsSection, files_of}
 use Rattle.xet_core_structures.specs.SectionReading.{SectionCase, BeginsWithBookend, BeginsRefused, EndsEarly}
-use Rattle.xet_core_structures.specs.Table.{IsBareInvalidShard}
+use Rattle.xet_core_structures.specs.Errors.{IsBareInvalidShard}
 use Rattle.xet_core_structures.specs.XorbRecord.{xorb_records, xorb_row_count}
 use Rattle.xet_records.specs.RecordKind.{RecordKind}
 

@@ -5,7 +5,7 @@ use Rattle.std.proofs.lemmas.List.{length-append, get_or-drop}
 use Rattle.std.proofs.Math.Nat.{mul-suc}
 use Rattle.std.proofs.lemmas.Nat.{from_le_bytes-to_le_bytes_4, from_le_bytes-to_le_bytes_8}
 use Rattle.xet_base.specs.declared.merklehash.DataHash.{DataHash}
-use Rattle.xet_base.specs.Bytes.{u32_bytes, u64_bytes, AreBytes}
+use Rattle.xet_base.specs.Bytes.{u32_bytes, u64_bytes, u64_from_bytes, AreBytes}
 use Rattle.xet_base.specs.Hash.{hash_bytes, IsHash}
 use Rattle.xet_base.proofs.Lists.{same_parts}
 
@@ -30,6 +30,10 @@ pub u64_bytes-injective : (m n : ℕ) → m < 2 ^ 64 → n < 2 ^ 64 → u64_byte
 unfolding u64_bytes
 u64_bytes-injective m n m_fits n_fits same =
     sym (from_le_bytes-to_le_bytes_8 m m_fits) ∙ ap (from_le_bytes w64) same ∙ from_le_bytes-to_le_bytes_8 n n_fits
+
+pub u64_from_bytes-bytes : (n : ℕ) → n < 2 ^ 64 → u64_from_bytes (u64_bytes n) ≡ n
+unfolding u64_from_bytes u64_bytes
+u64_from_bytes-bytes n fits = from_le_bytes-to_le_bytes_8 n fits
 
 -- the front of a list is a number's bytes in one way only
 pub u32_bytes-front : (m n : ℕ) (x y : List ℕ) → m < 2 ^ 32 → n < 2 ^ 32 → u32_bytes m ++ x ≡ u32_bytes n ++ y → (m ≡ n) × (x ≡ y)

@@ -5,8 +5,7 @@ use Rattle.xet_base.specs.declared.merklehash.DataHash.{DataHash}
 use Rattle.xet_base.specs.Bytes.{u64_bytes, u64_from_bytes}
 use Rattle.xet_base.specs.Hash.{hash_bytes, IsHash}
 use Rattle.xet_base.specs.KeyedHash.{hash_of, keyed_bytes, hmac}
-use Rattle.xet_base.proofs.Bytes.{length-u64_bytes}
-use Rattle.xet_base.proofs.KnownTable.{u64_from_bytes-bytes}
+use Rattle.xet_base.proofs.Bytes.{length-u64_bytes, u64_from_bytes-bytes}
 use Rattle.xet_base.proofs.Lists.{front_is, rest_is}
 
 pub hash_of-bytes : (h : DataHash) → IsHash h → hash_of (hash_bytes h) ≡ h

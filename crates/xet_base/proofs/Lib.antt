@@ -8,17 +8,6 @@ pub mod HexText
 pub mod Lists
 pub mod Reading
 pub mod Worked
-pub mod Tables
-pub mod Progress
-pub mod Quarter
-pub mod Probing
-pub mod Course
-pub mod Even
-pub mod Searching
-pub mod Bounds
-pub mod Search
-pub mod Collecting
-pub mod KnownTable
 mod Lanes
 pub mod KeyedHash
 pub mod Blake3

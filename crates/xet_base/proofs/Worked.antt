@@ -1,10 +1,9 @@
--- Worked values of the definitions of hashes, and a table that is even.
-use Rattle.std.proofs.Common.{◌≡◌, ℕ, zero, suc, ◌+◌, ◌*◌, ◌<◌, [], ◌∷◌, ◌++◌, refl, arith}
+-- Worked values of the definitions of hashes.
+use Rattle.std.proofs.Common.{◌≡◌, [], ◌∷◌, refl}
 use Rattle.xet_base.specs.declared.merklehash.DataHash.{DataHash}
-use Rattle.xet_base.specs.Bytes.{u64_bytes, u64_from_bytes}
+use Rattle.xet_base.specs.Bytes.{u64_bytes}
 use Rattle.xet_base.specs.Hash.{hash_bytes}
 use Rattle.xet_base.specs.Hex.{hex_digits, hash_hex}
-use Rattle.xet_base.specs.Table.{Table, offset_of_row, key_at, HasKey, IsEven, even_step, hits, hits_below}
 
 -- the words 100, 1, 0 and 0
 abbrev small_hash : DataHash
@@ -38,25 +37,3 @@ pub hex_of_rising : hash_hex rising_hash
     ≡ 48 ∷ 49 ∷ 50 ∷ 51 ∷ 52 ∷ 53 ∷ 54 ∷ 55 ∷ 56 ∷ 57 ∷ 97 ∷ 98 ∷ 99 ∷ 100 ∷ 101 ∷ 102 ∷ 102 ∷ 101 ∷ 100 ∷ 99 ∷ 98 ∷ 97 ∷ 57 ∷ 56 ∷ 55 ∷ 54 ∷ 53 ∷ 52 ∷ 51 ∷ 50 ∷ 49 ∷ 48 ∷ 48 ∷ 48 ∷ 48 ∷ 48 ∷ 48 ∷ 48 ∷ 48 ∷ 48 ∷ 48 ∷ 48 ∷ 48 ∷ 48 ∷ 48 ∷ 48 ∷ 48 ∷ 48 ∷ 48 ∷ 48 ∷ 48 ∷ 48 ∷ 48 ∷ 48 ∷ 48 ∷ 48 ∷ 48 ∷ 48 ∷ 48 ∷ 48 ∷ 48 ∷ 48 ∷ 48 ∷ 49 ∷ []
 unfolding hash_hex hex_digits
 hex_of_rising = refl
-
--- two rows with values of four bytes, whose keys are a third and two thirds of the greatest
-abbrev thirds : Table
-thirds = record {
-  bytes = u64_bytes 6148914691236517205 ++ (7 ∷ 0 ∷ 0 ∷ 0 ∷ []) ++ u64_bytes 12297829382473034410 ++ (8 ∷ 0 ∷ 0 ∷ 0 ∷ []);
-  start = 0;
-  rows = 2;
-  width = 4;
-}
-
-keys_of_thirds : (i : ℕ) → i < 2 → HasKey thirds i → key_at thirds i ≡ (i + 1) * even_step 2
-unfolding key_at offset_of_row u64_bytes u64_from_bytes
-keys_of_thirds zero within there = refl
-keys_of_thirds (suc zero) within there = refl
-keys_of_thirds (suc (suc i)) within there = absurd (omega (arith, within))
-
-pub thirds_are_even : IsEven thirds
-thirds_are_even = record { wide = omega arith; keys = keys_of_thirds }
-
-pub one_third : hits thirds 6148914691236517205 ≡ 1
-unfolding hits_below key_at offset_of_row u64_bytes u64_from_bytes
-one_third = refl

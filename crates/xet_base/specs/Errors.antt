@@ -68,6 +68,11 @@ abbrev pub IsBareShardVersion : CoreError → Type 0
 IsBareShardVersion (ShardVersion text) = string_bytes text ≡ []
 IsBareShardVersion _ = ⊥
 
+-- `InvalidShard` without a message
+abbrev pub IsBareInvalidShard : CoreError → Type 0
+IsBareInvalidShard (InvalidShard text) = string_bytes text ≡ []
+IsBareInvalidShard _ = ⊥
+
 -- `Other` of this text, or out of memory
 abbrev pub IsOtherText : List ℕ → CoreError → Type 0
 IsOtherText text (Other s) = string_bytes s ≡ text

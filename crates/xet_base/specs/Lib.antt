@@ -8,4 +8,3 @@ pub mod InputLaws
 pub mod KeyedHash
 pub mod Source
 pub mod Steps
-pub mod Table

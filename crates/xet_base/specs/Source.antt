@@ -37,6 +37,12 @@ pub record ReadsSome (old new : Source) (slice : List ℕ) (n : ℕ) : Type 0 wh
   pub end : n ≡ 0 → 0 < length slice → length old.bytes ≤ old.at
   pub after : new ≡ after_read old n
 
+-- the device did not fail, and the bytes are the same
+pub record NoFailure (old new : Source) : Type 0 where
+  pub bytes : new.bytes ≡ old.bytes
+  pub failures : new.failures ≡ old.failures
+  pub last_failure : new.last_failure ≡ old.last_failure
+
 -- the device failed; the position afterwards is unspecified
 pub record Fails (old new : Source) (made : ℕ) (e : Error) : Type 0 where
   pub bytes : new.bytes ≡ old.bytes

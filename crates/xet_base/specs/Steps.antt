@@ -1,6 +1,3 @@
 -- Words that only contracts inside the crate and proofs speak of.
 
 pub mod Lanes
-pub mod Probes
-pub mod Search
-pub mod Table

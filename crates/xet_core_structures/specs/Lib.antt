@@ -10,7 +10,6 @@ pub use Rattle.xet_base.specs.Hex
 pub use Rattle.xet_base.specs.Input
 pub use Rattle.xet_base.specs.KeyedHash
 pub use Rattle.xet_base.specs.Source
-pub use Rattle.xet_base.specs.Table
 pub use Rattle.xet_records.specs.FileRecord
 pub use Rattle.xet_records.specs.Version
 pub use Rattle.xet_records.specs.View
@@ -30,6 +29,7 @@ pub use Rattle.xet_shards.specs.StreamingShard.MinimalShard
 pub use Rattle.xet_shards.specs.Content.Names
 pub use Rattle.xet_shards.specs.Lookup.RunReading
 pub use Rattle.xet_shards.specs.Read.SectionReading
+pub use Rattle.xet_shards.specs.Search.Table
 pub use Rattle.xet_shards.specs.Content.SetOperations
 pub use Rattle.xet_shards.specs.Content.Shard
 pub use Rattle.xet_shards.specs.Content.ShardsWithoutAux

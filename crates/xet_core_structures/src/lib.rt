@@ -6,6 +6,6 @@ pub mod laws;
 pub mod set_operations;
 pub mod well_formed;
 
-pub use xet_base::{count, error, interpolation_search, merklehash, serialization_utils, source};
+pub use xet_base::{count, error, merklehash, serialization_utils, source};
 pub use xet_records::{file_structs, rows, xorb_structs};
-pub use xet_shards::{shard_format, shard_in_memory, streaming_shard, utils};
+pub use xet_shards::{interpolation_search, shard_format, shard_in_memory, streaming_shard, utils};

@@ -3,7 +3,7 @@
 -- announces too many rows.
 use Rattle.std.specs.Prelude.{◌≡◌, ◌≢◌, ◌⊎◌, ℕ, ◌+◌, ◌*◌, ◌<◌, ◌≤◌, true, false, List, ◌++◌, length, map, flat_map, sum_by, All, Option, MatchOption}
 use Rattle.xet_base.specs.declared.error.CoreError.{CoreError}
-use Rattle.xet_base.specs.Table.{IsBareInvalidShard}
+use Rattle.xet_base.specs.Errors.{IsBareInvalidShard}
 use Rattle.xet_base.specs.Hash.{all_ones}
 use Rattle.xet_records.specs.RecordKind.{RecordKind}
 use Rattle.xet_records.specs.Limits.{MAX_ROWS}

@@ -5,9 +5,8 @@ use Rattle.std.specs.IoError.{error_kind}
 use Rattle.std.specs.declared.io.ErrorKind.TheVariants.{Other}
 use Rattle.xet_base.specs.declared.error.CoreError.{CoreError}
 use Rattle.xet_base.specs.declared.error.CoreError.TheVariants.{Io}
-use Rattle.xet_base.specs.Errors.{IsEndOfInput}
+use Rattle.xet_base.specs.Errors.{IsEndOfInput, IsBareInvalidShard}
 use Rattle.xet_base.specs.Hash.{all_ones}
-use Rattle.xet_base.specs.Table.{IsBareInvalidShard}
 use Rattle.xet_records.specs.declared.file_structs.header.FileDataSequenceHeader.{FileDataSequenceHeader}
 use Rattle.xet_records.specs.declared.file_structs.MDBFileInfo.{MDBFileInfo}
 use Rattle.xet_records.specs.Limits.{MAX_ROWS}

@@ -12,8 +12,7 @@ ghost use Rattle.xet_records.specs.Part.{rows_of};
 ghost use Rattle.xet_records.specs.Steps.FileRecord.{HasAnnounced};
 ghost use Rattle.xet_records.specs.Merging.{IsSameFile, has_part, merged_file};
 ghost use Rattle.xet_records.specs.Reading.{ReadsOrEnds, ReadsRowsAfter, IsTruncatedRecord, HasRefusedHeader};
-ghost use Rattle.xet_base.specs.Table.{IsBareInvalidShard};
-ghost use Rattle.xet_base.specs.Errors.{IsEndOfInput, IsDeviceError, IsWriteError, IsInvalidShard};
+ghost use Rattle.xet_base.specs.Errors.{IsBareInvalidShard, IsEndOfInput, IsDeviceError, IsWriteError, IsInvalidShard};
 
 use crate::record_reader::{FormatVersion, MAX_ROWS_OF_RECORD, SectionRecord, read_record};
 use crate::row_reader;

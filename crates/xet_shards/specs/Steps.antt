@@ -12,8 +12,10 @@ pub mod Lookup
 pub mod MinimalShard
 pub mod MinimalWriting
 pub mod PartOrder
+pub mod Probes
 pub mod RunReading
 pub mod RunSteps
+pub mod Search
 pub mod SectionReading
 pub mod TableReading
 pub mod Tables

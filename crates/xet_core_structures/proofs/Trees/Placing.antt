@@ -3,8 +3,7 @@ use Rattle.std.proofs.Common.{◌≡◌, ℕ, List, [], ◌∷◌, ◌++◌, Opt
 use Rattle.std.specs.List.Sorted.{IsStrictlySortedBy}
 use Rattle.std.proofs.lemmas.Option.{same_Some}
 use Rattle.xet_base.specs.declared.error.CoreError.{CoreError}
-use Rattle.xet_base.specs.Source.{Source, ReadsBytes, bytes_left}
-use Rattle.xet_base.specs.Table.{NoFailure}
+use Rattle.xet_base.specs.Source.{Source, ReadsBytes, bytes_left, NoFailure}
 use Rattle.xet_base.proofs.Reading.{ReadsBytes-consumes}
 use Rattle.xet_records.specs.declared.record_reader.FormatVersion.{FormatVersion}
 use Rattle.xet_records.specs.RecordKind.{RecordKind, in_version, KindLaws}

@@ -9,8 +9,7 @@ use Rattle.xet_base.specs.declared.error.CoreError.{CoreError}
 use Rattle.xet_base.specs.declared.error.CoreError.TheVariants.{OutOfMemory}
 use Rattle.xet_base.specs.Errors.{IsWriteError}
 use Rattle.xet_base.specs.InputLaws.{ReadsBytes-nil, ReadsBytes-trans, source_fails_later}
-use Rattle.xet_base.specs.Source.{Source, ReadsBytes}
-use Rattle.xet_base.specs.Table.{NoFailure}
+use Rattle.xet_base.specs.Source.{Source, ReadsBytes, NoFailure}
 use Rattle.xet_records.specs.declared.file_structs.header.FileDataSequenceHeader.{FileDataSequenceHeader}
 use Rattle.xet_records.specs.declared.file_structs.rows.FileDataSequenceEntry.{FileDataSequenceEntry}
 use Rattle.xet_records.specs.declared.file_structs.MDBFileInfo.{MDBFileInfo}

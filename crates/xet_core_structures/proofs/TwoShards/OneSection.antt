@@ -7,12 +7,11 @@ use Rattle.std.proofs.lemmas.Option.{same_Some, none-some}
 use Rattle.xet_base.specs.declared.error.CoreError.{CoreError}
 use Rattle.xet_base.specs.declared.error.CoreError.TheVariants.{InvalidShard}
 use Rattle.xet_base.specs.declared.merklehash.DataHash.{DataHash}
-use Rattle.xet_base.specs.Errors.{IsInvalidShard}
+use Rattle.xet_base.specs.Errors.{IsInvalidShard, IsBareInvalidShard}
 use Rattle.xet_base.specs.Hash.{hash_cmp}
 use Rattle.xet_base.specs.InputLaws.{ReadsBytes-nil, ReadsBytes-trans, failed_after}
-use Rattle.xet_base.specs.Source.{Source, ReadsBytes, ReadFails, bytes_left}
+use Rattle.xet_base.specs.Source.{Source, ReadsBytes, ReadFails, bytes_left, NoFailure}
 use Rattle.xet_base.specs.Source.ReadCase.{out_of_memory, out_of_bytes}
-use Rattle.xet_base.specs.Table.{NoFailure, IsBareInvalidShard}
 use Rattle.xet_base.proofs.Reading.{ReadsBytes-consumes}
 use Rattle.xet_records.specs.declared.record_reader.FormatVersion.{FormatVersion}
 use Rattle.xet_records.specs.RecordKind.{RecordKind, in_version, KindLaws}

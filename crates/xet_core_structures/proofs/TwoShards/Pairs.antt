@@ -6,8 +6,7 @@ use Rattle.std.specs.Io.KnownBytes.{Appends}
 use Rattle.std.proofs.KnownBytes.{Appends-nil}
 use Rattle.std.proofs.lemmas.Option.{same_Some, none-some}
 use Rattle.xet_base.specs.declared.error.CoreError.{CoreError}
-use Rattle.xet_base.specs.Source.{Source, ReadsBytes, ReadFails}
-use Rattle.xet_base.specs.Table.{NoFailure}
+use Rattle.xet_base.specs.Source.{Source, ReadsBytes, ReadFails, NoFailure}
 use Rattle.xet_records.specs.declared.row_copier.CopyFailure.{CopyFailure}
 use Rattle.xet_records.specs.declared.row_copier.CopyFailure.TheVariants.{Input, Output}
 use Rattle.xet_records.specs.Copying.{CopyFails}

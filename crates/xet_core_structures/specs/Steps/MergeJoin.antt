@@ -9,8 +9,7 @@ use Rattle.xet_base.specs.declared.error.CoreError.TheVariants.{OutOfMemory}
 use Rattle.xet_base.specs.declared.merklehash.DataHash.{DataHash}
 use Rattle.xet_base.specs.Errors.{IsWriteError, IsEndOfInput, IsInvalidShard}
 use Rattle.xet_base.specs.Hash.{all_ones, hash_cmp}
-use Rattle.xet_base.specs.Source.{Source, ReadsBytes, FailedBy, ReadFails, bytes_left}
-use Rattle.xet_base.specs.Table.{NoFailure}
+use Rattle.xet_base.specs.Source.{Source, ReadsBytes, FailedBy, ReadFails, bytes_left, NoFailure}
 use Rattle.xet_records.specs.declared.row_copier.CopyFailure.{CopyFailure}
 use Rattle.xet_records.specs.declared.row_copier.CopyFailure.TheVariants.{Input, Output}
 use Rattle.xet_records.specs.declared.record_reader.FormatVersion.{FormatVersion}

@@ -3,7 +3,7 @@ use Rattle.std.specs.Prelude.{◌≡◌, ◌⊎◌, IfOk, OnOk, MatchResult}
 use Rattle.std.specs.declared.result.Result.{Result}
 use Rattle.xet_base.specs.declared.error.CoreError.{CoreError}
 use Rattle.xet_base.specs.Errors.{CoreResult, IsWriteError}
-use Rattle.xet_base.specs.Table.{NoFailure}
+use Rattle.xet_base.specs.Source.{NoFailure}
 use Rattle.xet_shards.specs.declared.shard_format.ends.info.MDBShardInfo.{MDBShardInfo}
 use Rattle.xet_shards.specs.Ends.Ends.{FitsFooter}
 use Rattle.xet_shards.specs.Content.SetOperations.{IsDifference}

@@ -10,7 +10,7 @@ use Rattle.xet_base.specs.Hash.{hash_eq}
 use Rattle.xet_base.specs.InputLaws.{ReadsBytes-nil, ReadsBytes-trans}
 use Rattle.xet_base.specs.KeyedHash.{under_key}
 use Rattle.xet_base.specs.Source.{Source, ReadsBytes, bytes_left}
-use Rattle.xet_base.specs.Table.{IsBareInvalidShard}
+use Rattle.xet_base.specs.Errors.{IsBareInvalidShard}
 use Rattle.xet_base.proofs.Lists.{front_is}
 use Rattle.xet_base.proofs.Reading.{ReadsBytes-consumes, lacks_left}
 use Rattle.xet_records.specs.declared.xorb_structs.XorbChunkSequenceEntry.{XorbChunkSequenceEntry}

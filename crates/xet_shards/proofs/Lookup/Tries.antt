@@ -6,11 +6,11 @@ use Rattle.std.proofs.lemmas.Option.{none-some, same_Some}
 use Rattle.std.proofs.lemmas.List.{map-append, length-map, take_more, take_all, take-map}
 use Rattle.std.proofs.lemmas.List.Elements.{All-push, Contains-get_or}
 use Rattle.xet_base.specs.declared.error.CoreError.{CoreError}
-use Rattle.xet_base.specs.Errors.{CoreResult}
+use Rattle.xet_base.specs.Errors.{CoreResult, IsBareInvalidShard}
 use Rattle.xet_base.specs.declared.error.CoreError.TheVariants.{InvalidShard}
 use Rattle.xet_base.specs.declared.merklehash.DataHash.{DataHash}
-use Rattle.xet_base.specs.Source.{Source}
-use Rattle.xet_base.specs.Table.{Table, Hit, Finds, NoFailure, IsBareInvalidShard}
+use Rattle.xet_base.specs.Source.{Source, NoFailure}
+use Rattle.xet_shards.specs.Search.Table.{Table, Hit, Finds}
 use Rattle.xet_base.proofs.Lists.{front_is}
 use Rattle.xet_records.specs.XorbRecord.{xorb_records}
 use Rattle.xet_records.proofs.RecordKinds.{xorb_laws}

@@ -7,9 +7,9 @@ use Rattle.xet_base.specs.declared.error.CoreError.{CoreError}
 use Rattle.xet_base.specs.declared.error.CoreError.TheVariants.{InternalError, OutOfMemory, TruncatedHashCollision}
 use Rattle.xet_base.specs.declared.merklehash.DataHash.{DataHash}
 use Rattle.xet_base.specs.Bytes.{u32_bytes}
-use Rattle.xet_base.specs.Errors.{CoreResult}
-use Rattle.xet_base.specs.Source.{Source, DeviceFailure}
-use Rattle.xet_base.specs.Table.{Table, table_at, Hit, IsHit, OtherRow, IsSorted, hits, Finds, FitsTable, NoFailure, Bounded, IsEven, SearchRefused, IsBareInvalidShard}
+use Rattle.xet_base.specs.Errors.{CoreResult, IsBareInvalidShard}
+use Rattle.xet_base.specs.Source.{Source, DeviceFailure, NoFailure}
+use Rattle.xet_shards.specs.Search.Table.{Table, table_at, Hit, IsHit, OtherRow, IsSorted, hits, Finds, FitsTable, Bounded, IsEven, SearchRefused}
 use Rattle.xet_records.specs.declared.file_structs.MDBFileInfo.{MDBFileInfo}
 use Rattle.xet_records.specs.RecordKind.{RecordKind}
 use Rattle.xet_records.specs.FileRecord.{file_records}

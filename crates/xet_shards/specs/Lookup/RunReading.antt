@@ -3,10 +3,10 @@
 use Rattle.std.specs.Prelude.{◌≡◌, ◌≢◌, ◌⊎◌, ℕ, ◌+◌, ◌-◌, ◌^◌, ◌<◌, ◌≤◌, min, List, [], ◌∷◌, ◌++◌, length, take, drop, map, flat_map, All, AllPairs, Contains, Option, None, Some, MatchResult}
 use Rattle.xet_base.specs.declared.error.CoreError.{CoreError}
 use Rattle.xet_base.specs.declared.merklehash.DataHash.{DataHash}
-use Rattle.xet_base.specs.Errors.{CoreResult, IsEndOfInput}
+use Rattle.xet_base.specs.Errors.{CoreResult, IsEndOfInput, IsBareInvalidShard}
 use Rattle.xet_base.specs.KeyedHash.{under_key}
-use Rattle.xet_base.specs.Source.{Source, DeviceFailure}
-use Rattle.xet_base.specs.Table.{Hit, IsHit, OtherRow, IsSorted, hits, FitsTable, NoFailure, Bounded, SearchRefused, IsBareInvalidShard}
+use Rattle.xet_base.specs.Source.{Source, DeviceFailure, NoFailure}
+use Rattle.xet_shards.specs.Search.Table.{Hit, IsHit, OtherRow, IsSorted, hits, FitsTable, Bounded, SearchRefused}
 use Rattle.xet_records.specs.declared.xorb_structs.XorbChunkSequenceEntry.{XorbChunkSequenceEntry}
 use Rattle.xet_records.specs.declared.xorb_structs.XorbChunkSequenceHeader.{XorbChunkSequenceHeader}
 use Rattle.xet_records.specs.Reading.{BeginsWithHeader}

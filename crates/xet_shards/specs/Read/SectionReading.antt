@@ -3,9 +3,8 @@
 use Rattle.std.specs.Prelude.{◌≡◌, ◌⊎◌, ℕ, ◌+◌, ◌-◌, ◌*◌, ◌≤◌, List, ◌++◌, map, flat_map, sum_by, All, MatchResult}
 use Rattle.std.specs.declared.vec.Vec.{Vec}
 use Rattle.xet_base.specs.declared.error.CoreError.{CoreError}
-use Rattle.xet_base.specs.Errors.{CoreResult}
+use Rattle.xet_base.specs.Errors.{CoreResult, IsBareInvalidShard}
 use Rattle.xet_base.specs.Source.{Source, FailedBy, ReadCase, after_read, after_seek, bytes_left}
-use Rattle.xet_base.specs.Table.{IsBareInvalidShard}
 use Rattle.xet_records.specs.declared.file_structs.MDBFileInfo.{MDBFileInfo}
 use Rattle.xet_records.specs.declared.xorb_structs.MDBXorbInfo.{MDBXorbInfo}
 use Rattle.xet_records.specs.RecordKind.{RecordKind}

@@ -3,7 +3,7 @@ use Rattle.std.specs.Prelude.{◌≡◌, ◌⊎◌, ℕ, ◌+◌, ◌*◌, ◌^�
 use Rattle.xet_base.specs.declared.error.CoreError.{CoreError}
 use Rattle.xet_base.specs.Bytes.{u32_bytes, u64_bytes}
 use Rattle.xet_base.specs.Source.{Source, FailedBy, ReadCase}
-use Rattle.xet_base.specs.Table.{IsBareInvalidShard}
+use Rattle.xet_base.specs.Errors.{IsBareInvalidShard}
 use Rattle.xet_shards.specs.Write.Tables.{ChunkTableRow}
 use Rattle.xet_records.specs.Limits.{MAX_ROWS}
 

@@ -1,8 +1,7 @@
 -- Steps towards what `Lookup` defines, which only contracts inside the crate speak of.
 use Rattle.std.specs.Prelude.{ℕ, List, None}
 use Rattle.xet_base.specs.declared.merklehash.DataHash.{DataHash}
-use Rattle.xet_base.specs.Source.{Source}
-use Rattle.xet_base.specs.Table.{NoFailure}
+use Rattle.xet_base.specs.Source.{Source, NoFailure}
 use Rattle.xet_records.specs.RecordKind.{RecordKind}
 use Rattle.xet_shards.specs.Lookup.Lookup.{LookupAnswer, Visits}
 

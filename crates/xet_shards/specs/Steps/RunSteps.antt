@@ -2,9 +2,8 @@
 use Rattle.std.specs.Prelude.{◌≡◌, ◌⊎◌, ℕ, ◌+◌, ◌*◌, ◌^◌, ◌<◌, ◌≤◌, List, length, take, drop, flat_map, All, Option}
 use Rattle.xet_base.specs.declared.error.CoreError.{CoreError}
 use Rattle.xet_base.specs.declared.merklehash.DataHash.{DataHash}
-use Rattle.xet_base.specs.Errors.{IsEndOfInput}
-use Rattle.xet_base.specs.Source.{Source, DeviceFailure, ReadsBytes, bytes_left, after_seek}
-use Rattle.xet_base.specs.Table.{NoFailure, IsBareInvalidShard}
+use Rattle.xet_base.specs.Errors.{IsEndOfInput, IsBareInvalidShard}
+use Rattle.xet_base.specs.Source.{Source, DeviceFailure, ReadsBytes, bytes_left, after_seek, NoFailure}
 use Rattle.xet_records.specs.declared.xorb_structs.XorbChunkSequenceEntry.{XorbChunkSequenceEntry}
 use Rattle.xet_records.specs.declared.xorb_structs.XorbChunkSequenceHeader.{XorbChunkSequenceHeader}
 use Rattle.xet_records.specs.XorbRow.{xorb_header_row, chunk_row, FitsXorbHeader, FitsChunk}

@@ -4,8 +4,7 @@ ghost use Rattle.std.specs.Prelude.{◌≡◌, ◌⊎◌, ℕ, Option, ◌+◌, 
 ghost use Rattle.std.specs.BTreeMap.{values};
 ghost use Rattle.std.specs.FinMap as finite;
 ghost use Rattle.std.specs.Io.KnownBytes.{Appends};
-ghost use Rattle.xet_base.specs.Errors.{IsWriteError};
-ghost use Rattle.xet_base.specs.Table.{IsBareInvalidShard};
+ghost use Rattle.xet_base.specs.Errors.{IsWriteError, IsBareInvalidShard};
 ghost use Rattle.xet_shards.specs.Content.Shard.{Shard, IsShard, has_aux_rows};
 ghost use Rattle.xet_shards.specs.Write.Layout.{layout, layout_in, layout_of, info_of, info_value, info_value_in, header_tag, shard_header_bytes, shard_footer_bytes};
 ghost use Rattle.xet_shards.specs.Write.WrittenShard.{IsBytesWithInfo, ReadsBack, ReadsOfShard};

@@ -11,8 +11,7 @@
 ghost use Rattle.std.specs.Prelude.{◌≡◌, ◌≢◌, ◌⊎◌, true, ℕ, List, [], All, Option, None, Ok, MatchResult, OnOk, IfOk, IfErr};
 ghost use Rattle.std.specs.FinMap as finite;
 ghost use Rattle.xet_base.specs.KeyedHash.{no_key};
-ghost use Rattle.xet_base.specs.Source.{DeviceFailure};
-ghost use Rattle.xet_base.specs.Table.{NoFailure};
+ghost use Rattle.xet_base.specs.Source.{DeviceFailure, NoFailure};
 ghost use Rattle.xet_records.specs.declared.file_structs.MDBFileInfo.{MDBFileInfo as File};
 ghost use Rattle.xet_records.specs.declared.xorb_structs.MDBXorbInfo.{MDBXorbInfo as Xorb};
 ghost use Rattle.xet_records.specs.XorbRecord.{xorb_records, IsXorb};

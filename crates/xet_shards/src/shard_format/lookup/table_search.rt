@@ -1,15 +1,15 @@
 //! Searching a lookup table for a first word.
 
 ghost use Rattle.std.specs.Prelude.{◌≡◌, ◌⊎◌, ℕ, List, ◌+◌, ◌<◌, ◌≤◌, length, min, MatchResult, OnOk, IfOk, IfErr};
-ghost use Rattle.xet_base.specs.Source.{FillFails, next_bytes};
-ghost use Rattle.xet_base.specs.Table.{table_at, Finds, FitsTable, SearchRefused, hits, IsSorted, NoFailure, Bounded, IsEven, ReadsCount};
+ghost use Rattle.xet_base.specs.Source.{FillFails, next_bytes, NoFailure};
+ghost use Rattle.xet_shards.specs.Search.Table.{table_at, Finds, FitsTable, SearchRefused, hits, IsSorted, Bounded, IsEven, ReadsCount};
 ghost use Rattle.xet_shards.specs.Lookup.Lookup.{IsRowNumber, IsRowAndIndex, Searches, LooksUpIndex};
 
+use crate::interpolation_search::search_on_sorted_u64s;
 use std::alloc::Global;
 use std::io;
 use xet_base::error::{CoreError, Result};
 use xet_base::fields::split_u32;
-use xet_base::interpolation_search::search_on_sorted_u64s;
 use xet_base::source::{ShardSource, read_full};
 
 /// What a row of a lookup table has behind its first word.
