@@ -207,11 +207,10 @@ impl MDBFileInfo {
     }
 
     // Whether only `other` has a part.
-    #[tactic(auto, using(crate::proofs::PartSets::in_set))]
     fn takes(&self, other: &Self, part: OptionalPart) -> bool
         ensures { result ≡ (has_part other.now part && not (has_part self.now part)) }
     {
-        self.metadata.gained_parts(&other.metadata).contains(part)
+        other.metadata.contains(part) && !self.metadata.contains(part)
     }
 
     /// Whether the header announces each optional part that the header of `other` announces.

@@ -247,7 +247,7 @@ impl FileDataSequenceHeader {
     }
 
     // The parts that only `other` announces.
-    pub(super) fn gained_parts(&self, other: &Self) -> Parts
+    fn gained_parts(&self, other: &Self) -> Parts
         ensures { result ≡ flags_of
             (λ part. announces other.now.file_flags part
             && not (announces self.now.file_flags part)) }
