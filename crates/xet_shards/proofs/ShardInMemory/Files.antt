@@ -1,5 +1,5 @@
 -- Sums over files, and the rows of a map of them.
-use Rattle.std.proofs.Common.{ℕ, ◌*◌, ◌≤◌, List, [], ◌∷◌, map, length, arith}
+use Rattle.std.proofs.Common.{◌≡◌, refl, ℕ, ◌+◌, ◌*◌, ◌≤◌, List, [], ◌∷◌, map, length, arith}
 use Rattle.std.specs.Prelude.{All, sum_by}
 use Rattle.std.proofs.lemmas.List.Sums.{sum_by-cons, sum_by-le}
 use Rattle.std.proofs.lemmas.List.Elements.{All-drop, All-map}
@@ -7,7 +7,8 @@ use Rattle.xet_base.specs.declared.merklehash.DataHash.{DataHash}
 use Rattle.xet_records.specs.declared.file_structs.rows.FileDataSequenceEntry.{FileDataSequenceEntry}
 use Rattle.xet_records.specs.declared.file_structs.MDBFileInfo.{MDBFileInfo}
 use Rattle.xet_records.specs.FileRow.{FitsSegment}
-use Rattle.xet_records.specs.FileRecord.{file_records, row_count, size_of_file, FitsRecord, IsWellFormed}
+use Rattle.xet_records.specs.FileRecord.{file_records, row_count, rows_after, size_of_file, FitsRecord, IsWellFormed}
+use Rattle.xet_records.proofs.Record.{rows_whole}
 use Rattle.xet_shards.specs.Write.Section.{total_rows}
 use Rattle.xet_shards.specs.Content.Shard.{AreFiles}
 
@@ -21,6 +22,18 @@ pub sum_bound : {R : Type 0} (P : R → Type 0) (f g : R → ℕ) → ((r : R) �
 sum_bound P f g small [] all = omega arith
 sum_bound P f g small (r ∷ rs) all =
     omega (arith, sum_by-cons f r rs, sum_by-cons g r rs, small r (all 0 r (omega arith)), sum_bound P f g small rs (All-drop P 1 (r ∷ rs) all))
+
+-- headers count the rows of files
+pub header_rows : (rs : List MDBFileInfo) → All IsWellFormed rs → sum_by (λ r. 1 + rows_after r.metadata) rs ≡ total_rows file_records rs
+header_rows [] all = refl
+header_rows (r ∷ rs) all =
+    omega (
+      arith,
+      sum_by-cons (λ (r : MDBFileInfo). 1 + rows_after r.metadata) r rs,
+      sum_by-cons row_count r rs,
+      rows_whole r (all 0 r (omega arith)).whole,
+      header_rows rs (All-drop IsWellFormed 1 (r ∷ rs) all),
+    )
 
 -- no file has more bytes than its rows allow
 pub files_bound : (rs : List MDBFileInfo) → All (λ r. FitsRecord r) rs → sum_by size_of_file rs ≤ 4294967295 * total_rows file_records rs

@@ -23,11 +23,10 @@ pub fn file_rows(files: &BTreeMap<MerkleHash, MDBFileInfo>) -> u64
     requires rows { total_rows file_records (values files.now) ≤ MAX_ROWS }
     ensures { result ≡ total_rows file_records (values files.now) }
 {
-    let mut rows = 0;
-    for file_info in files.values() {
-        rows += 1 + file_info.metadata.rows_after();
-    }
-    rows
+    files
+        .values()
+        .map(|file_info| 1 + file_info.metadata.rows_after())
+        .sum()
 }
 
 /// Whether a file has an auxiliary row.
@@ -43,11 +42,10 @@ pub fn xorb_rows(xorbs: &BTreeMap<MerkleHash, Rc<MDBXorbInfo>>) -> u64
     requires rows { total_rows xorb_records (xorbs_of xorbs.now.entries) ≤ MAX_ROWS }
     ensures { result ≡ total_rows xorb_records (xorbs_of xorbs.now.entries) }
 {
-    let mut rows = 0;
-    for xorb in xorbs.values() {
-        rows += 1 + xorb.chunks.len() as u64;
-    }
-    rows
+    xorbs
+        .values()
+        .map(|xorb| 1 + xorb.chunks.as_slice().len() as u64)
+        .sum()
 }
 
 /// The size of files, in bytes. Their rows fit `u32`, so the sum fits `u64`.
@@ -69,11 +67,10 @@ pub fn stored_bytes_on_disk(xorbs: &BTreeMap<MerkleHash, Rc<MDBXorbInfo>>) -> u6
     requires rows { total_rows xorb_records (xorbs_of xorbs.now.entries) ≤ MAX_ROWS }
     ensures { result ≡ sum_by (λ x. x.metadata.num_bytes_on_disk) (xorbs_of xorbs.now.entries) }
 {
-    let mut bytes = 0;
-    for xorb in xorbs.values() {
-        bytes += u64::from(xorb.metadata.num_bytes_on_disk);
-    }
-    bytes
+    xorbs
+        .values()
+        .map(|xorb| u64::from(xorb.metadata.num_bytes_on_disk))
+        .sum()
 }
 
 /// The unpacked size of xorbs, in bytes. Their rows fit `u32`, so the sum fits `u64`.
@@ -82,9 +79,8 @@ pub fn stored_bytes(xorbs: &BTreeMap<MerkleHash, Rc<MDBXorbInfo>>) -> u64
     requires rows { total_rows xorb_records (xorbs_of xorbs.now.entries) ≤ MAX_ROWS }
     ensures { result ≡ sum_by (λ x. x.metadata.num_bytes_in_xorb) (xorbs_of xorbs.now.entries) }
 {
-    let mut bytes = 0;
-    for xorb in xorbs.values() {
-        bytes += u64::from(xorb.metadata.num_bytes_in_xorb);
-    }
-    bytes
+    xorbs
+        .values()
+        .map(|xorb| u64::from(xorb.metadata.num_bytes_in_xorb))
+        .sum()
 }

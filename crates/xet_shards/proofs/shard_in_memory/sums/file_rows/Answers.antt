@@ -1,26 +1,18 @@
-use Rattle.std.proofs.Common.{map, ap, ◌∙◌, arith}
-use Rattle.std.proofs.lemmas.List.{map_push}
-use Rattle.std.proofs.lemmas.List.Sums.{sum_by_push}
-use Rattle.std.specs.Map.Iter.{deref}
-use Rattle.xet_records.specs.FileRecord.{file_records, row_count, IsWellFormed}
-use Rattle.xet_records.proofs.Record.{rows_whole}
-use Rattle.xet_shards.specs.Write.Section.{total_rows}
-use Rattle.xet_shards.proofs.ShardInMemory.Files.{well_formed_values}
-use Rattle.xet_shards.proofs.ShardInMemory.Walks.{entry_turn, entry_turned, entry_holds}
+use Rattle.std.proofs.Common.{rules, tests, ◌+◌, ◌∙◌, arith}
+use Rattle.std.specs.BTreeMap.{values}
+use Rattle.std.proofs.lemmas.Iterator.{YieldsList-from_map}
+use Rattle.std.proofs.lemmas.Iterator.Consumers.{YieldsList-at, YieldsList-from_rest, sum_by_from_yields_List, fits_by_from_yields_list}
+use Rattle.xet_records.specs.declared.file_structs.MDBFileInfo.{MDBFileInfo}
+use Rattle.xet_records.specs.FileRecord.{rows_after}
+use Rattle.xet_shards.proofs.ShardInMemory.Files.{header_rows, well_formed_values}
 use Rattle.xet_shards.proofs.shard_in_memory.sums.file_rows.Goals as goal
 
-pub loop-file_info-preserved : goal.loop-file_info-preserved
-loop-file_info-preserved c =
-    let file = c.in-Some.file_info.now in
-    let whole = entry_turn deref _ c.loop-file_info.yielded _ _ _ c.in-Some.file_info c.loop-file_info.invariant.all c.in-Some.is c.next.ensures.steps in
-    let well = entry_holds IsWellFormed _ _ _ _ whole (well_formed_values _ c.requires.files) in
-    record {
-      can = tt;
-      finite = tt;
-      all = entry_turned deref _ c.loop-file_info.yielded _ c.in-Some.file_info whole;
-      rows = omega (
-        arith,
-        ap (λ rs. total_rows file_records rs) (map_push deref c.loop-file_info.yielded c.in-Some.file_info) ∙ sum_by_push row_count (map deref c.loop-file_info.yielded) file,
-        rows_whole file well.whole,
-      );
-    }
+pub sum-requires-clause-fits : goal.sum-requires-clause-fits
+sum-requires-clause-fits c = fits_by_from_yields_list _ _ c.map.result _
+    (YieldsList-from_map _ (λ (r : MDBFileInfo). 1 + rows_after r.metadata) (YieldsList-at c.map.ensures.source (YieldsList-from_rest (values c.args.files.now) c.values.ensures.rest)) c.map.ensures.closure (λ x r q k. search (rules, tests)))
+    (omega (arith, c.requires.rows, header_rows _ (well_formed_values _ c.requires.files)))
+
+pub returns : goal.returns
+returns c = sum_by_from_yields_List _ _ c.map.result _ c.sum.ensures.ran
+    (YieldsList-from_map _ (λ (r : MDBFileInfo). 1 + rows_after r.metadata) (YieldsList-at c.map.ensures.source (YieldsList-from_rest (values c.args.files.now) c.values.ensures.rest)) c.map.ensures.closure (λ x r q k. search (rules, tests)))
+    ∙ header_rows _ (well_formed_values _ c.requires.files)

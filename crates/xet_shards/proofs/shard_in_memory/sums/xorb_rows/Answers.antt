@@ -1,25 +1,19 @@
-use Rattle.std.proofs.Common.{length, ap, arith}
-use Rattle.std.proofs.Math.Facts.{Fits-of_lt}
+use Rattle.std.proofs.Common.{rules, tests, length, ◌+◌, ◌∙◌, arith}
+use Rattle.std.specs.Map.{values_of}
+use Rattle.std.specs.declared.rc.Rc.{Rc}
+use Rattle.std.proofs.lemmas.Iterator.{YieldsList-from_map}
+use Rattle.std.proofs.lemmas.Iterator.Consumers.{YieldsList-at, YieldsList-from_rest, sum_by_from_yields_List, fits_by_from_yields_list}
 use Rattle.xet_records.specs.declared.xorb_structs.MDBXorbInfo.{MDBXorbInfo}
-use Rattle.xet_records.specs.XorbRecord.{xorb_records, xorb_row_count, IsXorb}
-use Rattle.xet_shards.specs.Write.Section.{total_rows}
-use Rattle.xet_shards.proofs.ShardInMemory.Walks.{entry_holds, sum-middle}
-use Rattle.xet_shards.proofs.ShardInMemory.Xorbs.{owned_xorbs, seen_xorbs, seen_turn, xorb_values}
+use Rattle.xet_records.specs.XorbRecord.{xorb_row_count}
+use Rattle.xet_shards.proofs.ShardInMemory.Xorbs.{sum_owned}
 use Rattle.xet_shards.proofs.shard_in_memory.sums.xorb_rows.Goals as goal
 
-pub overflow_add-rows : goal.overflow_add-rows
-overflow_add-rows c =
-    let whole = seen_turn _ c.loop-xorb.yielded _ _ _ c.in-Some.xorb c.loop-xorb.invariant.all c.in-Some.is c.next.ensures.steps in
-    let xorb = entry_holds IsXorb _ _ _ _ whole (xorb_values _ c.requires.xorbs) in
-    Fits-of_lt (omega (arith, xorb.rows, ap (λ (r : MDBXorbInfo). length r.chunks) c.deref.ensures))
+pub sum-requires-clause-fits : goal.sum-requires-clause-fits
+sum-requires-clause-fits c = fits_by_from_yields_list _ _ c.map.result _
+    (YieldsList-from_map _ (λ (o : Rc MDBXorbInfo _). 1 + length o.value.chunks) (YieldsList-at c.map.ensures.source (YieldsList-from_rest (values_of c.args.xorbs.now.entries) c.values.ensures.rest)) c.map.ensures.closure (λ x r q k. search (rules, tests)))
+    (omega (arith, c.requires.rows, sum_owned xorb_row_count c.args.xorbs.now.entries))
 
-pub overflow_add-rows-in-loop-xorb : goal.overflow_add-rows-in-loop-xorb
-overflow_add-rows-in-loop-xorb c =
-    let xorb = c.in-Some.xorb.now.value in
-    let whole = seen_turn _ c.loop-xorb.yielded _ _ _ c.in-Some.xorb c.loop-xorb.invariant.all c.in-Some.is c.next.ensures.steps in
-    Fits-of_lt (omega (
-      arith,
-      ap (λ rs. total_rows xorb_records rs) whole,
-      sum-middle xorb_row_count (seen_xorbs c.loop-xorb.yielded) (owned_xorbs c.next.new.self) xorb,
-      ap (λ (r : MDBXorbInfo). length r.chunks) c.deref.ensures,
-    ))
+pub returns : goal.returns
+returns c = sum_by_from_yields_List _ _ c.map.result _ c.sum.ensures.ran
+    (YieldsList-from_map _ (λ (o : Rc MDBXorbInfo _). 1 + length o.value.chunks) (YieldsList-at c.map.ensures.source (YieldsList-from_rest (values_of c.args.xorbs.now.entries) c.values.ensures.rest)) c.map.ensures.closure (λ x r q k. search (rules, tests)))
+    ∙ sum_owned xorb_row_count c.args.xorbs.now.entries
