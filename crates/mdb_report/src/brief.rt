@@ -192,18 +192,16 @@ impl fmt::Display for Brief<'_> {
         let expires = &self.expires;
         write!(
             f,
-            "{shard}: version {version}, {bytes} bytes{counts}, stored {stored}, materialized {materialized}"
+            "{shard}: version {version}, {bytes} bytes{counts}, stored {stored}, \
+            materialized {materialized}, expires {expires}"
         )?;
-        write!(f, ", expires {expires}")?;
-        match self.key {
-            Some(key) => write!(f, ", key {key}")?,
-            None => {}
+        if let Some(key) = self.key {
+            write!(f, ", key {key}")?;
         }
-        if self.ascends {
-            Ok(())
-        } else {
-            write!(f, ", offsets do not ascend within the file")
+        if !self.ascends {
+            f.write_str(", offsets do not ascend within the file")?;
         }
+        Ok(())
     }
 }
 

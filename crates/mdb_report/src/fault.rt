@@ -131,7 +131,7 @@ impl fmt::Display for Fault {
                 write!(f, "line {line}: no shard may have this record")
             }
             Fault::Other(error) => write!(f, "{error}"),
-            fault => write!(f, "{}", fault.text()),
+            fault => f.write_str(fault.text()),
         }
     }
 }

@@ -264,7 +264,7 @@ impl fmt::Display for FileFinding {
     fn fmt<W: fmt::Write>(&self, f: &mut fmt::Formatter<W>) -> fmt::Result {
         match *self {
             FileFinding::Bytes(finding) => write!(f, "{}", InWords(finding)),
-            FileFinding::Name => write!(f, "its name is not 64 hexadecimal digits and .mdb"),
+            FileFinding::Name => f.write_str("its name is not 64 hexadecimal digits and .mdb"),
             FileFinding::Hash(hash) => write!(
                 f,
                 "its bytes have the hash {hash}, and its name another"
@@ -289,18 +289,15 @@ impl fmt::Display for InWords {
     fn fmt<W: fmt::Write>(&self, f: &mut fmt::Formatter<W>) -> fmt::Result {
         match self.0 {
             Finding::Unsupported(Format::NoTag) => {
-                write!(f, "no shard: its first 32 bytes are no tag")
+                f.write_str("no shard: its first 32 bytes are no tag")
             }
             Finding::Unsupported(Format::OtherVersion(version)) => {
                 write!(f, "version {version}: this program reads 2 and 3")
             }
             Finding::Unsupported(Format::NoFooter) => {
-                write!(
-                    f,
-                    "its last 200 bytes are no footer: it was cut or lengthened"
-                )
+                f.write_str("its last 200 bytes are no footer: it was cut or lengthened")
             }
-            Finding::TooShort => write!(f, "it is too short for a header and a footer"),
+            Finding::TooShort => f.write_str("it is too short for a header and a footer"),
             Finding::Cut(section) => {
                 let section = section_name(section);
                 write!(f, "{section} ends before its bookend")
@@ -326,17 +323,15 @@ impl fmt::Display for InWords {
                     "{section} has a record that no shard may have, record {record}"
                 )
             }
-            Finding::Differs(Part::Header) => write!(
-                f,
-                "the header has another footer size than 200"
-            ),
+            Finding::Differs(Part::Header) => {
+                f.write_str("the header has another footer size than 200")
+            }
             Finding::Differs(part) => {
                 let part = part_name(part);
                 write!(f, "{part} does not match the records")
             }
-            Finding::Reordered => write!(
-                f,
-                "the chunk table has rows with one first word in another order: nothing is lost"
+            Finding::Reordered => f.write_str(
+                "the chunk table has rows with one first word in another order: nothing is lost",
             ),
             Finding::Size(bytes) => write!(f, "it should have {bytes} bytes, by its records"),
         }

@@ -228,7 +228,7 @@ impl fmt::Display for RunReport {
     fn fmt<W: fmt::Write>(&self, f: &mut fmt::Formatter<W>) -> fmt::Result {
         match self.run {
             Some(Run { chunks, segment }) => write!(f, "run {chunks} {segment}"),
-            None => write!(f, "none"),
+            None => f.write_str("none"),
         }
     }
 }

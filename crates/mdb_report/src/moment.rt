@@ -120,8 +120,8 @@ impl fmt::Display for Moment {
         let seconds = self.seconds;
         match &self.utc {
             Some(utc) => write!(f, "{utc} ({seconds})"),
-            None if seconds == 0 => write!(f, "not set"),
-            None if seconds == u64::MAX => write!(f, "none"),
+            None if seconds == 0 => f.write_str("not set"),
+            None if seconds == u64::MAX => f.write_str("none"),
             None => write!(f, "after the year 9999 ({seconds})"),
         }
     }

@@ -80,7 +80,7 @@ impl From<serde_json::Error> for LineFault {
 impl fmt::Display for LineFault {
     fn fmt<W: fmt::Write>(&self, f: &mut fmt::Formatter<W>) -> fmt::Result {
         match self {
-            LineFault::OutOfMemory => write!(f, "out of memory"),
+            LineFault::OutOfMemory => f.write_str("out of memory"),
             LineFault::Syntax(column) => write!(f, "it is no JSON, at column {column}"),
             LineFault::Member(column) => {
                 write!(
@@ -88,9 +88,11 @@ impl fmt::Display for LineFault {
                     "a member lacks or is of another kind, at column {column}"
                 )
             }
-            LineFault::NoRecord => write!(f, "it has neither a member file nor a member xorb"),
-            LineFault::NoRows => write!(f, "it has no member rows, as --long prints it"),
-            LineFault::Mismatch => write!(f, "its numbers or its flags are not those of its rows"),
+            LineFault::NoRecord => f.write_str("it has neither a member file nor a member xorb"),
+            LineFault::NoRows => f.write_str("it has no member rows, as --long prints it"),
+            LineFault::Mismatch => f.write_str(
+                "its numbers or its flags are not those of its rows",
+            ),
         }
     }
 }

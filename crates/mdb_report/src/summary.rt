@@ -95,31 +95,34 @@ impl fmt::Display for Summary<'_> {
         let shard = ShownText(self.shard);
         let version = self.version;
         let bytes = self.bytes;
-        writeln!(f, "{shard}: version {version}, {bytes} bytes")?;
-        write!(f, "{}", PartLines(&self.parts))?;
+        let parts = PartLines(&self.parts);
+        write!(f, "{shard}: version {version}, {bytes} bytes{parts}")?;
         if !self.ascends {
-            writeln!(f, "  offsets      do not ascend within the file")?;
+            f.write_str("\n  offsets      do not ascend within the file")?;
         }
         match self.key {
-            Some(key) => writeln!(f, "  key          {key}")?,
-            None => writeln!(f, "  key          none")?,
+            Some(key) => write!(f, "\n  key          {key}")?,
+            None => f.write_str("\n  key          none")?,
         }
         let created = &self.created;
-        writeln!(f, "  created      {created}")?;
         let expires = &self.expires;
-        writeln!(f, "  expires      {expires}")?;
         let stored = self.stored_bytes;
         let on_disk = self.stored_bytes_on_disk;
-        writeln!(f, "  stored       {stored} bytes, {on_disk} on disk")?;
         let materialized = self.materialized_bytes;
-        writeln!(f, "  materialized {materialized} bytes")?;
         let bar = &self.bar;
-        writeln!(f, "  {bar}")?;
-        write!(f, "  {LEGEND}")
+        write!(
+            f,
+            "\n  created      {created}\
+             \n  expires      {expires}\
+             \n  stored       {stored} bytes, {on_disk} on disk\
+             \n  materialized {materialized} bytes\
+             \n  {bar}\
+             \n  {LEGEND}"
+        )
     }
 }
 
-// A line for each part.
+// A line for each part, behind another line.
 #[derive(Drop)]
 struct PartLines<'a>(&'a Parts);
 
@@ -134,12 +137,15 @@ impl fmt::Display for PartLines<'_> {
             chunk_table,
             footer,
         } = *self.0;
-        writeln!(f, "  header       {header}")?;
-        writeln!(f, "  files        {files}")?;
-        writeln!(f, "  xorbs        {xorbs}")?;
-        writeln!(f, "  file table   {file_table}")?;
-        writeln!(f, "  xorb table   {xorb_table}")?;
-        writeln!(f, "  chunk table  {chunk_table}")?;
-        writeln!(f, "  footer       {footer}")
+        write!(
+            f,
+            "\n  header       {header}\
+             \n  files        {files}\
+             \n  xorbs        {xorbs}\
+             \n  file table   {file_table}\
+             \n  xorb table   {xorb_table}\
+             \n  chunk table  {chunk_table}\
+             \n  footer       {footer}"
+        )
     }
 }

@@ -23,11 +23,11 @@ pub enum Table {
 
 impl fmt::Display for Table {
     fn fmt<W: fmt::Write>(&self, f: &mut fmt::Formatter<W>) -> fmt::Result {
-        match self {
-            Table::Files => write!(f, "file table"),
-            Table::Xorbs => write!(f, "xorb table"),
-            Table::Chunks => write!(f, "chunk table"),
-        }
+        f.write_str(match self {
+            Table::Files => "file table",
+            Table::Xorbs => "xorb table",
+            Table::Chunks => "chunk table",
+        })
     }
 }
 

@@ -167,7 +167,7 @@ impl fmt::Display for Unfit {
         let xorb = self.0.xorb;
         write!(f, "xorb {xorb}: ")?;
         match self.0.fault {
-            Fault::Unnamed => write!(f, "no file names it"),
+            Fault::Unnamed => f.write_str("no file names it"),
             Fault::Total { said, sum } => {
                 write!(f, "it says {said} bytes, and its chunks have {sum}")
             }
@@ -178,29 +178,34 @@ impl fmt::Display for Unfit {
                 )
             }
             Fault::Lacking(segment) => {
-                write!(f, "it is missing, and ")?;
-                write_segment(f, &segment)?;
-                write!(f, " names it")
+                write!(f, "it is missing, and {} names it", SegmentName(segment))
             }
             Fault::Outside(segment, chunks) => {
-                write!(f, "it has {chunks} chunks, and ")?;
-                write_segment(f, &segment)?;
+                let name = SegmentName(segment);
                 let (start, end) = (segment.start, segment.end);
-                write!(f, " names {start}..{end}")
+                write!(f, "it has {chunks} chunks, and {name} names {start}..{end}")
             }
             Fault::Bytes(segment, sum) => {
+                let name = SegmentName(segment);
                 let (start, end) = (segment.start, segment.end);
-                write!(f, "its chunks {start}..{end} have {sum} bytes, and ")?;
-                write_segment(f, &segment)?;
                 let bytes = segment.bytes;
-                write!(f, " says {bytes}")
+                write!(
+                    f,
+                    "its chunks {start}..{end} have {sum} bytes, and {name} says {bytes}"
+                )
             }
         }
     }
 }
 
-fn write_segment<W: fmt::Write>(f: &mut fmt::Formatter<W>, segment: &Segment) -> fmt::Result {
-    let index = segment.index;
-    let file = segment.file;
-    write!(f, "segment {index} of file {file}")
+// A segment by its place in its file.
+#[derive(Clone, Copy)]
+struct SegmentName(Segment);
+
+impl fmt::Display for SegmentName {
+    fn fmt<W: fmt::Write>(&self, f: &mut fmt::Formatter<W>) -> fmt::Result {
+        let index = self.0.index;
+        let file = self.0.file;
+        write!(f, "segment {index} of file {file}")
+    }
 }
