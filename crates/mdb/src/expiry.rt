@@ -10,11 +10,10 @@ ghost use Rattle.mdb.specs.Writing.{HasExpiry, RefusesExpiry};
 use crate::failure::Failure;
 use crate::files::{STANDARD_STREAM, read_ends};
 use crate::infos::infos_of;
-use crate::input_failure::failure_on_all;
+use crate::input_failure::in_memory;
 use crate::progress::Progress;
 use crate::request::NewExpiry;
 use mdb_report::expiry::{expiry_of, has_come};
-use mdb_report::fault::Fault;
 use mdb_report::moment::Moment;
 use mdb_report::shown::ShownText;
 use shard_bytes::expiry::with_expiry;
@@ -109,8 +108,8 @@ pub fn without_expired<'a, R: Files + Eprint + AllocGlobal>(
                 let file = ShownText(file);
                 let _ = rt.eprintln(format_args!("{file}: left out, it has expired"));
             }
-        } else if remaining.push(*file).is_err() {
-            return Err(failure_on_all(files, Fault::OutOfMemory));
+        } else {
+            in_memory(files, remaining.push(*file))?;
         }
     }
     Ok(remaining)

@@ -166,6 +166,14 @@ pub fn failure_on_all<'a>(files: &[&'a str], fault: Fault) -> Failure<'a>
     Failure { subject, fault }
 }
 
+/// What was made of all inputs, unless memory was lacking.
+pub fn in_memory<'a, T, E: Drop>(files: &[&'a str], made: Result<T, E>) -> Result<T, Failure<'a>> {
+    match made {
+        Ok(made) => Ok(made),
+        Err(_) => Err(failure_on_all(files, Fault::OutOfMemory)),
+    }
+}
+
 /// What differs in the records of the inputs, or `None` if they agree.
 pub fn disagreement<'a>(
     alloc: Global,

@@ -16,7 +16,7 @@ use crate::free_memory::free_memory;
 use crate::infos::{infos_of, keys_in};
 use crate::input_failure::{
     combine_failure_in, disagreement, disagreement_under, failure_on_all, failure_on_malformed,
-    lacks_files, malformed_failure,
+    in_memory, lacks_files, malformed_failure,
 };
 use crate::make::{contents_of, put};
 use crate::progress::{Progress, Stage};
@@ -158,9 +158,7 @@ fn merge_contents<'a, R: Files + Print + Eprint + RandomSource + AllocGlobal + C
         .iter()
         .map(|contents| contents.bytes.as_slice())
         .collect(rt.alloc());
-    let Ok(inputs) = inputs else {
-        return Err(failure_on_all(files, Fault::OutOfMemory));
-    };
+    let inputs = in_memory(files, inputs)?;
     if merge.by_key {
         return merge_by_key(rt, files, inputs.as_slice(), merge, progress);
     }
@@ -204,12 +202,8 @@ fn merge_by_key<'a, R: Files + Print + Eprint + RandomSource + AllocGlobal + Clo
 ) -> Result<(), Failure<'a>> {
     let alloc = rt.alloc();
     let infos = infos_of(alloc, files, inputs)?;
-    let Ok(keys) = keys_in(alloc, infos.as_slice()) else {
-        return Err(failure_on_all(files, Fault::OutOfMemory));
-    };
-    let Ok(distinct) = distinct_keys(alloc, keys.as_slice()) else {
-        return Err(failure_on_all(files, Fault::OutOfMemory));
-    };
+    let keys = in_memory(files, keys_in(alloc, infos.as_slice()))?;
+    let distinct = in_memory(files, distinct_keys(alloc, keys.as_slice()))?;
     for key in &distinct {
         write_under(rt, files, inputs, keys.as_slice(), key, merge, progress)?;
     }
@@ -228,13 +222,9 @@ fn write_under<'a, R: Files + Print + Eprint + RandomSource + AllocGlobal + Clon
 ) -> Result<(), Failure<'a>> {
     let alloc = rt.alloc();
     let folder = merge.target.path;
-    let (Ok(files_under), Ok(inputs_under), Ok(path)) = (
-        values_under(alloc, files, keys, key),
-        values_under(alloc, inputs, keys, key),
-        path_under(alloc, folder, key),
-    ) else {
-        return Err(failure_on_all(files, Fault::OutOfMemory));
-    };
+    let files_under = in_memory(files, values_under(alloc, files, keys, key))?;
+    let inputs_under = in_memory(files, values_under(alloc, inputs, keys, key))?;
+    let path = in_memory(files, path_under(alloc, folder, key))?;
     let bytes = merge_with_expiry(
         rt,
         files_under.as_slice(),

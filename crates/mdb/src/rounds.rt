@@ -23,7 +23,7 @@ use crate::by_key::{distinct_keys, path_under, values_under};
 use crate::expiry::report_expired;
 use crate::failure::Failure;
 use crate::files::{Place, STANDARD_STREAM, is_worth_reading, place_at, rename_over};
-use crate::input_failure::{failure_in_files, failure_on_all};
+use crate::input_failure::{failure_in_files, in_memory};
 use crate::make::report_leftovers;
 use crate::merge::report_size;
 use crate::progress::{Progress, Stage};
@@ -95,23 +95,35 @@ pub fn merge_in_rounds<
         return write_merge(rt, shards, merge, merge.target.path, memory, progress);
     }
     let alloc = rt.alloc();
-    let Ok(keys) = keys_of(alloc, shards) else {
-        return Err(failure_on_all(files, Fault::OutOfMemory));
-    };
-    let Ok(distinct) = distinct_keys(alloc, keys.as_slice()) else {
-        return Err(failure_on_all(files, Fault::OutOfMemory));
-    };
+    let keys = in_memory(files, keys_of(alloc, shards))?;
+    let distinct = in_memory(files, distinct_keys(alloc, keys.as_slice()))?;
     for key in &distinct {
-        let folder = merge.target.path;
-        let (Ok(under), Ok(path)) = (
-            values_under(alloc, shards, keys.as_slice(), key),
-            path_under(alloc, folder, key),
-        ) else {
-            return Err(Failure::on_file(folder, Fault::OutOfMemory));
-        };
-        write_merge(rt, under.as_slice(), merge, path.as_str(), memory, progress)?;
+        write_under(rt, shards, keys.as_slice(), key, merge, memory, progress)?;
     }
     Ok(())
+}
+
+// Writes the merge of the shards under one key to a folder.
+fn write_under<
+    'a,
+    R: Files + Input + Clock + Print + Eprint + RandomSource + AllocGlobal + Clone + Drop,
+>(
+    rt: &R,
+    shards: &[ShardFile<'a>],
+    keys: &[HMACKey],
+    key: &HMACKey,
+    merge: Merge<'a>,
+    memory: u64,
+    progress: &mut Progress,
+) -> Result<(), Failure<'a>> {
+    let folder = merge.target.path;
+    let Ok(under) = values_under(rt.alloc(), shards, keys, key) else {
+        return Err(Failure::on_file(folder, Fault::OutOfMemory));
+    };
+    let Ok(path) = path_under(rt.alloc(), folder, key) else {
+        return Err(Failure::on_file(folder, Fault::OutOfMemory));
+    };
+    write_merge(rt, under.as_slice(), merge, path.as_str(), memory, progress)
 }
 
 fn keys_of(alloc: Global, shards: &[ShardFile<'_>]) -> Result<Vec<HMACKey>, AllocError>
@@ -145,9 +157,7 @@ fn open_all<'a, R: Files + Input + Clock + Eprint + AllocGlobal>(
         match load_bytes(alloc, ends.as_slice()) {
             Ok(info) => {
                 report_expired(rt, file, &info, merge.now, progress);
-                if opened.push(ShardFile::new(file, info, stamp)).is_err() {
-                    return Err(failure_on_all(files, Fault::OutOfMemory));
-                }
+                in_memory(files, opened.push(ShardFile::new(file, info, stamp)))?;
             }
             Err(error) if first_failure.is_none() => {
                 let fault = fault_of(alloc, ends.as_slice(), error);

@@ -11,7 +11,7 @@ use super::{RoundFault, share_of};
 use crate::expiry::{earlier, shard_expiry};
 use crate::failure::Failure;
 use crate::input_failure::{
-    failure_in_files, failure_of_two_keys, failure_on_all, lacks_files, union_failure,
+    failure_in_files, failure_of_two_keys, failure_on_all, in_memory, lacks_files, union_failure,
     unreadable_file,
 };
 use crate::merge::report_findings;
@@ -66,13 +66,10 @@ pub fn merge_parts<
     progress: &mut Progress,
 ) -> Result<F, Failure<'a>> {
     let alloc = rt.alloc();
-    let (Ok(files), Ok(mut cursors), Ok(mut xorbs)) = (
-        paths_of(alloc, shards),
-        cursors_of(alloc, shards, Section::Files),
-        cursors_of(alloc, shards, Section::Xorbs),
-    ) else {
-        return Err(Failure::on_target(merge.target.path, Fault::OutOfMemory));
-    };
+    let named = merge.target.path;
+    let files = in_memory_for(named, paths_of(alloc, shards))?;
+    let mut cursors = in_memory_for(named, cursors_of(alloc, shards, Section::Files))?;
+    let mut xorbs = in_memory_for(named, cursors_of(alloc, shards, Section::Xorbs))?;
     let key_failure = other_key(rt, files.as_slice(), shards, merge.strictness)?;
     let later_bytes = bytes_left(xorbs.as_slice());
     let mut rounds = Rounds {
@@ -90,6 +87,14 @@ pub fn merge_parts<
     rounds.later_bytes = 0;
     rounds.merge_section(rt, Section::Xorbs, xorbs.as_mut_slice(), progress)?;
     rounds.finish(rt, shards, memory, progress)
+}
+
+// What was made for a target, unless memory was lacking.
+fn in_memory_for<'a, T>(target: &'a str, made: Result<T, AllocError>) -> Result<T, Failure<'a>> {
+    match made {
+        Ok(made) => Ok(made),
+        Err(_) => Err(Failure::on_target(target, Fault::OutOfMemory)),
+    }
 }
 
 impl<'a, F: Read + Write + Seek + Drop> Rounds<'a, F> {
@@ -139,9 +144,7 @@ impl<'a, F: Read + Write + Seek + Drop> Rounds<'a, F> {
             .iter()
             .map(|bytes| bytes.as_slice())
             .collect(alloc);
-        let Ok(inputs) = inputs else {
-            return Err(failure_on_all(self.files.as_slice(), Fault::OutOfMemory));
-        };
+        let inputs = in_memory(self.files.as_slice(), inputs)?;
         self.merge_inputs(rt, section, inputs.as_slice())
     }
 
