@@ -4,18 +4,17 @@
 use crate::beside::remove_leftovers;
 use crate::failure::Failure;
 use crate::files::{Contents, read_to_end, sync_folder};
-use crate::input_failure::failure_on_all;
+use crate::input_failure::in_memory;
 use crate::input_removal::{HashedFile, ReadInput, remove_inputs};
 use crate::inputs::path_in;
 use crate::make::put;
 use crate::merge::{contents_of_all, merge_with_expiry};
 use crate::progress::{Progress, Stage};
 use crate::request::{Compaction, Merge};
-use crate::rounds::shard_file::ends_of;
+use crate::rounds::shard_file::ShardFile;
 use crate::stamp::FileId;
-use mdb_report::fault::{Fault, fault_of};
+use mdb_report::fault::Fault;
 use mdb_report::shown::ShownText;
-use shard_bytes::load::load_bytes;
 use std::alloc::{AllocError, Global};
 use std::fs::OpenFile;
 use std::random::RandomSource;
@@ -55,9 +54,7 @@ pub fn merge_groups<
     for group in &groups {
         let shards = group.files.as_slice();
         let result = write_group(rt, shards, merge, compaction, &mut inputs, progress)?;
-        if results.push(result).is_err() {
-            return Err(failure_on_all(files, Fault::OutOfMemory));
-        }
+        in_memory(files, results.push(result))?;
     }
     if !compaction.remove_inputs {
         return Ok(());
@@ -83,16 +80,8 @@ fn groups_of<'a, R: Files + AllocGlobal>(
     let alloc = rt.alloc();
     let mut groups: Vec<Group<'a>> = Vec::new(alloc);
     for file in files {
-        let (stamp, ends) = ends_of(rt, file)?;
-        let key = match load_bytes(alloc, ends.as_slice()) {
-            Ok(info) => info.metadata.chunk_hash_hmac_key,
-            Err(error) => {
-                return Err(Failure::on_file(file, fault_of(alloc, ends.as_slice(), error)));
-            }
-        };
-        if add_to_group(alloc, &mut groups, max_size, file, stamp.size, key).is_err() {
-            return Err(failure_on_all(files, Fault::OutOfMemory));
-        }
+        let shard = ShardFile::open(rt, file)?;
+        in_memory(files, add_to_group(alloc, &mut groups, max_size, &shard))?;
     }
     Ok(groups)
 }
@@ -102,27 +91,25 @@ fn add_to_group<'a>(
     alloc: Global,
     groups: &mut Vec<Group<'a>>,
     max_size: u64,
-    file: &'a str,
-    size: u64,
-    key: HMACKey,
+    shard: &ShardFile<'a>,
 ) -> Result<(), AllocError> {
     for group in groups.as_mut_slice().iter_mut().rev() {
-        if group.key != key {
+        if group.key != shard.key() {
             continue;
         }
-        let bytes = group.bytes.saturating_add(size);
+        let bytes = group.bytes.saturating_add(shard.size());
         if bytes > max_size {
             break;
         }
-        group.files.push(file)?;
+        group.files.push(shard.path)?;
         group.bytes = bytes;
         return Ok(());
     }
     let mut files = Vec::new(alloc);
-    files.push(file)?;
+    files.push(shard.path)?;
     groups.push(Group {
-        key,
-        bytes: size,
+        key: shard.key(),
+        bytes: shard.size(),
         files,
     })?;
     Ok(())
@@ -147,9 +134,7 @@ fn write_group<
         .iter()
         .map(|contents| contents.bytes.as_slice())
         .collect(rt.alloc());
-    let Ok(shards) = shards else {
-        return Err(failure_on_all(files, Fault::OutOfMemory));
-    };
+    let shards = in_memory(files, shards)?;
     progress.show(rt, Stage::Merging(files.len()));
     let bytes = merge_with_expiry(rt, files, shards.as_slice(), merge, progress)?;
     if compaction.remove_inputs {

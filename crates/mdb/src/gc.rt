@@ -8,19 +8,17 @@ use crate::failure::Failure;
 use crate::inputs::Inputs;
 use crate::progress::{Progress, Stage};
 use crate::request::Collection;
-use crate::rounds::shard_file::{ShardFile, ends_of};
+use crate::rounds::shard_file::ShardFile;
 use crate::run::{Status, report_failure};
 use crate::terminals::Terminals;
-use mdb_report::fault::{Fault, fault_of, section_fault};
+use mdb_report::fault::{Fault, section_fault};
 use mdb_report::section::SectionReader;
 use mdb_report::unfit::print_findings;
 use shard_bytes::check::Section;
-use shard_bytes::load::load_bytes;
 use shard_garbage::finding::Finding;
 use shard_garbage::garbage::Garbage;
 use shard_garbage::range::HashRange;
 use shard_garbage::segments::Segments;
-use std::alloc::{AllocError, Global};
 use std::io;
 use std::io::{BufReader, BufWriter, ErrorKind, Write};
 use std::rt::{Clock, Files};
@@ -107,20 +105,10 @@ pub fn open_all<'a, R: Files + AllocGlobal>(
     rt: &R,
     inputs: &'a Inputs,
 ) -> Result<Vec<ShardFile<'a>>, Failure<'a>> {
-    let alloc = rt.alloc();
-    let mut opened = Vec::new(alloc);
+    let mut opened = Vec::new(rt.alloc());
     for path in &inputs.paths {
-        let file = path.as_str();
-        let (stamp, ends) = ends_of(rt, file)?;
-        let info = match load_bytes(alloc, ends.as_slice()) {
-            Ok(info) => info,
-            Err(error) => {
-                return Err(Failure::on_file(file, fault_of(alloc, ends.as_slice(), error)));
-            }
-        };
-        if opened.push(ShardFile::new(file, info, stamp)).is_err() {
-            return Err(Failure::on_file(file, Fault::OutOfMemory));
-        }
+        let shard = ShardFile::open(rt, path.as_str())?;
+        check_memory(&shard, opened.push(shard))?;
     }
     Ok(opened)
 }
@@ -245,9 +233,9 @@ fn limit_after(most: usize, left: usize) -> usize {
     }
 }
 
-fn check_memory<'a>(
+fn check_memory<'a, E: Drop>(
     shard: &ShardFile<'a>,
-    added: Result<(), AllocError>,
+    added: Result<(), E>,
 ) -> Result<(), Failure<'a>> {
     match added {
         Ok(()) => Ok(()),

@@ -6,16 +6,15 @@ use crate::inputs::Inputs;
 use crate::make::put;
 use crate::progress::{Progress, Stage};
 use crate::request::OverviewOptions;
-use crate::rounds::shard_file::{ShardFile, ends_of};
+use crate::rounds::shard_file::ShardFile;
 use crate::run::{Status, report_failure};
 use crate::terminals::Terminals;
 use mdb_overview::overview::Overview;
 use mdb_overview::page::page_of;
 use mdb_overview::sharing::ChunkHashes;
 use mdb_report::brief::Brief;
-use mdb_report::fault::{Fault, fault_of, section_fault};
+use mdb_report::fault::{Fault, section_fault};
 use shard_bytes::check::Section;
-use shard_bytes::load::load_bytes;
 use std::alloc::AllocError;
 use std::random::RandomSource;
 use std::rt::{Clock, Files};
@@ -137,18 +136,9 @@ fn open_shard<'a, R: Files + AllocGlobal>(
     rt: &R,
     path: &'a str,
 ) -> Result<OpenShard<'a>, Failure<'a>> {
-    let alloc = rt.alloc();
-    let (stamp, ends) = ends_of(rt, path)?;
-    let info = match load_bytes(alloc, ends.as_slice()) {
-        Ok(info) => info,
-        Err(error) => {
-            return Err(Failure::on_file(path, fault_of(alloc, ends.as_slice(), error)));
-        }
-    };
-    Ok(OpenShard {
-        file: ShardFile::new(path, info, stamp),
-        brief: in_memory(Brief::of_info(alloc, path, &info, stamp.size))?,
-    })
+    let file = ShardFile::open(rt, path)?;
+    let brief = in_memory(Brief::of_info(rt.alloc(), path, &file.info, file.size()))?;
+    Ok(OpenShard { file, brief })
 }
 
 // How many parts of the hashes are kept one after another, so that each takes about so much memory.

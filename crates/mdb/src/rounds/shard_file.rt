@@ -7,8 +7,9 @@ use super::block::{Block, Mark};
 use crate::failure::Failure;
 use crate::files::{STANDARD_STREAM, read_ends};
 use crate::stamp::Stamp;
-use mdb_report::fault::Fault;
+use mdb_report::fault::{Fault, fault_of};
 use shard_bytes::check::Section;
+use shard_bytes::load::load_bytes;
 use std::fs::OpenFile;
 use std::io::{ErrorKind, Read, Seek, SeekFrom};
 use std::rt::Files;
@@ -60,6 +61,24 @@ fn regular_ends_of<R: Files + AllocGlobal>(
 impl<'a> ShardFile<'a> {
     pub fn new(path: &'a str, info: MDBShardInfo, stamp: Stamp) -> ShardFile<'a> {
         ShardFile { path, info, stamp }
+    }
+
+    /// The shard in a regular file, of which header and footer are read.
+    pub fn open<R: Files + AllocGlobal>(
+        rt: &R,
+        path: &'a str,
+    ) -> Result<ShardFile<'a>, Failure<'a>> {
+        let (stamp, ends) = ends_of(rt, path)?;
+        let ends = ends.as_slice();
+        match load_bytes(rt.alloc(), ends) {
+            Ok(info) => Ok(ShardFile { path, info, stamp }),
+            Err(error) => Err(Failure::on_file(path, fault_of(rt.alloc(), ends, error))),
+        }
+    }
+
+    /// How many bytes the file has.
+    pub fn size(&self) -> u64 {
+        self.stamp.size
     }
 
     /// The key of its chunk hashes.
