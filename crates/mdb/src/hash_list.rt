@@ -21,16 +21,7 @@ pub fn add_listed<'a, R: Files + Input + AllocGlobal>(
         Request::Inspect(_, inquiry, _) => add_to_inquiry(rt, list, inquiry),
         Request::Make(MakeCommand::Drop(removal), _) => add_from(rt, list, &mut removal.hashes),
         Request::Make(MakeCommand::Subset(_, subset, _, _), _) => {
-            let mut listed = Vec::new(rt.alloc());
-            add_from(rt, list, &mut listed)?;
-            if let KeptXorbs::Listed(hashes) = &mut subset.kept {
-                for hash in listed {
-                    push(list.path, hashes, hash)?;
-                }
-            } else {
-                subset.kept = KeptXorbs::Listed(listed);
-            }
-            Ok(())
+            add_to_kept(rt, list, &mut subset.kept)
         }
         _ => Ok(()),
     }
@@ -56,6 +47,21 @@ fn add_to_inquiry<'a, R: Files + Input + AllocGlobal>(
         Inquiry::FindXorbs { hashes } => add_from(rt, list, hashes),
         Inquiry::Query { hashes } => add_from(rt, list, hashes),
         _ => Ok(()),
+    }
+}
+
+// Where all xorbs are kept, those in the list are kept alone.
+fn add_to_kept<'a, R: Files + Input + AllocGlobal>(
+    rt: &R,
+    list: HashList<'a>,
+    kept: &mut KeptXorbs,
+) -> Result<(), Failure<'a>> {
+    if let KeptXorbs::All = kept {
+        *kept = KeptXorbs::Listed(Vec::new(rt.alloc()));
+    }
+    match kept {
+        KeptXorbs::Listed(hashes) => add_from(rt, list, hashes),
+        KeptXorbs::All => Ok(()),
     }
 }
 
