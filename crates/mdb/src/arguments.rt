@@ -57,8 +57,7 @@ pub fn request_of<'a>(
     words: &'a [String],
     now: Option<u64>,
 ) -> Result<Request<'a>, Error> {
-    let mut command = command_line::command_line(alloc)?;
-    let matches = command.try_get_matches_from_mut(words)?;
+    let matches = command_line::command_line(alloc)?.try_get_matches_from(words)?;
     match request_in(alloc, &matches, now) {
         Ok(request) => Ok(request),
         Err(fault) => Err(error_of(alloc, &matches, &fault)?),

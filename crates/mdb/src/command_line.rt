@@ -16,10 +16,7 @@ pub fn command_line<'a>(alloc: Global) -> Result<Command<'a>, AllocError> {
         .version(VERSION)
         .subcommand_required(true)
         .arg_required_else_help(true);
-    for row in inquiries() {
-        command = command.subcommand(command_of(alloc, row)?)?;
-    }
-    for row in makings() {
+    for row in inquiries().iter().chain(makings()) {
         command = command.subcommand(command_of(alloc, row)?)?;
     }
     Ok(command)
