@@ -16,7 +16,7 @@ use crate::ordering::inputs_in_order;
 use crate::report::report;
 use crate::request::{Merge, Request, Sources};
 use crate::terminals::Terminals;
-use crate::words::{Words, WordsError, read_words};
+use crate::words::{Words, read_words};
 use mdb_report::fault::Fault;
 use mdb_report::moment::seconds_now;
 use mdb_report::shown::ShownText;
@@ -71,14 +71,7 @@ pub fn run<
 {
     match read_words(rt) {
         Ok(words) => status_of_words(rt, &words, terminals).number(),
-        Err(WordsError::OutOfMemory) => report_failure(
-            rt,
-            &Failure::on_words(Fault::OutOfMemory),
-        ).number(),
-        Err(WordsError::TooLong) => report_failure(
-            rt,
-            &Failure::on_words(Fault::LongWord),
-        ).number(),
+        Err(error) => report_failure(rt, &Failure::on_words(Fault::from(error))).number(),
     }
 }
 
@@ -86,20 +79,31 @@ fn status_of_words<
     R: Locks + Input + Clock + Print + Eprint + RandomSource + AllocGlobal + Clone + Drop,
 >(rt: &R, words: &Words, terminals: Terminals) -> Status {
     match request_of(rt.alloc(), words.texts.as_slice(), seconds_now(rt)) {
-        Ok(mut request) => match add_listed(rt, &mut request) {
-            Ok(()) => status_of(rt, &request, words.unreadable.as_slice(), terminals),
-            Err(failure) => report_failure(rt, &failure),
-        },
-        Err(error) => {
-            if error.print(rt).is_err() {
-                return Status::Failed;
-            }
-            if error.use_stderr() {
-                Status::Misused
-            } else {
-                Status::Done
-            }
+        Ok(mut request) => {
+            status_of_request(rt, &mut request, words.unreadable.as_slice(), terminals)
         }
+        Err(error) => status_of_error(rt, &error),
+    }
+}
+
+// Reports an error of the command line, or prints the help that was asked for.
+fn status_of_error<R: Print + Eprint>(rt: &R, error: &clap::Error) -> Status {
+    if error.print(rt).is_err() {
+        Status::Failed
+    } else if error.use_stderr() {
+        Status::Misused
+    } else {
+        Status::Done
+    }
+}
+
+// The status of a request, to which the hashes in the list that it names are added.
+fn status_of_request<
+    R: Locks + Input + Clock + Print + Eprint + RandomSource + AllocGlobal + Clone + Drop,
+>(rt: &R, request: &mut Request<'_>, unreadable: &[String], terminals: Terminals) -> Status {
+    match add_listed(rt, request) {
+        Ok(()) => status_of(rt, request, unreadable, terminals),
+        Err(failure) => report_failure(rt, &failure),
     }
 }
 

@@ -1,5 +1,6 @@
 //! The words of the command line.
 
+use mdb_report::fault::Fault;
 use std::alloc::{AllocError, Global};
 use std::env::FillError;
 use std::rt::Env;
@@ -32,6 +33,15 @@ impl From<AllocError> for WordsError {
 impl<T: Drop> From<std::alloc::AllocFailed<T>> for WordsError {
     fn from(_error: std::alloc::AllocFailed<T>) -> Self {
         WordsError::OutOfMemory
+    }
+}
+
+impl From<WordsError> for Fault {
+    fn from(error: WordsError) -> Self {
+        match error {
+            WordsError::OutOfMemory => Fault::OutOfMemory,
+            WordsError::TooLong => Fault::LongWord,
+        }
     }
 }
 
