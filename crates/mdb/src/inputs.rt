@@ -6,7 +6,7 @@ use crate::request::Sources;
 use crate::run::report_failure;
 use crate::words::escape_word;
 use mdb_report::fault::Fault;
-use std::alloc::{AllocError, AllocFailed, Global};
+use std::alloc::{AllocError, Global};
 use std::io::Read;
 use std::rt::Files;
 use std::{fs, io};
@@ -30,29 +30,13 @@ pub struct Inputs {
     pub failures: Vec<String>,
 }
 
-/// Why the paths of shards cannot be collected: memory is lacking.
-#[derive(Drop)]
-pub struct OutOfMemory;
-
-impl From<AllocError> for OutOfMemory {
-    fn from(_error: AllocError) -> OutOfMemory {
-        OutOfMemory
-    }
-}
-
-impl<T: Drop> From<AllocFailed<T>> for OutOfMemory {
-    fn from(_error: AllocFailed<T>) -> OutOfMemory {
-        OutOfMemory
-    }
-}
-
 /// The shards that sources name: each folder stands for the shards in it. Some words are no text,
-/// so that no file can be opened by them.
+/// so that no file can be opened by them. It fails only if memory is lacking.
 pub fn inputs_of<R: Files + Input + Eprint + AllocGlobal + Clone + Drop>(
     rt: &R,
     sources: &Sources<'_>,
     unreadable: &[String],
-) -> Result<Inputs, OutOfMemory> {
+) -> Result<Inputs, AllocError> {
     let mut inputs = Inputs {
         paths: Vec::new(rt.alloc()),
         named: sources.list.is_some() || sources.words.len() > 1,
@@ -78,7 +62,7 @@ impl Inputs {
         &mut self,
         rt: &R,
         path: &str,
-    ) -> Result<(), OutOfMemory> {
+    ) -> Result<(), AllocError> {
         if is_folder(rt, path) {
             self.named = true;
             return self.add_folder(rt, path);
@@ -93,7 +77,7 @@ impl Inputs {
         &mut self,
         rt: &R,
         folder: &str,
-    ) -> Result<(), OutOfMemory> {
+    ) -> Result<(), AllocError> {
         let alloc = rt.alloc();
         let mut names = Vec::new(alloc);
         if let Err(error) = read_names(rt, folder, &mut names) {
@@ -135,7 +119,7 @@ impl Inputs {
         rt: &R,
         list: &str,
         end: u8,
-    ) -> Result<(), OutOfMemory> {
+    ) -> Result<(), AllocError> {
         let bytes = match read(rt, list) {
             Ok(bytes) => bytes,
             Err(error) => {
@@ -158,7 +142,7 @@ impl Inputs {
         rt: &R,
         path: &str,
         fault: Fault,
-    ) -> Result<(), OutOfMemory> {
+    ) -> Result<(), AllocError> {
         let failure = Failure::on_file(path, fault);
         let _ = report_failure(rt, &failure);
         self.failed = true;

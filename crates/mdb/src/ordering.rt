@@ -3,8 +3,9 @@
 ghost use Rattle.std.specs.List.Sorted.{IsPermutation};
 
 use crate::expiry::expiry_at;
-use crate::inputs::{Inputs, OutOfMemory};
+use crate::inputs::Inputs;
 use crate::request::Sort;
+use std::alloc::AllocError;
 use std::fs;
 use std::rt::Files;
 
@@ -20,7 +21,7 @@ pub fn inputs_in_order<R: Files + AllocGlobal>(
     rt: &R,
     inputs: Inputs,
     sort: Option<Sort>,
-) -> Result<Inputs, OutOfMemory> {
+) -> Result<Inputs, AllocError> {
     let Some(sort) = sort else {
         return Ok(inputs);
     };
