@@ -3,9 +3,8 @@
 #![tactic(auto)]
 
 mod answer;
-mod lookups;
-mod memory;
+mod call;
+mod counts;
 mod operation;
 mod run;
-mod sections;
-mod writing;
+mod start;

@@ -3,18 +3,18 @@
 ghost use Rattle.std.specs.Prelude.{◌≡◌, ◌⊎◌, List, ℕ, IfOk, IfSome};
 ghost use Rattle.bench_calls.specs.declared.operation.Operation.{Operation};
 ghost use Rattle.xet_core_structures.specs.declared.merklehash.DataHash.{DataHash};
+ghost use Rattle.std.specs.Fn.{iterate};
 ghost use Rattle.xet_core_structures.specs.Hash.{hash_bytes};
-ghost use Rattle.bench_calls.specs.Answers.{number_of, Answers, Delivers};
+ghost use Rattle.xet_core_structures.specs.KeyedHash.{hmac};
+ghost use Rattle.bench_calls.specs.Answers.{number_of, Gives, Answers, Delivers};
 
-use crate::lookups::{find_files, find_files_in_bytes, keyed_again, query_chunks, search_files};
-use crate::memory;
+use crate::answer::Answer;
+use crate::call::Call;
 use crate::operation::Operation;
-use crate::sections::{load, read_files, read_minimal, read_xorbs};
-use crate::writing::{combine, export, write_minimal};
-use shard_bytes::combine::Operation as Combination;
+use crate::start::Start;
 use std::alloc::Global;
 use xet_core_structures::error::Result;
-use xet_core_structures::merklehash::MerkleHash;
+use xet_core_structures::merklehash::{HMACKey, MerkleHash};
 
 /// The words of a hash.
 #[repr(C)]
@@ -79,28 +79,40 @@ fn run(
     let hashes = hashes_of(alloc, hashes)?;
     let hashes = hashes.as_slice();
     let key = first_hash(hashes);
-    match operation {
-        Operation::Load => load(alloc, first, times),
-        Operation::FindFiles => find_files(alloc, first, hashes, times),
-        Operation::SearchFiles => search_files(alloc, first, hashes, times),
-        Operation::QueryChunks => query_chunks(alloc, first, hashes, times),
-        Operation::Union => combine(alloc, Combination::Union, first, second, times),
-        Operation::Difference => combine(alloc, Combination::Difference, first, second, times),
-        Operation::Export => export(alloc, first, key, times),
-        Operation::ReadMinimal => read_minimal(alloc, first, times),
-        Operation::WriteMinimal => write_minimal(alloc, first, times),
-        Operation::ReadFiles => read_files(alloc, first, times),
-        Operation::ReadXorbs => read_xorbs(alloc, first, times),
-        Operation::Serialize => memory::serialize(alloc, first, times),
-        Operation::AddFiles => memory::add_files(alloc, first, times),
-        Operation::AddXorbs => memory::add_xorbs(alloc, first, times),
-        Operation::QueryInMemory => memory::query(alloc, first, hashes, times),
-        Operation::UniteInMemory => memory::unite(alloc, first, second, times),
-        Operation::SubtractInMemory => memory::subtract(alloc, first, second, times),
-        Operation::Hmac => key_bytes(alloc, keyed_again(key, key, times)),
-        Operation::FindFilesInBytes => find_files_in_bytes(alloc, first, hashes, times),
-        Operation::CopyInMemory => memory::copy(alloc, first, times),
+    if let Operation::Hmac = operation {
+        return key_bytes(alloc, keyed_again(key, key, times));
     }
+    let call = Call {
+        alloc,
+        first,
+        second,
+        hashes,
+        key,
+    };
+    repeat(&call, operation, times)?.into_bytes(alloc)
+}
+
+// Does an operation so often, at least once. Returns what the last time gave.
+fn repeat(call: &Call<'_>, operation: Operation, times: u64) -> Result<Answer>
+    ensures { IfOk result (Gives operation call.now.first.now call.now.second.now call.now.key) }
+{
+    let start = Start::of(call.alloc, operation, call.first, call.second)?;
+    for _ in 1..times {
+        let _again = call.make(operation, &start)?;
+    }
+    call.make(operation, &start)
+}
+
+// The keyed hash of the keyed hash of .. of a hash.
+#[tactic(auto, using(crate::proofs::Repeated::applied_to_next))]
+fn keyed_again(hash: MerkleHash, key: HMACKey, times: u64) -> MerkleHash
+    ensures { result ≡ iterate (hmac key) times hash }
+{
+    let mut keyed = hash;
+    for _ in 0..times {
+        keyed = keyed.hmac(key);
+    }
+    keyed
 }
 
 fn key_bytes(alloc: Global, hash: MerkleHash) -> Result<Vec<u8>>
