@@ -12,7 +12,7 @@ SANITIZERS = ["-fsanitize=address,undefined", "-fno-sanitize-recover=all", "-g"]
 
 
 def check_errors():
-    """The names and the numbers of errors are those of `error_number`."""
+    """The names and the numbers of errors are those that the library returns."""
     header = read(f"{BINDINGS}/c/xet.h")
     numbers = re.findall(r"XET_(\w+) = (\d+)\b", error_constants())
     constants = {int(number): name.title().replace("_", "") for name, number in numbers}

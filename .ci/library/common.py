@@ -8,6 +8,8 @@ BINDINGS = f"{TOP}/bindings"
 SOURCES = f"{TOP}/crates/xet_c/src"
 # It has a struct that calls take.
 BELOW = f"{TOP}/crates/xet_core_structures/src/set_operations/rows.rt"
+# The numbers of the errors of the crates below.
+ERRORS = f"{TOP}/crates/xet_base/src/error.rt"
 # From nothing, `rt lib` proves the crate again.
 SECONDS = 3600
 
@@ -53,8 +55,8 @@ def error_constants():
 
 
 def error_numbers():
-    """Returns the numbers of errors, with their names, by `error_number` of crates/xet_c."""
-    numbers = {int(number): name for name, number in re.findall(r"CoreError::(\w+)(?:\(_\))? => (\d+),", sources())}
+    """Returns the numbers of errors, with their names, by `variant_number` of crates/xet_base and by crates/xet_c."""
+    numbers = {int(number): name for name, number in re.findall(r"CoreError::(\w+)(?:\(_\))? => (\d+),", read(ERRORS))}
     for constant, name in (("SHORT", "Short"), ("DISAGREE", "Disagree"), ("MALFORMED", "Malformed")):
         numbers[int(re.search(rf"XET_{constant}: u32 = (\d+);", sources())[1])] = name
     return numbers

@@ -37,7 +37,7 @@ STRUCTS = {
 
 
 def check_errors(module):
-    """The names and the numbers of errors are those of `error_number`."""
+    """The names and the numbers of errors are those that the library returns."""
     same = dict(enumerate(module._errors._NAMES, 1)) == error_numbers()
     return None if same else "the errors of the Python module are not those of crates/xet_c"
 

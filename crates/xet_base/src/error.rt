@@ -127,7 +127,9 @@ impl CoreError {
         CoreError::other(alloc, "the text of a hash has 64 hexadecimal digits")
     }
 
-    fn variant_number(&self) -> u8
+    /// The number of the variant in the order of their declaration, 1 to 18: what sets errors apart,
+    /// whatever they carry, and what the library for C returns.
+    pub fn variant_number(&self) -> u8
         ensures { result ≡ variant_number self.now }
     {
         match self {

@@ -22,26 +22,7 @@ pub const XET_MALFORMED: u32 = 21;
 pub fn error_number(error: &CoreError) -> u32
     ensures { result ≡ variant_number error.now }
 {
-    match error {
-        CoreError::Io(_) => 1,
-        CoreError::InternalError(_) => 2,
-        CoreError::Other(_) => 3,
-        CoreError::TruncatedHashCollision(_) => 4,
-        CoreError::ShardVersion(_) => 5,
-        CoreError::BadFilename(_) => 6,
-        CoreError::ShardNotFound(_) => 7,
-        CoreError::FileNotFound(_) => 8,
-        CoreError::QueryFailed(_) => 9,
-        CoreError::SmudgeQueryPolicy(_) => 10,
-        CoreError::InvalidShard(_) => 11,
-        CoreError::InvalidRange => 12,
-        CoreError::InvalidArguments => 13,
-        CoreError::MalformedData(_) => 14,
-        CoreError::HashMismatch => 15,
-        CoreError::HashParsing(_) => 16,
-        CoreError::ChunkHeaderParse => 17,
-        CoreError::OutOfMemory => 18,
-    }
+    u32::from(error.variant_number())
 }
 
 /// Copies the items that were made to the front of `out`, and sets `written` to their number, also
