@@ -1,5 +1,5 @@
 -- What an operation answers, and how the caller gets it.
-use Rattle.std.specs.Prelude.{◌≡◌, ◌⊎◌, ⊤, ℕ, ◌<◌, ◌≤◌, true, List, length, ◌++◌, drop, None}
+use Rattle.std.specs.Prelude.{◌≡◌, ◌⊎◌, ℕ, ◌<◌, ◌≤◌, true, List, length, ◌++◌, drop, None}
 use Rattle.std.specs.Fn.{iterate}
 use Rattle.shard_bytes.specs.Combining.{IsResultOf, CombinesBytes}
 use Rattle.shard_bytes.specs.Exporting.{ExportsBytes}
@@ -58,40 +58,35 @@ all_parts = record { verification = true; aux_ext = true }
 abbrev pub AreBytesOfSome : List ℕ → Type 0
 AreBytesOfSome bytes = (s : Shard) × IsShard s × (bytes ≡ layout s None)
 
--- what an operation on two byte strings, with a key, gives
-abbrev pub Gives : Operation → (first second : List ℕ) → DataHash → Answer → Type 0
-Gives Union first second key (Bytes v) = CombinesBytes (IsResultOf of_union) first second v.items
-Gives Difference first second key (Bytes v) =
-    CombinesBytes (IsResultOf of_difference) first second v.items
-Gives ExportAll first second key (Bytes v) = ExportsBytes (whole_export key) first v.items
-Gives WriteMinimal first second key (Bytes v) = MinimalBytes all_parts 0 first v.items
-Gives Serialize first second key (Bytes v) = AreBytesOfSome v.items
-Gives UniteInMemory first second key (InMemory s) = ⊤
-Gives SubtractInMemory first second key (InMemory s) = ⊤
-Gives CopyInMemory first second key (InMemory s) = ⊤
-Gives Union first second key _ = ⊥
-Gives Difference first second key _ = ⊥
-Gives ExportAll first second key _ = ⊥
-Gives WriteMinimal first second key _ = ⊥
-Gives Serialize first second key _ = ⊥
-Gives UniteInMemory first second key _ = ⊥
-Gives SubtractInMemory first second key _ = ⊥
-Gives CopyInMemory first second key _ = ⊥
-Gives Hmac first second key _ = ⊥
-Gives _ first second key (Count n) = ⊤
-Gives _ first second key _ = ⊥
+-- the bytes are a count, as 64 bits in little-endian order
+abbrev pub IsCount : List ℕ → Type 0
+IsCount bytes = (count : ℕ) × (bytes ≡ to_le_bytes w64 count)
 
--- what the caller gets of it
+-- an operation, done so often on two byte strings, with a key, answers with these bytes
+abbrev pub Answers : Operation → ℕ → (first second : List ℕ) → DataHash → List ℕ → Type 0
+Answers Union times first second key bytes = CombinesBytes (IsResultOf of_union) first second bytes
+Answers Difference times first second key bytes =
+    CombinesBytes (IsResultOf of_difference) first second bytes
+Answers ExportAll times first second key bytes = ExportsBytes (whole_export key) first bytes
+Answers WriteMinimal times first second key bytes = MinimalBytes all_parts 0 first bytes
+Answers Serialize times first second key bytes = AreBytesOfSome bytes
+Answers UniteInMemory times first second key bytes = AreBytesOfSome bytes
+Answers SubtractInMemory times first second key bytes = AreBytesOfSome bytes
+Answers CopyInMemory times first second key bytes = AreBytesOfSome bytes
+Answers Hmac times first second key bytes = bytes ≡ hash_bytes (iterate (hmac key) times key)
+Answers _ times first second key bytes = IsCount bytes
+
+-- the bytes that an answer becomes
 abbrev pub AreBytesOf : Answer → List ℕ → Type 0
 AreBytesOf (Count n) bytes = bytes ≡ to_le_bytes w64 n
 AreBytesOf (Bytes v) bytes = bytes ≡ v.items
 AreBytesOf (InMemory s) bytes = AreBytesOfSome bytes
 
--- an operation, done so often on two byte strings, with a key, has this answer
-abbrev pub Answers : Operation → ℕ → (first second : List ℕ) → DataHash → List ℕ → Type 0
-Answers Hmac times first second key bytes = bytes ≡ hash_bytes (iterate (hmac key) times key)
-Answers operation times first second key bytes =
-    (answer : Answer) × Gives operation first second key answer × AreBytesOf answer bytes
+-- whatever bytes an answer becomes, the operation answers with them, done however often
+abbrev pub IsAnswerOf : Operation → (first second : List ℕ) → DataHash → Answer → Type 0
+IsAnswerOf operation first second key answer =
+    (times : ℕ) (bytes : List ℕ) → AreBytesOf answer bytes
+    → Answers operation times first second key bytes
 
 -- the answer stands at the front of an output if it fits, and what is behind it stays
 abbrev pub Delivers : List ℕ → (old new : List ℕ) → (written : ℕ) → Type 0

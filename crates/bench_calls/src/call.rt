@@ -1,7 +1,8 @@
 //! One call of an operation.
 
-ghost use Rattle.std.specs.Prelude.{◌≡◌, IfOk};
-ghost use Rattle.bench_calls.specs.Answers.{Gives};
+ghost use Rattle.std.specs.Prelude.{◌≡◌, List, ℕ, IfOk};
+ghost use Rattle.shard_bytes.specs.Combining.{IsResultOf, CombinesBytes};
+ghost use Rattle.bench_calls.specs.Answers.{AreBytesOf, IsAnswerOf};
 
 use crate::answer::{Answer, shard_to_bytes};
 use crate::counts::{
@@ -35,7 +36,8 @@ pub struct Call<'a> {
 impl Call<'_> {
     /// Does an operation once. `InvalidArguments` if it starts from something else.
     pub fn make(&self, operation: Operation, start: &Start) -> Result<Answer>
-        ensures { IfOk result (Gives operation self.now.first.now self.now.second.now self.now.key) }
+        ensures { IfOk result
+            (IsAnswerOf operation self.now.first.now self.now.second.now self.now.key) }
     {
         match start {
             Start::Bytes => self.on_bytes(operation),
@@ -46,7 +48,8 @@ impl Call<'_> {
     }
 
     fn on_bytes(&self, operation: Operation) -> Result<Answer>
-        ensures { IfOk result (Gives operation self.now.first.now self.now.second.now self.now.key) }
+        ensures { IfOk result
+            (IsAnswerOf operation self.now.first.now self.now.second.now self.now.key) }
     {
         let alloc = self.alloc;
         let shard = self.first;
@@ -60,37 +63,25 @@ impl Call<'_> {
             Operation::FindFilesInBytes => {
                 Ok(Answer::Count(files_found_in_bytes(alloc, shard, self.hashes)?))
             }
-            Operation::Union => self.unite(),
-            Operation::Difference => self.subtract(),
+            Operation::Union => self.combine(Combination::Union),
+            Operation::Difference => self.combine(Combination::Difference),
             Operation::Export => self.export(),
             Operation::WriteMinimal => self.write_minimal(),
             _ => Err(CoreError::InvalidArguments),
         }
     }
 
-    fn unite(&self) -> Result<Answer>
-        ensures { IfOk result
-            (Gives Operation.Union self.now.first.now self.now.second.now self.now.key) }
+    fn combine(&self, combination: Combination) -> Result<Answer>
+        ensures { IfOk result (λ answer. (bytes : List ℕ) → AreBytesOf answer bytes
+            → CombinesBytes (IsResultOf combination) self.now.first.now self.now.second.now bytes) }
     {
-        Ok(Answer::Bytes(combine_bytes(self.alloc, Combination::Union, self.first, self.second)?))
-    }
-
-    fn subtract(&self) -> Result<Answer>
-        ensures { IfOk result
-            (Gives Operation.Difference self.now.first.now self.now.second.now self.now.key) }
-    {
-        Ok(Answer::Bytes(combine_bytes(
-            self.alloc,
-            Combination::Difference,
-            self.first,
-            self.second,
-        )?))
+        Ok(Answer::Bytes(combine_bytes(self.alloc, combination, self.first, self.second)?))
     }
 
     // Writes the first shard with keyed chunk hashes, with files and all tables, created at 0.
     fn export(&self) -> Result<Answer>
         ensures { IfOk result
-            (Gives Operation.Export self.now.first.now self.now.second.now self.now.key) }
+            (IsAnswerOf Operation.Export self.now.first.now self.now.second.now self.now.key) }
     {
         let export = Export {
             key: self.key,
@@ -109,7 +100,7 @@ impl Call<'_> {
     // Writes the first shard's minimal shard, with all rows, created at 0.
     fn write_minimal(&self) -> Result<Answer>
         ensures { IfOk result
-            (Gives Operation.WriteMinimal self.now.first.now self.now.second.now self.now.key) }
+            (IsAnswerOf Operation.WriteMinimal self.now.first.now self.now.second.now self.now.key) }
     {
         let kept = KeptParts {
             verification: true,
@@ -119,7 +110,8 @@ impl Call<'_> {
     }
 
     fn look_up(&self, operation: Operation, info: &MDBShardInfo) -> Result<Answer>
-        ensures { IfOk result (Gives operation self.now.first.now self.now.second.now self.now.key) }
+        ensures { IfOk result
+            (IsAnswerOf operation self.now.first.now self.now.second.now self.now.key) }
     {
         let alloc = self.alloc;
         let shard = self.first;
@@ -138,7 +130,8 @@ impl Call<'_> {
     }
 
     fn in_memory(&self, operation: Operation, shard: &MDBInMemoryShard) -> Result<Answer>
-        ensures { IfOk result (Gives operation self.now.first.now self.now.second.now self.now.key) }
+        ensures { IfOk result
+            (IsAnswerOf operation self.now.first.now self.now.second.now self.now.key) }
     {
         match operation {
             Operation::Serialize => Ok(Answer::Bytes(shard_to_bytes(self.alloc, shard)?)),
@@ -156,7 +149,8 @@ impl Call<'_> {
         first: &MDBInMemoryShard,
         second: &MDBInMemoryShard,
     ) -> Result<Answer>
-        ensures { IfOk result (Gives operation self.now.first.now self.now.second.now self.now.key) }
+        ensures { IfOk result
+            (IsAnswerOf operation self.now.first.now self.now.second.now self.now.key) }
     {
         match operation {
             Operation::UniteInMemory => Ok(Answer::Shard(first.union(self.alloc, second)?)),

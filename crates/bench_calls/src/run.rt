@@ -6,7 +6,7 @@ ghost use Rattle.xet_core_structures.specs.declared.merklehash.DataHash.{DataHas
 ghost use Rattle.std.specs.Fn.{iterate};
 ghost use Rattle.xet_core_structures.specs.Hash.{hash_bytes};
 ghost use Rattle.xet_core_structures.specs.KeyedHash.{hmac};
-ghost use Rattle.bench_calls.specs.Answers.{number_of, Gives, Answers, Delivers};
+ghost use Rattle.bench_calls.specs.Answers.{number_of, IsAnswerOf, Answers, Delivers};
 
 use crate::answer::Answer;
 use crate::call::Call;
@@ -94,7 +94,8 @@ fn run(
 
 // Does an operation so often, at least once. Returns what the last time gave.
 fn repeat(call: &Call<'_>, operation: Operation, times: u64) -> Result<Answer>
-    ensures { IfOk result (Gives operation call.now.first.now call.now.second.now call.now.key) }
+    ensures { IfOk result
+        (IsAnswerOf operation call.now.first.now call.now.second.now call.now.key) }
 {
     let start = Start::of(call.alloc, operation, call.first, call.second)?;
     for _ in 1..times {
