@@ -10,9 +10,9 @@
 //! from the header that they read; xorbs are alike in both versions and are read as of version 3.
 //! Writers write the version of their `LayoutOptions`: that is version 3 but in
 //! `serialize_from_v2`, which refuses a shard with an auxiliary row before it writes, and in
-//! `write_again`, by which a check writes a shard in its own version. Union and difference of bytes
-//! read two inputs, which may have different versions, in one loop, with a version beside each
-//! source (`SectionAt` has it beside a section's offset), and write version 3.
+//! `UnindexedShard::to_bytes` and `write_again`, whose callers say which. Union and difference of
+//! bytes read two inputs, which may have different versions, in one loop, with a version beside
+//! each source (`SectionAt` has it beside a section's offset), and write version 3.
 
 ghost use Rattle.std.specs.Prelude.{◌≡◌, ◌≤◌, ◌<◌, ◌*◌, ◌^◌, ◌↔◌, IsTrue, MatchResult, MatchOption};
 ghost use Rattle.xet_base.specs.Hash.{all_ones};

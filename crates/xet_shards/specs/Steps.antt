@@ -1,4 +1,4 @@
--- Words that only contracts inside the crate and proofs speak of.
+-- Words that only proofs speak of, and contracts of this crate and of those above.
 
 pub mod ChunkLookup
 pub mod ChunkMerging

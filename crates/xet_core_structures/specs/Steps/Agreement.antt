@@ -1,4 +1,4 @@
--- Steps towards what `Agreement` defines, which only contracts inside the crate speak of.
+-- Steps towards what `Agreement` defines, of which contracts here and in the crate above speak.
 use Rattle.std.specs.Prelude.{◌≡◌, ⊤, ℕ, ◌<◌, ◌≤◌, IsTrue, List, length, All, Contains, Option, None, Some, MatchOption, slice_get}
 use Rattle.xet_base.specs.declared.merklehash.DataHash.{DataHash}
 use Rattle.xet_records.specs.declared.file_structs.header.FileDataSequenceHeader.{FileDataSequenceHeader}

@@ -1,4 +1,4 @@
--- Steps towards what `SectionReading` defines, which only contracts inside the crate speak of.
+-- Steps towards what `SectionReading` defines, of which contracts here and in the crates above speak.
 use Rattle.std.specs.Prelude.{◌≡◌, ℕ, ◌+◌, ◌≤◌, Option}
 use Rattle.xet_base.specs.declared.error.CoreError.{CoreError}
 use Rattle.xet_base.specs.Source.{Source, ReadsBytes, bytes_left}

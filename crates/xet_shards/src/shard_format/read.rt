@@ -13,8 +13,8 @@
 //! about any kind of records (`RecordKind`); `xet_records/proofs/RecordKinds.antt` proves what
 //! files and xorbs have in common (`KindLaws`), which the do-nothing call `laws` of the trait says.
 //! `proofs/Read/SectionUnique.antt` shows that bytes are a section in at most one way
-//! (`laws::sections_are_read_in_one_way`), and `proofs/Read/Readback.antt` that a layout with any
-//! options has the sections of its files and of its xorbs (`FitsSection` of
+//! (`xet_core_structures::laws::sections_are_read_in_one_way`), and `proofs/Read/Readback.antt`
+//! that a layout with any options has the sections of its files and of its xorbs (`FitsSection` of
 //! `specs/Write/WithOptions.antt` says which records these may be), so that the whole read of what
 //! was written is the map again. From these two `proofs/Write/SameBytes.antt` has that shards with
 //! equal bytes are equal.
