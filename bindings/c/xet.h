@@ -5,9 +5,9 @@
  * version 3 is written, but where a call names another. Any number of threads may call at once. This file is C99, and
  * C++11.
  *
- * xet_export, xet_write_v2, xet_minimal, xet_subset, xet_eligible and xet_check find the two sections behind the
- * header; all other calls that read a shard's records go by the offsets in the footer. So of bytes with a wrong footer
- * one call may read other records than another. xet_check finds such a footer.
+ * xet_export, xet_write_v2, xet_minimal, xet_subset, xet_eligible, xet_complete and xet_check find the two sections
+ * behind the header; all other calls that read a shard's records go by the offsets in the footer. So of bytes with a
+ * wrong footer one call may read other records than another. xet_check finds such a footer.
  *
  * A call returns 0 or the number of an error. If the result is not 0, every output but a count stays as it was: what
  * `out`, `info`, `run`, `file`, `segments` and `hash` point to is not touched, unless a call says otherwise below. A
