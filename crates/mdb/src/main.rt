@@ -36,11 +36,21 @@ mod stamp;
 mod terminals;
 mod words;
 
+use std::fs;
 use std::io::IsTerminal;
 use std::process::ExitCode;
 use terminals::Terminals;
 
+/// What is opened in place of a standard stream that is closed.
+const NOTHING: &str = "/dev/null";
+
 fn main(rt: HostRuntime) -> ExitCode {
+    // A file gets the lowest number that is free. Were a standard stream closed, an output would get
+    // its number, and messages would be written into it. To these, which may only be read, a write
+    // fails.
+    let _input = fs::open(&rt, NOTHING);
+    let _output = fs::open(&rt, NOTHING);
+    let _error = fs::open(&rt, NOTHING);
     let terminals = Terminals {
         output: rt.stdout().is_terminal(),
         error: rt.stderr().is_terminal(),
