@@ -199,12 +199,25 @@ fn path_of_hash(alloc: Global, folder: &str, hash: &MerkleHash) -> ShardResult<S
     Ok(path_in(alloc, folder, name.as_str())?)
 }
 
+// Whether a path leads to a regular file; `false` also for a link that leads nowhere. Whoever opens a
+// pipe waits.
+fn is_regular<R: Files>(rt: &R, path: &str) -> io::Result<bool> {
+    match fs::metadata(rt, path) {
+        Ok(there) => Ok(there.is_file()),
+        Err(_) if fs::symlink_metadata(rt, path).is_ok() => Ok(false),
+        Err(error) => Err(error),
+    }
+}
+
 // Waits until the device has the file at a path. `None` if it has other bytes than these.
 fn id_of_synced<R: Files + AllocGlobal>(
     rt: &R,
     path: &str,
     bytes: &[u8],
 ) -> io::Result<Option<FileId>> {
+    if !is_regular(rt, path)? {
+        return Ok(None);
+    }
     let mut file = fs::open(rt, path)?;
     let there = file.metadata()?;
     if !there.is_file() || there.len() != bytes.len() as u64 {
