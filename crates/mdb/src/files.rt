@@ -197,13 +197,10 @@ pub enum Place {
 /// What a path names for writing. A link that leads nowhere is refused.
 pub fn place_at<R: Files + AllocGlobal>(rt: &R, alloc: Global, path: &str) -> io::Result<Place> {
     match fs::metadata(rt, path) {
-        Ok(there) if there.is_file() => {
-            let file = fs::canonicalize(rt, path)?;
-            Ok(Place::File {
-                target: String::from_str(alloc, file.as_str())?,
-                replaced: Some(there),
-            })
-        }
+        Ok(there) if there.is_file() => Ok(Place::File {
+            target: file_at(rt, alloc, path)?,
+            replaced: Some(there),
+        }),
         Ok(_) => Ok(Place::Other),
         Err(error) if error.kind() == ErrorKind::NotFound && !is_link(rt, path) => {
             Ok(Place::File {
@@ -213,6 +210,15 @@ pub fn place_at<R: Files + AllocGlobal>(rt: &R, alloc: Global, path: &str) -> io
         }
         Err(error) => Err(error),
     }
+}
+
+// The path of a file itself, where it is behind a link.
+fn file_at<R: Files + AllocGlobal>(rt: &R, alloc: Global, path: &str) -> io::Result<String> {
+    if !is_link(rt, path) {
+        return Ok(String::from_str(alloc, path)?);
+    }
+    let file = fs::canonicalize(rt, path)?;
+    Ok(String::from_str(alloc, file.as_str())?)
 }
 
 fn is_link<R: Files>(rt: &R, path: &str) -> bool {
