@@ -16,6 +16,7 @@ use crate::record_lines::shard_of_lines;
 use crate::record_removal::remove_records;
 use crate::request::{MakeCommand, NewExpiry, Target};
 use mdb_report::fault::{Fault, export_fault, fault_of, minimal_fault};
+use mdb_report::shown::ShownText;
 use shard_bytes::combine::{Operation, combine_bytes_in};
 use shard_bytes::export::{Export, export_bytes_in};
 use shard_bytes::minimal::{
@@ -70,10 +71,16 @@ pub fn report_leftovers<R: Files + Eprint + AllocGlobal + Clone + Drop>(rt: &R, 
         return;
     };
     for name in &names {
-        let _ = rt.eprintln(format_args!(
-            "{name}: left beside {target} by a run that was ended, or that still writes"
-        ));
+        report_leftover(rt, name.as_str(), target);
     }
+}
+
+fn report_leftover<R: Eprint>(rt: &R, name: &str, target: &str) {
+    let name = ShownText(name);
+    let target = ShownText(target);
+    let _ = rt.eprintln(format_args!(
+        "{name}: left beside {target} by a run that was ended, or that still writes"
+    ));
 }
 
 // The bytes of the shard that a command makes, in the version of a target.
