@@ -35,6 +35,8 @@ enum RequestFault<'a> {
     NoSize(&'a str),
     /// More than one word names standard input.
     InputTwice,
+    /// The folder to write to has no name.
+    NoFolder,
 }
 
 impl From<AllocError> for RequestFault<'_> {
@@ -95,6 +97,7 @@ fn message_of(alloc: Global, fault: &RequestFault<'_>) -> Result<String, AllocEr
             format!(in alloc; "'{word}' is no size: it is a number of bytes, or as 64K, 256M, 2G")
         }
         RequestFault::InputTwice => String::from_str(alloc, "standard input can be read only once"),
+        RequestFault::NoFolder => String::from_str(alloc, "'' is no folder"),
     }
 }
 
@@ -420,6 +423,7 @@ fn target_in<'a>(matches: &ArgMatches<'a>) -> Result<Target<'a>, RequestFault<'a
 // The path to write to: of a merge by keys a folder.
 fn output_in<'a>(matches: &ArgMatches<'a>) -> Result<&'a str, RequestFault<'a>> {
     match (matches.get_str(id::FOLDER), matches.get_str(id::GROUPS)) {
+        (Some(""), _) | (None, Some("")) => Err(RequestFault::NoFolder),
         (Some(folder), _) | (None, Some(folder)) => Ok(folder),
         (None, None) => text_of(matches, id::OUTPUT),
     }
