@@ -7,7 +7,7 @@ import shutil
 import subprocess
 import time
 
-from mdb_system import TOP, many_shards, wants
+from mdb_system import TOP, many_shards, needs_root, wants
 
 KEY = "0" * 63 + "7"
 # What .ci/kill_at.c ends with.
@@ -199,6 +199,109 @@ def runs_at_once_lose_nothing(place):
         wants("no lock is left", ".mdb.lock" not in os.listdir(place.path("store")))
 
 
+def merge_to_store(place, *words, **how):
+    return place.run("merge", "many", "--to", "store", "--max-size", "150K", "--hash-key", KEY, *words, **how)
+
+
+def lock_is_written_to_nothing_else(place):
+    many_shards(place, 2)
+    os.mkdir(place.path("store"))
+    lock = place.path("store/.mdb.lock")
+    said = b"store: .mdb.lock there is not the lock of a run\n"
+    for content, put in ((b"1\n", os.symlink), (b"1\n", os.link), (b"more than a number of a process", os.rename)):
+        place.write("other", content)
+        put(place.path("other"), lock)
+        run = merge_to_store(place)
+        with open(lock, "rb") as file:
+            wants("it stays", (file.read(), run.returncode, run.stderr) == (content, 1, said))
+        os.unlink(lock)
+    os.symlink("nothing", lock)
+    run = merge_to_store(place)
+    wants("a link to nothing", (run.returncode, run.stderr) == (1, said))
+    wants("nothing is made", not os.path.exists(place.path("store/nothing")))
+
+
+def lock_of_another_user(place):
+    needs_root()
+    many_shards(place, 2)
+    shutil.copy(place.program, place.path("mdb"))
+    os.mkdir(place.path("store"))
+    os.chmod(place.path("store"), 0o777)
+    os.chmod(place.folder, 0o755)
+    place.program = place.path("mdb")
+    place.write("store/.mdb.lock", b"1\n")
+
+    def as_nobody():
+        os.setgid(65534)
+        os.setuid(65534)
+
+    with open(place.path("store/.mdb.lock"), "rb") as file:
+        fcntl.flock(file, fcntl.LOCK_EX)
+        run = merge_to_store(place, preexec_fn=as_nobody)
+        said = b"store: another run works there, process 1: it has locked .mdb.lock\n"
+        wants("it keeps a run out", (run.returncode, run.stderr) == (1, said))
+    run = merge_to_store(place, preexec_fn=as_nobody)
+    wants("that of a killed run does not", (run.returncode, run.stderr) == (0, b""))
+    wants("it is removed", ".mdb.lock" not in os.listdir(place.path("store")))
+
+
+def inputs_are_removed_by_one_run(place):
+    """The folders of inputs are locked too: what one run reads may be what another one has written."""
+    many_shards(place, 4)
+    os.mkdir(place.path("store"))
+    before = sorted(os.listdir(place.path("many")))
+    place.write("many/.mdb.lock", b"77\n")
+    with open(place.path("many/.mdb.lock"), "rb") as file:
+        fcntl.flock(file, fcntl.LOCK_EX)
+        run = merge_to_store(place, "--remove-inputs")
+        said = b"many: another run works there, process 77: it has locked .mdb.lock\n"
+        wants("a lock of inputs", (run.returncode, run.stdout, run.stderr) == (1, b"", said))
+        wants("nothing is made", os.listdir(place.path("store")) == [])
+        wants("a merge that removes nothing", merge_to_store(place).returncode == 0)
+    wants("the inputs", sorted(os.listdir(place.path("many"))) == [".mdb.lock", *before])
+    run = merge_to_store(place, "--remove-inputs")
+    wants("they are removed", (run.returncode, os.listdir(place.path("many"))) == (0, []))
+    # Inputs in the target's folder, which this run has locked itself, and by another path.
+    store = place.path("store")
+    for word in ("store", "store/../store", store):
+        words = ("merge", word, "--to", "store", "--max-size", "1M", "--hash-key", KEY, "--remove-inputs")
+        run = place.run(*words)
+        wants(word, (run.returncode, run.stderr, len(os.listdir(store))) == (0, b"", 1))
+
+
+def result_that_is_a_pipe_is_refused(place):
+    many_shards(place, 2)
+    os.mkdir(place.path("store"))
+    path = merge_to_store(place).stdout.decode().strip()
+    name = os.path.basename(path)
+    for put in (os.mkfifo, lambda at: os.symlink("nothing", at), os.mkdir):
+        shutil.rmtree(place.path("store"))
+        os.mkdir(place.path("store"))
+        put(place.path(path))
+        run = merge_to_store(place)
+        said = f"store: {name} is there, with other bytes than its name says\n"
+        wants("it is refused", (run.returncode, run.stderr.decode()) == (1, said))
+
+
+def opposite_runs_lose_nothing(place):
+    """Each of two runs at once reads, and removes, what the other one has written."""
+    many_shards(place, 12)
+    wants("a merge", place.run("merge", "many", "-o", "wanted.mdb").returncode == 0)
+    more = ["--max-size", "150K", "--hash-key", KEY, "--remove-inputs"]
+    for turn in range(10):
+        os.makedirs(place.path("store"), exist_ok=True)
+        runs = []
+        for source, target in (("many", "store"), ("store", "many")):
+            words = [place.program, "merge", source, "--to", target, *more]
+            runs.append(subprocess.Popen(words, stdout=subprocess.DEVNULL, stderr=subprocess.PIPE, cwd=place.folder))
+            time.sleep(0.002 * turn)
+        for run in runs:
+            said = run.communicate(timeout=20)[1]
+            wants("how it ends", (run.returncode, said) == (0, b"") or b"another run works there" in said)
+        wants("a merge of all", place.run("merge", "many", "store", "-o", "all.mdb").returncode == 0)
+        wants("no record is lost", place.read("all.mdb") == place.read("wanted.mdb"))
+
+
 def what_is_no_shard_is_looked_at_alone(place):
     # A header and 2 GiB of zeros, without a footer; and zeros alone.
     for name, start in (("header.mdb", place.made["one_file.mdb"][:48]), ("zeros.mdb", b"")):
@@ -251,5 +354,7 @@ def quiet_says_nothing(place):
 
 ROWS = (
     inputs_are_removed, some_inputs_stay, killed_at_each_call_loses_nothing, changed_inputs_stay,
-    second_run_finds_the_lock, runs_at_once_lose_nothing, what_is_no_shard_is_looked_at_alone, quiet_says_nothing,
+    second_run_finds_the_lock, runs_at_once_lose_nothing, lock_is_written_to_nothing_else, lock_of_another_user,
+    inputs_are_removed_by_one_run, result_that_is_a_pipe_is_refused, opposite_runs_lose_nothing,
+    what_is_no_shard_is_looked_at_alone, quiet_says_nothing,
 )

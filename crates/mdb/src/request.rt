@@ -154,6 +154,16 @@ pub struct Merge<'a> {
     pub compaction: Option<Compaction>,
 }
 
+impl Merge<'_> {
+    /// Whether the shards are removed once they are merged.
+    pub fn removes_inputs(&self) -> bool {
+        match self.compaction {
+            Some(compaction) => compaction.remove_inputs,
+            None => false,
+        }
+    }
+}
+
 /// How shards are merged in groups.
 #[derive(Clone, Copy)]
 pub struct Compaction {

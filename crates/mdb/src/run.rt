@@ -5,7 +5,7 @@ ghost use Rattle.mdb.specs.Status.{number_of, after_finding};
 
 use crate::arguments::request_of;
 use crate::failure::Failure;
-use crate::folder_lock::{FolderLock, Locks};
+use crate::folder_lock::{FolderLock, LockFailure, Locks, lock_folders};
 use crate::gc::collect_garbage;
 use crate::hash_list::add_listed;
 use crate::inputs::inputs_of;
@@ -161,23 +161,43 @@ fn status_of_merge<
             lock.release(rt);
             status
         }
-        Err(fault) => {
-            let folder = ShownText(folder);
-            let _ = rt.eprintln(format_args!("{folder}: {fault}"));
-            Status::Failed
-        }
+        Err(fault) => report_lock(rt, &LockFailure { folder, fault }),
     }
+}
+
+fn report_lock<R: Eprint>(rt: &R, failure: &LockFailure<'_>) -> Status {
+    let _ = rt.eprintln(failure);
+    Status::Failed
 }
 
 // Merges shards, if none of what names them failed.
 fn status_of_sources<
-    R: Files + Input + Clock + Print + Eprint + RandomSource + AllocGlobal + Clone + Drop,
+    R: Locks + Input + Clock + Print + Eprint + RandomSource + AllocGlobal + Clone + Drop,
 >(rt: &R, sources: &Sources<'_>, merge: Merge<'_>, terminals: Terminals) -> Status {
     match inputs_of(rt, sources, &[]) {
         Ok(inputs) if inputs.failed => Status::Failed,
+        Ok(inputs) if merge.removes_inputs() => {
+            status_under_locks(rt, inputs.paths.as_slice(), merge, terminals)
+        }
         Ok(inputs) => status_of_files(rt, inputs.paths.as_slice(), merge, terminals),
         Err(_) => report_failure(rt, &Failure::on_words(Fault::OutOfMemory)),
     }
+}
+
+// Merges shards, and removes them, under the locks of their folders. Two runs, each of which writes
+// to the folder that the other one reads, would else remove each other's results.
+fn status_under_locks<
+    R: Locks + Input + Clock + Print + Eprint + RandomSource + AllocGlobal + Clone + Drop,
+>(rt: &R, paths: &[String], merge: Merge<'_>, terminals: Terminals) -> Status {
+    let mut locks = Vec::new(rt.alloc());
+    let status = match lock_folders(rt, paths, merge.target.path, &mut locks) {
+        Ok(()) => status_of_files(rt, paths, merge, terminals),
+        Err(failure) => report_lock(rt, &failure),
+    };
+    for lock in locks {
+        lock.release(rt);
+    }
+    status
 }
 
 fn status_of_files<
