@@ -54,9 +54,13 @@ def wants(said, holds):
         raise AssertionError(said)
 
 
+class Absent(Exception):
+    """A row needs what is not here."""
+
+
 def needs_root():
     if os.geteuid() != 0:
-        raise PermissionError
+        raise Absent
 
 
 def new_file_has_the_mode_of_others(place):
@@ -473,6 +477,75 @@ def groups_are_named_by_their_bytes(place):
     wants("nothing else is there", sorted(paths) == [f"store/{it}" for it in sorted(os.listdir(place.path("store")))])
 
 
+def closed_streams_get_no_file(place):
+    """Messages are not written into an output that got the number of a standard stream."""
+    other = bytearray(place.made["one_file.mdb"])
+    # The bytes of its segment, whose row begins at 96.
+    other[132] += 1
+    place.write("other.mdb", other)
+    words = ("merge", "one_file.mdb", "other.mdb", "-o", "out.mdb")
+    run = place.run(*words)
+    wants("a report", (run.returncode, b"a record differs" in run.stderr) == (0, True))
+    made = place.read("out.mdb")
+    for more in ((), ("--memory", "1M")):
+        for streams in ((0,), (1,), (2,), (0, 1, 2)):
+            def close(streams=streams):
+                for it in streams:
+                    os.close(it)
+
+            os.unlink(place.path("out.mdb"))
+            run = place.run(*words, *more, preexec_fn=close)
+            wants("status", run.returncode == 0)
+            wants("what is made", place.read("out.mdb") == made)
+    run = place.run("info", "both.mdb", preexec_fn=lambda: os.close(1))
+    wants("what is printed to none", run.returncode == 1)
+
+
+def folder_without_a_name_is_none(place):
+    for words in (("--by-key", ""), ("--to", "", "--max-size", "1M", "--hash-key", "7" * 64)):
+        run = place.run("merge", "both.mdb", *words)
+        wants(words[0], (run.returncode, b"'' is no folder" in run.stderr) == (2, True))
+
+
+def names_that_are_no_text_are_not_opened(place):
+    place.write("\\xff", b"both.mdb\n")
+    said = b"\\xff: the name is not UTF-8, so it can't be opened\n"
+    for words in (
+        ("info", "--files-from", b"\xff"), ("report", "both.mdb", "-o", b"\xff"),
+        ("find", "both.mdb", "--hashes-from", b"\xff"),
+        ("subset", "both.mdb", "--hashes-from", b"\xff", "-o", "out.mdb"),
+    ):
+        run = place.run(*words)
+        wants(words[0], (run.returncode, run.stdout, run.stderr) == (1, b"", said))
+    wants("it stays", place.read("\\xff") == b"both.mdb\n")
+
+
+def input_is_read_once(place):
+    said = b"-: it can be read only once\n"
+    place.write("list", b"-\n-\n")
+    run = place.run("info", "--brief", "--files-from", "list", input=place.made["both.mdb"])
+    wants("named twice in a list", (run.returncode, run.stderr) == (1, said))
+    run = place.run("info", "--brief", "--files-from", "-", input=b"-\n")
+    wants("named in itself", (run.returncode, run.stderr) == (1, said))
+
+
+def controls_in_names_that_are_left_are_not_printed(place):
+    place.write("t\x1b[31mx.mdb.0123456789abcdef.new", b"")
+    run = place.merge("t\x1b[31mx.mdb")
+    name = "t\\u{1b}[31mx.mdb"
+    said = f"{name}.0123456789abcdef.new: left beside {name} by a run that was ended, or that still writes\n"
+    wants("it is named", (run.returncode, run.stderr.decode()) == (0, said))
+
+
+def file_is_replaced_in_any_folder(place):
+    folder = os.path.join(place.folder.encode(), b"d\xff")
+    os.mkdir(folder)
+    words = [place.program, "merge", "../both.mdb", "-o", "out.mdb"]
+    for _ in range(2):
+        run = subprocess.run(words, capture_output=True, cwd=folder, timeout=20, check=False)
+        wants("status", (run.returncode, run.stderr) == (0, b""))
+
+
 def lists_may_end_with_zero_bytes(place):
     place.write("list", b"both.mdb\0one_file.mdb\0")
     run = place.run("info", "--brief", "--null", "--files-from", "list")
@@ -530,7 +603,10 @@ ROWS = (
     terminal_shows_progress, now_is_the_clock, merge_in_parts_is_the_merge, merge_in_parts_takes_little_memory,
     merge_of_more_than_memory_reads_ends_alone, failed_merge_in_parts_leaves_the_target,
     killed_merge_in_parts_leaves_one_file, merge_in_parts_wants_regular_files, groups_are_named_by_their_bytes,
-    lists_may_end_with_zero_bytes, garbage_in_little_memory_is_the_same, pages_have_all_commands,
+    closed_streams_get_no_file, folder_without_a_name_is_none,
+    names_that_are_no_text_are_not_opened, input_is_read_once, controls_in_names_that_are_left_are_not_printed,
+    file_is_replaced_in_any_folder, lists_may_end_with_zero_bytes, garbage_in_little_memory_is_the_same,
+    pages_have_all_commands,
 )
 
 
@@ -543,7 +619,7 @@ def check_rows(program, made, rows):
             try:
                 row(Place(program, folder, made))
                 answers.append((name, None))
-            except PermissionError:
+            except Absent:
                 answers.append((name, SKIPPED))
             except (AssertionError, ValueError, OSError, subprocess.TimeoutExpired) as why:
                 answers.append((name, f"{type(why).__name__}: {why}"))

@@ -3,20 +3,26 @@
 use crate::failure::Failure;
 use crate::files::read;
 use crate::request::{HashList, MakeCommand, Request};
+use crate::words::is_among;
 use mdb_report::fault::Fault;
 use mdb_report::inquiry::Inquiry;
 use shard_bytes::minimal::KeptXorbs;
 use std::rt::Files;
 use xet_core_structures::merklehash::MerkleHash;
 
-/// Adds the hashes in the list that a request names, if it names one, to its own.
+/// Adds the hashes in the list that a request names, if it names one, to its own. Some words are no
+/// text, so that no file can be opened by them.
 pub fn add_listed<'a, R: Files + Input + AllocGlobal>(
     rt: &R,
     request: &mut Request<'a>,
+    unreadable: &[String],
 ) -> Result<(), Failure<'a>> {
     let Some(list) = list_of(request) else {
         return Ok(());
     };
+    if is_among(unreadable, list.path) {
+        return Err(Failure::on_file(list.path, Fault::NoText));
+    }
     match request {
         Request::Inspect(_, inquiry, _) => add_to_inquiry(rt, list, inquiry),
         Request::Make(MakeCommand::Drop(removal), _) => add_from(rt, list, &mut removal.hashes),

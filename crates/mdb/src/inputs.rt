@@ -4,7 +4,7 @@ use crate::failure::Failure;
 use crate::files::{STANDARD_STREAM, read};
 use crate::request::Sources;
 use crate::run::report_failure;
-use crate::words::escape_word;
+use crate::words::{escape_word, is_among};
 use mdb_report::fault::Fault;
 use std::alloc::{AllocError, Global};
 use std::io::Read;
@@ -28,6 +28,8 @@ pub struct Inputs {
     pub failed: bool,
     /// What was reported of such paths.
     pub failures: Vec<String>,
+    /// Whether something that was named reads standard input.
+    pub reads_input: bool,
 }
 
 /// The shards that sources name: each folder stands for the shards in it. Some words are no text,
@@ -42,27 +44,36 @@ pub fn inputs_of<R: Files + Input + Eprint + AllocGlobal + Clone + Drop>(
         named: sources.list.is_some() || sources.words.len() > 1,
         failed: false,
         failures: Vec::new(rt.alloc()),
+        reads_input: sources.reads_input_as_list(),
     };
     for word in &sources.words {
-        if unreadable.iter().any(|text| text.as_str() == *word) {
+        if is_among(unreadable, word) {
             inputs.report(rt, word, Fault::NoText)?;
         } else {
             inputs.add(rt, word)?;
         }
     }
-    if let Some(list) = sources.list {
-        inputs.add_list(rt, list, sources.end)?;
+    match sources.list {
+        Some(list) if is_among(unreadable, list) => inputs.report(rt, list, Fault::NoText)?,
+        Some(list) => inputs.add_list(rt, list, sources.end)?,
+        None => {}
     }
     Ok(inputs)
 }
 
 impl Inputs {
-    // Adds a path, or the shards in the folder there.
+    // Adds a path, or the shards in the folder there. Standard input can be read only once.
     fn add<R: Files + Eprint + AllocGlobal + Clone + Drop>(
         &mut self,
         rt: &R,
         path: &str,
     ) -> Result<(), AllocError> {
+        if path == STANDARD_STREAM {
+            if self.reads_input {
+                return self.report(rt, path, Fault::InputTwice);
+            }
+            self.reads_input = true;
+        }
         if is_folder(rt, path) {
             self.named = true;
             return self.add_folder(rt, path);

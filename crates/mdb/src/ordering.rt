@@ -30,6 +30,7 @@ pub fn inputs_in_order<R: Files + AllocGlobal>(
         named,
         failed,
         failures,
+        reads_input,
     } = inputs;
     let mut ranked = Vec::new(rt.alloc());
     for path in paths {
@@ -46,6 +47,7 @@ pub fn inputs_in_order<R: Files + AllocGlobal>(
         named,
         failed,
         failures,
+        reads_input,
     })
 }
 

@@ -1,5 +1,6 @@
 //! Requests: the commands as values, with all that their arguments say.
 
+use crate::files::STANDARD_STREAM;
 use mdb_report::inquiry::Inquiry;
 use mdb_report::line::Style;
 use shard_bytes::combine::Operation;
@@ -88,6 +89,18 @@ pub struct Sources<'a> {
     pub hashes: Option<HashList<'a>>,
     /// The byte that ends a path in the list.
     pub end: u8,
+}
+
+impl Sources<'_> {
+    /// Whether a list is read from standard input.
+    pub fn reads_input_as_list(&self) -> bool {
+        if let Some(hashes) = self.hashes
+            && hashes.path == STANDARD_STREAM
+        {
+            return true;
+        }
+        self.list == Some(STANDARD_STREAM)
+    }
 }
 
 /// A file that lists hashes.

@@ -16,10 +16,9 @@ use crate::ordering::inputs_in_order;
 use crate::report::report;
 use crate::request::{Merge, Request, Sources};
 use crate::terminals::Terminals;
-use crate::words::{Words, read_words};
+use crate::words::{Words, is_among, read_words};
 use mdb_report::fault::Fault;
 use mdb_report::moment::seconds_now;
-use mdb_report::shown::ShownText;
 use std::alloc::AllocError;
 use std::random::RandomSource;
 use std::rt::{Clock, Env, Files};
@@ -101,7 +100,7 @@ fn status_of_error<R: Print + Eprint>(rt: &R, error: &clap::Error) -> Status {
 fn status_of_request<
     R: Locks + Input + Clock + Print + Eprint + RandomSource + AllocGlobal + Clone + Drop,
 >(rt: &R, request: &mut Request<'_>, unreadable: &[String], terminals: Terminals) -> Status {
-    match add_listed(rt, request) {
+    match add_listed(rt, request, unreadable) {
         Ok(()) => status_of(rt, request, unreadable, terminals),
         Err(failure) => report_failure(rt, &failure),
     }
@@ -128,6 +127,9 @@ fn status_of<R: Locks + Input + Clock + Print + Eprint + RandomSource + AllocGlo
             Ok(inputs) => collect_garbage(rt, &inputs, *collection, terminals),
             Err(_) => report_failure(rt, &Failure::on_words(Fault::OutOfMemory)),
         },
+        Request::Report(_, reporting) if is_among(unreadable, reporting.output) => {
+            report_failure(rt, &Failure::on_file(reporting.output, Fault::NoText))
+        }
         Request::Report(sources, reporting) => match inputs_of(rt, sources, unreadable) {
             Ok(inputs) => report(rt, &inputs, sources.words.as_slice(), *reporting, terminals),
             Err(_) => report_failure(rt, &Failure::on_words(Fault::OutOfMemory)),

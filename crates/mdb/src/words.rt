@@ -45,6 +45,11 @@ impl From<WordsError> for Fault {
     }
 }
 
+/// Whether a word is among others.
+pub fn is_among(words: &[String], word: &str) -> bool {
+    words.iter().any(|it| it.as_str() == word)
+}
+
 /// The words that the program was started with.
 pub fn read_words<R: Env + AllocGlobal>(rt: &R) -> Result<Words, WordsError> {
     let alloc = rt.alloc();

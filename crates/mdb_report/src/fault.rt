@@ -63,6 +63,8 @@ pub enum Fault {
     NoText,
     /// A word has more bytes than are read.
     LongWord,
+    /// Standard input is named again.
+    InputTwice,
     /// Bytes are to be written to a terminal.
     Terminal,
     /// A merge with `--memory` or `--to`, or `gc`, is to read what is no regular file.
@@ -157,6 +159,7 @@ impl Fault {
             Fault::NoFiles => "there are no files to merge",
             Fault::NoText => "the name is not UTF-8, so it can't be opened",
             Fault::LongWord => "an argument is too long",
+            Fault::InputTwice => "it can be read only once",
             Fault::Terminal => "it is a terminal: write the shard to a file, by -o, or to a pipe",
             Fault::NoParts => "it is no regular file, which --memory, --to, gc and report need",
             Fault::NoPlace => "it is no regular file, which --memory needs to write to",
