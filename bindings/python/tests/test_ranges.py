@@ -6,6 +6,7 @@ import mmap
 import os
 import random
 import sys
+import threading
 
 sys.dont_write_bytecode = True
 sys.path.insert(0, os.path.dirname(os.path.realpath(__file__)))
@@ -257,6 +258,46 @@ def test_a_range_that_fails():
             assert xet_shards.merge(shards, threads=2) == whole
         finally:
             setattr(ranges, name, original)
+
+
+def test_threads_that_nobody_waits_for():
+    """A thread holds the bytes of the shards until its merge is done, also if no one waits for it any more."""
+    runs, goes_on, done = threading.Event(), threading.Event(), threading.Event()
+    shards = [bytearray(ONE_FILE), bytearray(XORB_AND_FILE)]
+    library, pool_class = ranges._library, ranges.ThreadPoolExecutor
+
+    class Interrupted(pool_class):
+        """Is interrupted once a thread runs, and again while it waits for that to end."""
+
+        def submit(self, *arguments):
+            super().submit(*arguments)
+            assert runs.wait(60)
+            raise KeyboardInterrupt
+
+        def __exit__(self, *_):
+            raise KeyboardInterrupt
+
+    class Slow:
+        def __getattr__(self, name):
+            return getattr(library, name)
+
+        @staticmethod
+        def xet_merge_range(*arguments):
+            runs.set()
+            goes_on.wait(60)
+            number = library.xet_merge_range(*arguments)
+            done.set()
+            return number
+
+    ranges._library, ranges.ThreadPoolExecutor = Slow(), Interrupted
+    try:
+        raises(KeyboardInterrupt, ranges.range_merges, shards, 2, False, hash_text("0"), None)
+        raises(BufferError, shards[0].append, 0)
+        goes_on.set()
+        assert done.wait(60)
+    finally:
+        goes_on.set()
+        ranges._library, ranges.ThreadPoolExecutor = library, pool_class
 
 
 def test_merges_of_rows():

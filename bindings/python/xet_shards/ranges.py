@@ -62,6 +62,7 @@ def range_merges(
     The list is empty if there is no hash to cut at, or if with `strict` the shards are malformed or do not agree.
     """
     bounds = [None if it is None else tuple(_words(it)) for it in (start, stop)]
+    # Threads take the addresses anew, since they may go on when whoever waits for them is interrupted.
     with _Addresses(*shards) as data, ThreadPoolExecutor(threads) as pool:
         bounds[1:1] = cuts(data, threads, *bounds)
         if len(bounds) == 2:
@@ -70,48 +71,50 @@ def range_merges(
         if strict:
             checks = [pool.submit(it, shards) for it in (find_disagreement, find_malformed)]
         ranges = [_range(*it) for it in zip(bounds, bounds[1:])]
-        listed, count = _list(data), len(data)
         # As in xet_union_room of xet.h.
         room = 352 + sum(length for _, length in data) // 3 * 8
 
         def merged(calls: Sequence[Any]) -> List[memoryview]:
-            merges = [pool.submit(_range_merge, call, (listed, count, *of), room) for call, of in calls]
+            merges = [pool.submit(_range_merge, shards, call, of, room) for call, of in calls]
             return [it.result() for it in merges] if all(it.result() is None for it in checks) else []
 
         if start is None and stop is None:
             try:
-                return merged(_row_calls(listed, count, ranges, pool))
+                return merged(_row_calls(shards, ranges, pool))
             except XetError:
                 # A shard lacks tables, they are wrong, or a cut is not the least hash with its first word.
                 pass
         return merged([(_library.xet_merge_range, (byref(it),)) for it in ranges])
 
 
-def _row_calls(listed: Any, count: int, ranges: Sequence[_Range], pool: ThreadPoolExecutor) -> List[Any]:
+def _row_calls(shards: Sequence[Buffer], ranges: Sequence[_Range], pool: ThreadPoolExecutor) -> List[Any]:
     """Returns for each range the call that merges its rows, which are those between its end and that of the one before.
 
     The tables that say where ranges end are not trusted. A call refuses rows with anything else than the records of its
     range. If none does, they have written what merges of the ranges are.
     """
+    count = len(shards)
     ends: List[Any] = [(_Rows * count)()]
-    ends += pool.map(lambda it: _range_ends(listed, count, it), ranges)
+    ends += pool.map(lambda it: _range_ends(shards, it), ranges)
     return [
         (_library.xet_merge_rows, (start, count, end, count, byref(it))) for start, end, it in zip(ends, ends[1:], ranges)
     ]
 
 
-def _range_ends(listed: Any, count: int, asked: _Range) -> Any:
-    ends, written = (_Rows * count)(), c_size_t()
-    _check(_library.xet_find_ends(listed, count, byref(asked), ends, count, byref(written)))
+def _range_ends(shards: Sequence[Buffer], asked: _Range) -> Any:
+    ends, written = (_Rows * len(shards))(), c_size_t()
+    with _Addresses(*shards) as data:
+        _check(_library.xet_find_ends(_list(data), len(data), byref(asked), ends, len(ends), byref(written)))
     return ends
 
 
-def _range_merge(call: Any, arguments: Sequence[Any], room: int) -> memoryview:
+def _range_merge(shards: Sequence[Buffer], call: Any, arguments: Sequence[Any], room: int) -> memoryview:
     # Pages that no one writes to cost nothing, and the system reserves no memory for them.
     out, written = mmap.mmap(-1, room, flags=mmap.MAP_PRIVATE | mmap.MAP_ANONYMOUS | _MAP_NORESERVE), c_size_t()
     array = (c_char * room).from_buffer(out)
     _advise_large_pages(ctypes.addressof(array), room)
-    _check(call(*arguments, array, room, byref(written)))
+    with _Addresses(*shards) as data:
+        _check(call(_list(data), len(data), *arguments, array, room, byref(written)))
     return memoryview(out)[: written.value]
 
 
