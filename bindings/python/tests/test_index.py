@@ -2,6 +2,7 @@
 
 Runs with pytest, or as a program, which ends with the line 'N passed, M failed'.
 """
+import concurrent.futures
 import contextlib
 import os
 import pathlib
@@ -381,6 +382,65 @@ def test_index_in_threads():
     for it in threads:
         it.join()
     assert not wrong and list(index) == [0]
+
+
+def in_threads(count, call):
+    """Makes a call in so many threads at once, and returns what each returns or raises."""
+    start = threading.Barrier(count)
+
+    def one(_):
+        start.wait()
+        try:
+            return call()
+        except Exception as error:
+            return error
+
+    with concurrent.futures.ThreadPoolExecutor(count) as pool:
+        return list(pool.map(one, range(count)))
+
+
+def test_saved_in_threads():
+    index = index_of(*(shard_of(f"xorb {it} 21:5") for it in range(10, 40)))
+    with tempfile.TemporaryDirectory() as folder:
+        path = pathlib.Path(folder, "chunks")
+        for _ in range(5):
+            assert in_threads(4, lambda: index.save(path)) == [None] * 4
+            assert os.listdir(folder) == ["chunks"] and len(xet_shards.Index.open(path)) == 1
+        # A shard that is removed after it was taken for a merge is in the file.
+        groups = index._groups
+
+        def removed_since(*arguments):
+            found = groups(*arguments)
+            for it in list(index):
+                index.remove(it)
+            return found
+
+        index._groups = removed_since
+        index.save(path)
+        assert xet_shards.Index.open(path).query([hash_text("21")]) and len(index) == 0
+
+
+def test_removed_in_threads():
+    for _ in range(5):
+        index = index_of(*(keyed(shard_of(f"xorb {it} 21:5")) for it in range(10, 30)))
+        numbers = list(index)
+        removed = in_threads(4, lambda: index.remove_expired(1060))
+        assert sorted(it for one in removed for it in one) == numbers and len(index) == 0
+
+
+def test_hashes_that_change():
+    """A list that another thread adds to while it is read is taken as it was."""
+    class Growing(list):
+        def __iter__(self):
+            found = list(super().__iter__())
+            self.append(hash_text("22"))
+            return iter(found)
+
+    shard = shard_of("xorb 10 21:5 22:6")
+    for call in (xet_shards.query_chunks, lambda *it: xet_shards.query_at(*it, 0, 0)):
+        assert call(shard, Growing([hash_text("21")])).count == 1
+    assert index_of(shard).query(Growing([hash_text("21")]))[1].count == 1
+    assert xet_shards.subset(shard, 9, None, Growing([hash_text("10")])) == xet_shards.subset(shard, 9)
 
 
 def longest(shards, wanted):

@@ -62,10 +62,12 @@ def _text(words: Sequence[int]) -> str:
     return _WORDS.pack(*words).hex()
 
 
-def _hashes(texts: Sequence[str]) -> ctypes.Array[Any]:
+def _hashes(texts: Sequence[str]) -> Tuple[ctypes.Array[Any], int]:
+    """Returns an array of these hashes, and their number."""
     words = array("Q", b"".join(map(_digits, texts)))
     words.byteswap()
-    return (_Hash * len(texts)).from_buffer_copy(words) if texts else _array(_Hash, 0)
+    count = len(words) // 4
+    return (_Hash * count).from_buffer_copy(words) if count else _array(_Hash, 0), count
 
 
 def _array_of(item: Any, items: List[Any]) -> Tuple[ctypes.Array[Any], int]:

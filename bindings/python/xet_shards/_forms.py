@@ -60,13 +60,13 @@ def subset(
     A hash that no xorb has is passed over. It expires at `expiry`, in seconds; None and 0 mean that it does not.
     It is in version 3 of the format, or in `version` 2.
     """
-    listed = _hashes(xorbs or [])
+    listed, count = _hashes(xorbs or [])
     options = _Subset(_seconds(now), _seconds(expiry or 0), xorbs is None)
     with _Addresses(shard) as [data]:
         return _made(
             data[1],
             lambda out, room, written: _library.xet_subset_in(
-                *data, byref(options), listed, len(xorbs or []), _number(version), out, room, byref(written)
+                *data, byref(options), listed, count, _number(version), out, room, byref(written)
             ),
         )
 

@@ -123,9 +123,9 @@ def query_chunks(shard: Buffer, hashes: Sequence[str]) -> Optional[Run]:
 
     In a shard without a table of chunks, as a minimal one, none is found.
     """
-    wanted, count, run = _hashes(hashes), c_size_t(), _Segment()
+    count, run = c_size_t(), _Segment()
     with _Addresses(shard) as [data]:
-        _check(_library.xet_query_chunks(*data, wanted, len(hashes), byref(count), byref(run)))
+        _check(_library.xet_query_chunks(*data, *_hashes(hashes), byref(count), byref(run)))
     return Run(count.value, _segment(run)) if count.value else None
 
 
@@ -134,7 +134,7 @@ def query_at(shard: Buffer, hashes: Sequence[str], row: int, index: int) -> Opti
 
     The hashes are not keyed. It is None if the chunk has another hash than the first.
     """
-    return _run_at(shard, _hashes(hashes), len(hashes), _number(row), _number(index))
+    return _run_at(shard, *_hashes(hashes), _number(row), _number(index))
 
 
 def _run_at(shard: Buffer, wanted: ctypes.Array[Any], length: int, row: int, index: int) -> Optional[Run]:

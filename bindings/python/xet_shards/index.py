@@ -2,8 +2,10 @@
 from __future__ import annotations
 
 import builtins
+import contextlib
 import mmap
 import os
+import secrets
 import struct
 import threading
 from array import array
@@ -181,8 +183,9 @@ class Index:
     def open(cls, path: Path) -> Index:
         """Maps a file that `save` wrote, whose shards are used in place. Shards can be added to it, and it be saved.
 
-        The errors are those of opening a file, and those of `load` of the bytes of its shards. The file must not be cut
-        short while it is mapped: reading behind its end ends the process. `save` replaces it, which does no harm.
+        The errors are those of opening a file, those of `load` of the bytes of its shards, and `InvalidShard` if one of
+        them would start in front of the file. It must not be cut short while it is mapped: reading behind its end ends
+        the process. `save` replaces it, which does no harm.
         """
         index = cls()
         with builtins.open(path, "rb") as file:
@@ -203,37 +206,31 @@ class Index:
         It takes as much memory as `merge`, which returns the shard. The errors are those of writing a file, and those
         of `merge`, where `index` is the number of the shard.
         """
-        new = f"{os.fsdecode(path)}.{os.getpid()}.new"
-        try:
-            with builtins.open(new, "xb") as file:
-                for expiry, numbers in self._groups(now, resolution):
-                    for part in _without_files(self._merged(numbers), expiry):
+        # Other threads and processes may save to the same path.
+        new = f"{os.fsdecode(path)}.{secrets.token_hex(8)}.new"
+        with builtins.open(new, "xb") as file:
+            try:
+                for expiry, shards in self._groups(now, resolution):
+                    for part in _without_files(_merged(shards), expiry):
                         file.write(part)
                 file.flush()
                 os.fsync(file.fileno())
-            os.replace(new, path)
-        except BaseException:
-            if os.path.exists(new):
-                os.unlink(new)
-            raise
+                os.replace(new, path)
+            except BaseException:
+                with contextlib.suppress(FileNotFoundError):
+                    os.unlink(new)
+                raise
 
-    def _groups(self, now: Optional[int], resolution: int) -> List[Tuple[int, List[int]]]:
-        """Returns the numbers of the shards to merge, which have one key, each list with the expiry of its merge."""
-        groups: Dict[Tuple[str, int], List[int]] = {}
+    def _groups(self, now: Optional[int], resolution: int) -> List[Tuple[int, Dict[int, Buffer]]]:
+        """Returns the shards to merge, which have one key, by their numbers, with the expiry of their merge."""
+        groups: Dict[Tuple[str, int], Dict[int, Buffer]] = {}
         for number, it in list(self._shards.items()):
             if not it.has_expired(now):
                 # A multiple that is 0 would be none.
                 expiry = max(it.expiry // resolution * resolution, 1)
                 expiry = NO_EXPIRY if it.expiry in (0, NO_EXPIRY) else expiry
-                groups.setdefault((it.key, expiry), []).append(number)
-        return [(expiry, numbers) for (_, expiry), numbers in groups.items()]
-
-    def _merged(self, numbers: Sequence[int]) -> bytes:
-        try:
-            return merge([self[it] for it in numbers])
-        except XetError as error:
-            place = None if error.index is None else numbers[error.index]
-            raise XetError(error.number, place, error.reason) from None
+                groups.setdefault((it.key, expiry), {})[number] = it.shard
+        return [(expiry, shards) for (_, expiry), shards in groups.items()]
 
     def add(self, shard: Buffer, in_place: bool = False) -> int:
         """Adds the chunks of a shard, and returns its number, which no other shard of the index gets.
@@ -273,10 +270,14 @@ class Index:
 
     def remove_expired(self, now: int) -> List[int]:
         """Removes the shards that have expired, and returns their numbers."""
-        expired = [number for number, it in list(self._shards.items()) if it.has_expired(_seconds(now))]
-        for number in expired:
-            self.remove(number)
-        return expired
+        removed, now = [], _seconds(now)
+        for number, it in list(self._shards.items()):
+            if it.has_expired(now):
+                # Another thread may have removed it since.
+                with contextlib.suppress(KeyError):
+                    self.remove(number)
+                    removed.append(number)
+        return removed
 
     def query(self, hashes: Sequence[str], now: Optional[int] = None) -> Optional[Tuple[int, Run]]:
         """Returns the number of a shard and the longest run in it of chunks with these hashes, which are not keyed.
@@ -284,16 +285,16 @@ class Index:
         It is None if no shard has the first. Of several runs that are longest it is the first that is found.
         """
         longest: Optional[Tuple[int, Run]] = None
-        wanted = _hashes(hashes)
-        for number, place in self._places(wanted[0]) if hashes else ():
+        wanted, count = _hashes(hashes)
+        for number, place in self._places(wanted[0]) if count else ():
             # It may have been removed since.
             it = self._shards.get(number)
             if it is None or it.has_expired(now):
                 continue
-            run = _run_at(it.shard, wanted, len(hashes), place & 0xFFFFFFFF, place >> 32)
+            run = _run_at(it.shard, wanted, count, place & 0xFFFFFFFF, place >> 32)
             if run and (longest is None or run.count > longest[1].count):
                 longest = number, run
-                if run.count == len(hashes):
+                if run.count == count:
                     break
         return longest
 
@@ -316,6 +317,15 @@ class Index:
 
     def __len__(self) -> int:
         return len(self._shards)
+
+
+def _merged(shards: Dict[int, Buffer]) -> bytes:
+    """Returns the merge of some shards of an index, which are given by their numbers."""
+    try:
+        return merge(shards.values())
+    except XetError as error:
+        number = None if error.index is None else list(shards)[error.index]
+        raise XetError(error.number, number, error.reason) from None
 
 
 def _range_of(words: Union[array[int], memoryview], word: int) -> Tuple[int, int]:
