@@ -12,10 +12,8 @@ from .common import BINDINGS, TOP, Skip, error_numbers, ran, read, structs
 MODULE = f"{BINDINGS}/python"
 # The library beside the module.
 SONAME = f"libxet.so.{read(f'{TOP}/VERSION').split('.')[0]}"
-# Programs in the folder of the module's tests.
-TESTS = (
-    "test_vectors.py", "test_tables.py", "test_index.py", "test_ranges.py", "test_shard.py", "test_range_reads.py",
-)
+# Programs in the folder of the module's tests that need nothing else.
+TESTS = ("test_vectors.py", "test_index.py", "test_ranges.py", "test_shard.py", "test_range_reads.py")
 
 # The types of fields, in Rattle and in the Python module.
 TYPES = {
@@ -164,6 +162,12 @@ def check_wheel(room, library):
         names = {os.path.basename(it) for it in file.namelist()}
     missing = {*(f"{it}.py" for it in modules()), "py.typed", SONAME, "LICENSE", "NOTICE"} - names
     return f"the wheel lacks {sorted(missing)}" if missing else None
+
+
+def run_table_tests(named):
+    """Runs the tests of tables, as `run_tests` does."""
+    why = "no Python here has the package numpy, so no tables were tested"
+    return run_tests("test_tables.py", named, python_for("import numpy", why))
 
 
 def run_cluster_tests(named):

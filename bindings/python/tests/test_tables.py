@@ -14,12 +14,11 @@ sys.path.insert(0, os.path.dirname(os.path.realpath(__file__)))
 import scripts  # noqa: E402
 import xet_shards  # noqa: E402
 from scripts import Shard  # noqa: E402
-from test_vectors import main, numpy, raises, records_shard, refused, shard_of  # noqa: E402
+from test_vectors import main, needs_numpy, numpy, raises, records_shard, refused, shard_of  # noqa: E402
 
 
 def test_tables():
-    if numpy is None:
-        return print("numpy is not there, so tables were not tested")
+    needs_numpy()
     for shard in (Shard(), records_shard()):
         written = shard.written()
         table = xet_shards.table(written)
@@ -50,8 +49,7 @@ def test_tables():
 
 
 def test_columns():
-    if numpy is None:
-        return print("numpy is not there, so columns were not tested")
+    needs_numpy()
     shard = shard_of("xorb 10", "xorb 11", "file 100")
     table = xet_shards.table(shard)
     columns = {name: table.xorbs[name].tolist() for name in table.xorbs.dtype.names}
@@ -81,8 +79,7 @@ def test_columns():
 
 
 def test_hash_columns():
-    if numpy is None:
-        return print("numpy is not there, so columns of hashes were not tested")
+    needs_numpy()
     written = records_shard().written()
     table = xet_shards.table(written)
     for array, names in (
@@ -116,8 +113,7 @@ def test_hash_columns():
 
 
 def test_hash_columns_in_arrow():
-    if numpy is None:
-        return print("numpy is not there, so columns of hashes were not tested")
+    needs_numpy()
     table = xet_shards.table(records_shard().written())
     packed = numpy.ascontiguousarray(xet_shards.hash_column(table.chunks))
     # What pyarrow.py_buffer asks of it: PyBUF_ANY_CONTIGUOUS.
@@ -138,9 +134,24 @@ def test_hash_columns_in_arrow():
     assert (xet_shards.from_table(dataclasses.replace(table, chunks=chunks)) == records_shard().written())
 
 
+def test_arrays_anywhere_in_memory():
+    """An array that does not lie at a multiple of 8 is taken as well."""
+    needs_numpy()
+    written = records_shard().written()
+    table = xet_shards.table(written)
+
+    def moved(array, by):
+        return numpy.frombuffer(bytes(by) + array.tobytes(), array.dtype, offset=by)
+
+    for by in range(9):
+        arrays = [moved(it, by) for it in (table.files, table.segments, table.xorbs, table.chunks)]
+        assert xet_shards.from_table(xet_shards.Table(*arrays)) == written
+        taken = map(xet_shards._tables._as_type, arrays, xet_shards._tables._types())
+        assert all(it.ctypes.data % 8 == 0 for it in taken)
+
+
 def test_table_reads_once():
-    if numpy is None:
-        return print("numpy is not there, so tables were not tested")
+    needs_numpy()
     library, calls = xet_shards._calls._library, []
     call = library.xet_records
     library.xet_records = lambda *arguments: calls.append(arguments) or call(*arguments)

@@ -134,7 +134,9 @@ def _as_type(columns: Any, wanted: Any) -> Any:
     if getattr(columns, "dtype", None) == wanted:
         if columns.ndim != 1:
             raise ValueError(f"an array of records has one dimension, and not {columns.ndim}")
-        return numpy.require(columns, requirements=["C", "A"])
+        array = numpy.ascontiguousarray(columns)
+        # numpy takes these types for bytes, which may be anywhere, and the library wants words at multiples of 8.
+        return array.copy() if array.ctypes.data % 8 else array
     found = dict(_columns(columns, wanted))
     made = numpy.zeros(len(found[wanted.names[0]]), wanted)
     for name, column in found.items():
