@@ -15,6 +15,7 @@ import sys
 import tempfile
 import traceback
 import tracemalloc
+import unittest
 from array import array
 
 sys.dont_write_bytecode = True
@@ -30,6 +31,13 @@ try:
     import numpy
 except ImportError:
     numpy = None
+
+
+def needs_numpy():
+    """Skips the test that calls it where numpy is not there."""
+    if numpy is None:
+        raise unittest.SkipTest("numpy is not there")
+
 
 THEMES = "write find query union diff merge export minimal subset eligible".split()
 # The scripts of shards, and not of how lines are read.
@@ -587,6 +595,11 @@ def test_concatenate_into():
     assert out == both
     raises(ValueError, xet_shards.concatenate_into, [], out)
     raises(TypeError, xet_shards.concatenate_into, [one, two], both)
+    # An error holds neither the output nor the shards, and says why.
+    error = refused("InvalidArguments", xet_shards.concatenate_into, [two, one], out)
+    assert error.reason == refused("InvalidArguments", xet_shards.concatenate, [two, one]).reason
+    raises(ValueError, xet_shards.concatenate_into, [one, out], memoryview(out)[10:])
+    out.append(0)
 
 
 def test_concatenate_refuses():
@@ -919,6 +932,12 @@ def test_other_forms_in_version_2():
     text = str(refused("InvalidArguments", xet_shards.export, shard, key, 1000, 60, version=2))
     assert "2^64 or more, or a file has a row that the version does not have" in text, text
     refused("Io", xet_shards.export, shard[:199], key, 1000, 60, version=2)
+    for call, *arguments in (
+        (xet_shards.minimal, shard, 9), (xet_shards.subset, shard, 9), (xet_shards.merge, [shard]),
+        (xet_shards.concatenate, [shard]), (xet_shards.write, [], []),
+    ):
+        error = refused("InvalidArguments", call, *arguments, version=4)
+        assert "there is no version 4" in error.reason, error
 
 
 def test_concatenate_in_version_2():
@@ -1209,15 +1228,18 @@ def test_outputs_of_queries():
 def main(names):
     """Runs the tests among some names. Returns 1 if one failed."""
     tests = {name: test for name, test in names.items() if name.startswith("test_") and callable(test)}
-    failed = 0
+    passed, failed = 0, 0
     for name, test in tests.items():
         try:
             test()
+            passed += 1
+        except unittest.SkipTest as why:
+            print(f"skipped {name}: {why}")
         except Exception as error:
             failed += 1
             where = traceback.extract_tb(error.__traceback__)[-1]
             print(f"{name}: {type(error).__name__}: {error or where.line}")
-    print(f"{len(tests) - failed} passed, {failed} failed")
+    print(f"{passed} passed, {failed} failed")
     return 1 if failed else 0
 
 

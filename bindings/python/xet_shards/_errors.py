@@ -128,8 +128,13 @@ class MalformedError(XetError):
         return MalformedError, (self.record,)
 
 
-def _or_new_rows(version: int) -> str:
-    return "" if version == 3 else f", or {_NEW_ROWS}"
+def _reason_of(version: int) -> str:
+    """Returns why a call may not admit a version."""
+    return _NEW_ROWS if version in (2, 3) else f"there is no version {version}"
+
+
+def _or_reason_of(version: int) -> str:
+    return "" if version == 3 else f", or {_reason_of(version)}"
 
 
 def _check(number: int, reason: Optional[str] = None) -> None:

@@ -6,7 +6,7 @@ from typing import List, Optional, Sequence
 
 from ._arguments import NO_KEY, _hashes, _number, _seconds, _text, _words
 from ._calls import _library
-from ._errors import _NEW_ROWS, _or_new_rows
+from ._errors import _or_reason_of, _reason_of
 from ._memory import Buffer, _Addresses, _filled, _made
 from ._structs import _Export, _Hash, _Subset
 
@@ -29,7 +29,7 @@ def export(
             lambda out, room, written: _library.xet_export_in(
                 *data, byref(options), _number(version), out, room, byref(written)
             ),
-            f"the chunk hashes are keyed already, or the times add up to 2^64 or more{_or_new_rows(version)}",
+            f"the chunk hashes are keyed already, or the times add up to 2^64 or more{_or_reason_of(version)}",
         )
 
 
@@ -48,7 +48,7 @@ def minimal(
             lambda out, room, written: _library.xet_minimal_in(
                 *data, now, verification, aux_rows, _number(version), out, room, byref(written)
             ),
-            _NEW_ROWS,
+            _reason_of(version),
         )
 
 
@@ -68,6 +68,7 @@ def subset(
             lambda out, room, written: _library.xet_subset_in(
                 *data, byref(options), listed, count, _number(version), out, room, byref(written)
             ),
+            _reason_of(version),
         )
 
 

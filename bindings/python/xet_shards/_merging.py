@@ -1,14 +1,14 @@
 """Unions and differences of shards, and what does not agree."""
 from __future__ import annotations
 
-from ctypes import byref, c_bool, c_char, c_size_t
+from ctypes import byref, c_bool, c_size_t
 from typing import Any, Callable, Iterable, List, Optional, Sequence
 
 from ._arguments import _number, _text, _words
 from ._calls import _library
 from ._errors import (
-    _DISAGREE, _INVALID_ARGUMENTS, _MALFORMED, _NEW_ROWS, _OTHER_KEYS, _SHORT, Disagreement, DisagreementError,
-    MalformedError, MalformedRecord, XetError, _check, _or_new_rows,
+    _DISAGREE, _INVALID_ARGUMENTS, _MALFORMED, _OTHER_KEYS, _SHORT, Disagreement, DisagreementError, MalformedError,
+    MalformedRecord, XetError, _check, _or_reason_of, _reason_of,
 )
 from ._lookups import load
 from ._memory import Buffer, WritableBuffer, _Addresses, _filled, _list, _made, _output_apart, _written_bytes
@@ -33,7 +33,7 @@ def _combined(operation: Callable[..., Any], first: Buffer, second: Buffer, vers
         return _made(
             one[1] + other[1],
             lambda out, room, written: operation(*one, *other, _number(version), out, room, byref(written)),
-            _OTHER_KEYS + _or_new_rows(version),
+            _OTHER_KEYS + _or_reason_of(version),
         )
 
 
@@ -114,7 +114,7 @@ def merge_into(
     except XetError as error:
         blamed = _to_blame(shards, error.number)
         new = version != 3 and blamed is None
-        raise XetError(error.number, blamed, _NEW_ROWS if new else _OTHER_KEYS) from None
+        raise XetError(error.number, blamed, _reason_of(version) if new else _OTHER_KEYS) from None
 
 
 def _to_blame(shards: Sequence[Buffer], number: int) -> Optional[int]:
@@ -145,18 +145,22 @@ def _key_of(shard: Buffer) -> Optional[str]:
         return None
 
 
-def _merge_to(call: Callable[..., Any], shards: Sequence[Buffer], out: WritableBuffer) -> int:
+def _merge_to(
+    call: Callable[..., Any], shards: Sequence[Buffer], out: WritableBuffer, reason: Optional[str] = None
+) -> int:
     """Makes a call that merges shards to the front of a buffer, and returns the number of the bytes of the merge."""
     written = c_size_t()
     with _output_apart(out, shards) as (array, data):
         number = call(_list(data), len(data), array, len(array), byref(written))
     if number != _SHORT:
-        _check(number)
+        _check(number, reason)
     return written.value
 
 
-def _merge_in_to(call: Callable[..., Any], shards: Sequence[Buffer], out: WritableBuffer, version: int) -> int:
-    return _merge_to(lambda listed, count, *output: call(listed, count, _number(version), *output), shards, out)
+def _merge_in_to(
+    call: Callable[..., Any], shards: Sequence[Buffer], out: WritableBuffer, version: int, reason: Optional[str] = None
+) -> int:
+    return _merge_to(lambda listed, count, *output: call(listed, count, _number(version), *output), shards, out, reason)
 
 
 def _merge_strictly_to(shards: Sequence[Buffer], out: WritableBuffer, version: int) -> int:
@@ -226,8 +230,13 @@ def concatenate(shards: Iterable[Buffer], version: int = 3) -> bytes:
             lambda out, room, written: _library.xet_concatenate_in(
                 listed, len(data), _number(version), out, room, byref(written)
             ),
-            f"{_OTHER_KEYS}, or hashes do not ascend from one shard to the next{_or_new_rows(version)}",
+            _not_in_a_row(version),
         )
+
+
+def _not_in_a_row(version: int) -> str:
+    """Returns why shards may not be concatenated."""
+    return f"{_OTHER_KEYS}, or hashes do not ascend from one shard to the next{_or_reason_of(version)}"
 
 
 def concatenate_into(shards: Iterable[Buffer], out: WritableBuffer, version: int = 3) -> int:
@@ -235,17 +244,13 @@ def concatenate_into(shards: Iterable[Buffer], out: WritableBuffer, version: int
 
     If the buffer is too small, and after any error, it stays as it is: if it is too small, the number is greater than
     its length. With inputs and output in files that are mapped, this needs some hundred bytes a shard of its own.
+
+    The buffer shares no memory with a shard: that is a `ValueError`.
     """
     shards = list(shards)
     if not shards:
         raise ValueError("no shard is given")
-    room, written = memoryview(out).nbytes, c_size_t()
-    array = (c_char * room).from_buffer(out)
-    with _Addresses(*shards) as data:
-        number = _library.xet_concatenate_in(_list(data), len(data), _number(version), array, room, byref(written))
-    if number != _SHORT:
-        _check(number)
-    return written.value
+    return _merge_in_to(_library.xet_concatenate_in, shards, out, version, _not_in_a_row(version))
 
 
 def find_disagreement(shards: Iterable[Buffer]) -> Optional[Disagreement]:

@@ -7,7 +7,7 @@ from typing import Any, Callable, Iterable, Iterator, List, Optional, Sequence, 
 
 from ._arguments import NO_EXPIRY, _array_of, _number, _seconds, _text, _word, _words, _words_or_zero
 from ._calls import _library
-from ._errors import _INVALID_SHARD, _SHORT, XetError, _check
+from ._errors import _INVALID_SHARD, _SHORT, XetError, _check, _or_reason_of
 from ._memory import Buffer, _Addresses, _array, _made
 from ._structs import _Chunk, _File, _FileSegment, _ListedFile, _ListedXorb, _Place, _Segment, _Xorb
 
@@ -270,5 +270,5 @@ def _written(lists: Sequence[Any], expiry: Optional[int], version: int) -> bytes
         lambda out, room, written: _library.xet_write_in(
             *lists, _number(version), time, out, room, byref(written)
         ),
-        "no shard has these records, or their counts do not add up",
+        f"no shard has these records, or their counts do not add up{_or_reason_of(version)}",
     )
