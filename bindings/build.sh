@@ -20,7 +20,7 @@ case "$1" in
 esac
 
 command -v rt >/dev/null || { echo "build.sh: rt is not on the path" >&2; exit 1; }
-sources=$(PYTHONPATH="$top/.ci" python3 -B -m library.archive)
+sources=$(cd "$top/.ci" && python3 -B -m library.archive)
 if [ ! -f "$archive" ] || [ "$(cat "$archive.of" 2>/dev/null)" != "$sources" ]; then
     rm -f "$archive.of"
     (cd "$top/crates/xet_c" && rt lib)
@@ -53,8 +53,9 @@ if [ -z "$prefix" ]; then
     cp "libxet.so.$version" "$top/bindings/python/xet_shards/$soname"
     exit
 fi
+# pkg-config takes a space for the end of a path, unless it is escaped.
 cat >xet.pc <<END
-prefix=$prefix
+prefix=$(printf %s "$prefix" | sed 's/ /\\ /g')
 includedir=\${prefix}/include
 libdir=\${prefix}/lib
 

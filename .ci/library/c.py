@@ -2,6 +2,7 @@
 import ctypes
 import os
 import re
+import shlex
 import shutil
 
 from .common import BINDINGS, TOP, Skip, error_constants, error_numbers, ran, read, sources
@@ -64,11 +65,14 @@ def check_installed(room, wanted):
     """By pkg-config a program is linked with the shared object, which it finds by its name for programs."""
     if not shutil.which("pkg-config"):
         raise Skip("pkg-config is not there, so xet.pc was not used")
-    version = read(f"{TOP}/VERSION").strip()
-    named = {"PKG_CONFIG_PATH": f"{room}/lib/pkgconfig"}
+    version, prefix = read(f"{TOP}/VERSION").strip(), f"{room}/a prefix"
+    named = {"PKG_CONFIG_PATH": f"{prefix}/lib/pkgconfig"}
+    why = ran(f"{BINDINGS}/build.sh", prefix)[1]
+    if why:
+        return why
     printed, why = ran("pkg-config", "--cflags", "--libs", f"xet = {version}", env=named)
     program = f"{room}/linked"
-    why = why or ran(CC, *WARNINGS, f"{BINDINGS}/c/example.c", *printed.split(), "-o", program)[1]
+    why = why or ran(CC, *WARNINGS, f"{BINDINGS}/c/example.c", *shlex.split(printed), "-o", program)[1]
     if why:
         return why
     soname = f"libxet.so.{version.split('.')[0]}"
