@@ -52,6 +52,8 @@ pub enum Finding {
     /// Rows of the chunk table that share a first word stand in another order than the library writes. It is a note:
     /// nothing is lost.
     Reordered,
+    /// A finding with this number, of a library that is newer than this crate.
+    Unknown(u32),
 }
 
 impl Finding {
@@ -103,7 +105,8 @@ fn finding_of(found: &calls::Finding) -> Finding {
         8 => Finding::Differs(part_of(found)),
         9 => Finding::OtherSize(found.number),
         10 => Finding::MalformedRecord(part_of(found), found.number),
-        _ => Finding::Reordered,
+        11 => Finding::Reordered,
+        other => Finding::Unknown(other),
     }
 }
 
@@ -116,5 +119,17 @@ fn part_of(found: &calls::Finding) -> Part {
         5 => Part::XorbTable,
         6 => Part::ChunkTable,
         _ => Part::Footer,
+    }
+}
+
+#[cfg(test)]
+mod tests {
+    use super::{calls, finding_of, Finding};
+
+    #[test]
+    fn an_unknown_kind_is_no_note() {
+        let found = finding_of(&calls::Finding { kind: 12, ..Default::default() });
+        assert_eq!(found, Finding::Unknown(12));
+        assert!(!found.is_note());
     }
 }
