@@ -36,9 +36,10 @@ def sources():
 
 
 def stated(of, built):
-    """Returns the lines by which the gate says what it ran: the commit, and the hash of each binary."""
+    """Returns the lines by which the gate says what it ran: the commit, if nothing was changed, and each binary."""
     commit = of["commit"] if of else "no commit"
-    return [f"release: {commit} HEAD", *(f"release: {sum_of} {path}" for path, sum_of in built.items())]
+    state = "HEAD with changes" if of and of["changed"] else "HEAD"
+    return [f"release: {commit} {state}", *(f"release: {sum_of} {path}" for path, sum_of in built.items())]
 
 
 def gate(log, of, built):
