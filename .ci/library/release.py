@@ -208,9 +208,19 @@ def check_pages(release):
             return f"{name} of the archive lacks {', '.join(lacking)}"
     if not shutil.which("bash"):
         raise Skip("bash is not there, so its completions were not tried")
-    script = f". '{share}/{names[1]}'; COMP_WORDS=(mdb mer) COMP_CWORD=1; _mdb mdb mer mdb; echo \"${{COMPREPLY[*]}}\""
-    printed, why = release.ran("bash", "-c", script)
-    return why or (None if printed == "merge\n" else f"bash completes mer to {printed}")
+    with open(f"{release.room}/two words.mdb", "wb"):
+        pass
+    for words, wanted in ("mdb mer", "merge"), ("mdb info two", "two words.mdb"), ("mdb merge -o two", "two words.mdb"):
+        *_, before, word = words.split()
+        count = len(words.split()) - 1
+        script = (
+            f". '{share}/{names[1]}'; COMP_WORDS=({words}) COMP_CWORD={count}; _mdb mdb {word} {before}; "
+            'printf "%s;" "${COMPREPLY[@]}"'
+        )
+        printed, why = release.ran("bash", "-c", script)
+        if why or printed != f"{wanted};":
+            return why or f"bash completes '{words}' to {printed}"
+    return None
 
 
 def check_c(release):
@@ -252,7 +262,7 @@ def check_wheel(release):
 
 
 def run_python_tests(release):
-    """Returns how many tests of the module passed in the fresh environment, or what is wrong."""
+    """Returns how many tests of the module that need nothing else passed in the fresh environment, or what is wrong."""
     passed = 0
     for name in TESTS:
         printed, why = release.ran("fresh/bin/python", f"bindings/python/tests/{name}")

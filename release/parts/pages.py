@@ -100,7 +100,7 @@ def bash(found):
     lines = ["# Completion of mdb for bash.", "_mdb() {", '    local command=${COMP_WORDS[1]} word=$2 before=$3']
     names = " ".join([it.name for it in found] + ["help"])
     lines += ['    if [ "$COMP_CWORD" -eq 1 ]; then']
-    lines += [f'        COMPREPLY=($(compgen -W "{names} --help --version" -- "$word"))']
+    lines += [f'        mapfile -t COMPREPLY < <(compgen -W "{names} --help --version" -- "$word")']
     lines += ["        return", "    fi", '    case "$command $before" in']
     for command in found:
         for option in command.options:
@@ -110,12 +110,12 @@ def bash(found):
                     reply = f'-W "{" ".join(option.choices)}"'
                 else:
                     reply = {"files": "-f", "folders": "-d", "": '-W ""'}[option.takes()]
-                lines.append(f'        {cases}) COMPREPLY=($(compgen {reply} -- "$word")); return ;;')
+                lines.append(f'        {cases}) mapfile -t COMPREPLY < <(compgen {reply} -- "$word"); return ;;')
     lines += ["    esac", '    case "$command" in']
     for command in found:
         options = " ".join(name for it in command.options for name in it.names())
-        lines.append(f'        {command.name}) COMPREPLY=($(compgen -W "{options}" -- "$word")) ;;')
-    lines += ["    esac", '    case "$word" in -*) ;; *) COMPREPLY=($(compgen -f -- "$word")) ;; esac', "}",
+        lines.append(f'        {command.name}) mapfile -t COMPREPLY < <(compgen -W "{options}" -- "$word") ;;')
+    lines += ["    esac", '    case "$word" in -*) ;; *) mapfile -t COMPREPLY < <(compgen -f -- "$word") ;; esac', "}",
               "complete -o filenames -F _mdb mdb"]
     return "\n".join(lines) + "\n"
 

@@ -48,7 +48,7 @@ def built():
 
 def installed(room):
     """Returns the files that bindings/build.sh installs, with an xet.pc that holds wherever they are unpacked."""
-    ran(f"{TOP}/bindings/build.sh", f"{room}/installed")
+    ran(f"{TOP}/bindings/build.sh", f"{room}/installed", env={"DESTDIR": ""})
     found = {}
     for at, _, names in os.walk(f"{room}/installed"):
         for name in names:
