@@ -9,31 +9,14 @@ drops the archive, so a second one is kept in bindings/out.
 """
 import hashlib
 import os
-import re
 import shutil
 
 from .common import TOP, ran, read
+from .crates import below, files, is_proved, kit, rattle, used_by
 
 CRATE = "xet_c"
 ARCHIVE = f"{TOP}/crates/{CRATE}/out/lib{CRATE}.a"
 KEPT = f"{TOP}/bindings/out/lib{CRATE}.a"
-
-
-def used_by():
-    """Returns for each crate of crates.txt the crates and the libraries of the toolchain that it uses."""
-    rows = re.findall(r"^(\w+)[^:\n]*:(.*)$", read(f"{TOP}/crates.txt"), re.M)
-    return {name: used.split() for name, used in rows}
-
-
-def below(crate, uses):
-    """Returns all crates below a crate."""
-    return {it for used in uses[crate] if used in uses for it in {used} | below(used, uses)}
-
-
-def files(crate):
-    """Returns the paths of a crate's sources."""
-    folders = [f"{TOP}/crates/{crate}/{it}" for it in ("src", "specs", "proofs")]
-    return sorted(f"{at}/{name}" for it in folders for at, _, names in os.walk(it) for name in names)
 
 
 def sources():
@@ -44,16 +27,6 @@ def sources():
     for path in (path for crate in crates for path in files(crate)):
         hashed.update(repr((os.path.relpath(path, TOP), read(path))).encode())
     return hashed.hexdigest()
-
-
-def library(crate):
-    return f"{TOP}/crates/{crate}/out/rlib/{crate}.rlib"
-
-
-def is_proved(crate):
-    """Whether a crate's library is there, and newer than its sources."""
-    made = library(crate)
-    return os.path.exists(made) and os.path.getmtime(made) >= max(map(os.path.getmtime, files(crate)))
 
 
 def is_of(archive, found):
@@ -93,18 +66,9 @@ def build():
 
 def compiled():
     """Builds the archive over the libraries that are there. Returns what is wrong, or None."""
-    uses = used_by()
-    lower = sorted(below(CRATE, uses))
-    kit = os.path.dirname(os.path.dirname(os.path.realpath(shutil.which("rt"))))
-    words = ["--crate-name", CRATE, "src/lib.rt", "-L", f"dependency={kit}/rlibs"]
-    for it in ["std", *uses[CRATE]]:
-        words += ["--extern", f"{it}={library(it) if it in uses else f'{kit}/rlibs/{it}.rlib'}"]
-    for it in lower:
-        words += ["-L", f"dependency={os.path.dirname(library(it))}"]
-    words += ["--antt-project", f"{kit}/rattle/logic/antt-project.json", "--logic-built", f"{kit}/logic_built"]
-    words += ["--links", f"{CRATE}=", "--crate-type", "staticlib", "--toolchain", f"{kit}/toolchain"]
+    words = [*rattle("build", CRATE), "--crate-type", "staticlib", "--toolchain", f"{kit()}/toolchain", "-o", ARCHIVE]
     os.makedirs(os.path.dirname(ARCHIVE), exist_ok=True)
-    return ran(f"{kit}/bin/rattle", "build", *words, "-o", ARCHIVE, cwd=f"{TOP}/crates/{CRATE}")[1]
+    return ran(*words, cwd=f"{TOP}/crates/{CRATE}")[1]
 
 
 if __name__ == "__main__":

@@ -3,8 +3,8 @@ import glob
 import os
 import re
 
-from .archive import used_by
 from .common import TOP, read
+from .crates import used_by
 
 # The pages that quote contracts.
 QUOTING = ("README.md", "docs/HEADLINE.md", "crates/xet_core_structures/CALLING.md")

@@ -1,0 +1,50 @@
+"""The crates of the repository, and what `rattle` is told of one."""
+import os
+import re
+import shutil
+
+from .common import TOP, read
+
+
+def used_by():
+    """Returns for each crate of crates.txt the crates and the libraries of the toolchain that it uses."""
+    rows = re.findall(r"^(\w+)[^:\n]*:(.*)$", read(f"{TOP}/crates.txt"), re.M)
+    return {name: used.split() for name, used in rows}
+
+
+def below(crate, uses):
+    """Returns all crates below a crate."""
+    return {it for used in uses[crate] if used in uses for it in {used} | below(used, uses)}
+
+
+def files(crate):
+    """Returns the paths of a crate's sources."""
+    folders = [f"{TOP}/crates/{crate}/{it}" for it in ("src", "specs", "proofs")]
+    return sorted(f"{at}/{name}" for it in folders for at, _, names in os.walk(it) for name in names)
+
+
+def library(crate):
+    return f"{TOP}/crates/{crate}/out/rlib/{crate}.rlib"
+
+
+def is_proved(crate):
+    """Whether a crate's library is there, and newer than its sources."""
+    made = library(crate)
+    return os.path.exists(made) and os.path.getmtime(made) >= max(map(os.path.getmtime, files(crate)))
+
+
+def kit():
+    """Returns the folder of the toolchain."""
+    return os.path.dirname(os.path.dirname(os.path.realpath(shutil.which("rt"))))
+
+
+def rattle(verb, crate):
+    """Returns the command by which `rattle` reads a crate, over the libraries below that are there, in its folder."""
+    uses = used_by()
+    words = [f"{kit()}/bin/rattle", verb, "--crate-name", crate, "src/lib.rt", "-L", f"dependency={kit()}/rlibs"]
+    for it in ["std", *uses[crate]]:
+        words += ["--extern", f"{it}={library(it) if it in uses else f'{kit()}/rlibs/{it}.rlib'}"]
+    for it in sorted(below(crate, uses)):
+        words += ["-L", f"dependency={os.path.dirname(library(it))}"]
+    words += ["--antt-project", f"{kit()}/rattle/logic/antt-project.json", "--logic-built", f"{kit()}/logic_built"]
+    return [*words, "--links", f"{crate}="]
