@@ -10,7 +10,7 @@ import shutil
 import subprocess
 import sys
 
-from mdb_system import SKIPPED, wants
+from mdb_system import Absent, wants
 
 BROWSERS = ("chromium", "chromium-browser", "google-chrome")
 # Elements that may load something, and attributes that do.
@@ -67,7 +67,7 @@ class Page(html.parser.HTMLParser):
 
 def page_is_shown(place):
     if not browser():
-        raise PermissionError
+        raise Absent
     os.mkdir(place.path("in"))
     names = ("both.mdb", "left.mdb", "keyed.mdb", "minimal.mdb", "one_of_each.mdb", "text.mdb")
     for name in names:
