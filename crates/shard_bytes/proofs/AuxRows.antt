@@ -25,7 +25,7 @@ use Rattle.xet_shards.proofs.Export.Rewriting.{sections_of_layout}
 use Rattle.xet_shards.proofs.Write.Sections.{fits_ever}
 use Rattle.shard_bytes.specs.Steps.Checking.{BeginsWith}
 use Rattle.shard_bytes.specs.Versions.{have_aux_rows}
-use Rattle.shard_bytes.proofs.Malformed.{Left, drop_one, enough_rows, has_rows, left_after, left_from_it, same, same_tail, some_of, the_record}
+use Rattle.shard_bytes.proofs.Malformed.{HasLeft, drop_one, enough_rows, has_rows, left_after, left_from_it, same, same_tail, some_of, the_record}
 
 -- files, of which these are left
 module _ (files : List MDBFileInfo) (i : ℕ) (so_far : have_aux_rows files ≡ have_aux_rows (drop i files)) where
@@ -103,7 +103,7 @@ module _ (bytes : List ℕ) (files : List MDBFileInfo) (s : IsSection file_recor
   pub begins : BeginsWith file_records bytes files (length files)
   begins = record { rest = s.rest; held = s.records; count_is = refl }
 
-  abbrev pub left : Left file_records files i rest
+  abbrev pub left : HasLeft file_records files i rest
   left = record { tail = s.rest; bytes_are = rows.bytes_are }
 
   pub enough_left : 48 ≤ length rest

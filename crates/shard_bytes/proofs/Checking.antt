@@ -430,9 +430,9 @@ module _ (bytes : List ℕ) (info : MDBShardInfo) (ends : HasHeaderAndFooter byt
         ascend_xorbs sorted = subst (IsStrictlySortedBy hash_cmp) xs_are sorted
 
     -- the records that were written are those that were read
-    pub reported : (l1 l2 l3 l4 l5 : List Finding) → AddsDisorder Files fs [] l1 → AddsDisorder Xorbs xs l1 l2 → AddsMalformed Files IsWellFormed files l2 l3 → AddsMalformed Xorbs IsXorb xorbs l3 l4
+    pub reports_all : (l1 l2 l3 l4 l5 : List Finding) → AddsDisorder Files fs [] l1 → AddsDisorder Xorbs xs l1 l2 → AddsMalformed Files IsWellFormed files l2 l3 → AddsMalformed Xorbs IsXorb xorbs l3 l4
         → AddsDifferences bytes info l4 l5 → IsReport bytes l5
-    reported l1 l2 l3 l4 l5 files_order xorbs_order bad_files bad_xorbs (gs, ys, there, compares) =
+    reports_all l1 l2 l3 l4 l5 files_order xorbs_order bad_files bad_xorbs (gs, ys, there, compares) =
         let same = only_sections bytes gs files ys xorbs there have in
         report_of l1 l2 l3 l4 l5 files_order xorbs_order bad_files bad_xorbs
         (subst (λ p. p) (λ i. Compares bytes info (layout_of (same.0 i) (same.1 i) (options_of info)) (footer_value (same.0 i) (same.1 i) (options_of info)) l4 l5) compares)

@@ -56,8 +56,8 @@ expiry_of_shard s expiry bytes changed is new =
 
 -- header and footer of a shard's bytes are read
 pub not_refused : (s : Shard) (bytes given : List ℕ) (e : CoreError) → given ≡ bytes → IsBytesWithoutExpiry s bytes → ¬ LoadRefusal given e
-not_refused s bytes given e same is refusal = refused (subst (λ bs. LoadRefusal bs e) same refusal)
+not_refused s bytes given e same is refusal = no_refusal (subst (λ bs. LoadRefusal bs e) same refusal)
   where
-    refused : ¬ LoadRefusal bytes e
-    refused (inl (so, unsupported)) = not_unsupported bytes _ (ends_of_bytes s bytes (bytes_without_expiry is)) unsupported
-    refused (inr (so, short)) = not_too_short bytes _ (ends_of_bytes s bytes (bytes_without_expiry is)) short
+    no_refusal : ¬ LoadRefusal bytes e
+    no_refusal (inl (so, unsupported)) = not_unsupported bytes _ (ends_of_bytes s bytes (bytes_without_expiry is)) unsupported
+    no_refusal (inr (so, short)) = not_too_short bytes _ (ends_of_bytes s bytes (bytes_without_expiry is)) short

@@ -104,11 +104,11 @@ module _ (x : Export) (s : Shard) (shard : IsShard s) where
   abbrev aux : Bool
   aux = x.parts.aux_ext
 
-  abbrev keyed : Shard
-  keyed = keyed_shard x.key (shard_with_aux_if aux s)
+  abbrev whole_keyed : Shard
+  whole_keyed = keyed_shard x.key (shard_with_aux_if aux s)
 
   exported_is_shard : IsShard (exported_shard x s)
-  exported_is_shard = left_is_shard x.parts.files keyed (keyed_is_shard x.key (shard_with_aux_if aux s) (wanted_is_shard aux s shard))
+  exported_is_shard = left_is_shard x.parts.files whole_keyed (keyed_is_shard x.key (shard_with_aux_if aux s) (wanted_is_shard aux s shard))
 
   module _ (files : List MDBFileInfo) (xorbs : List MDBXorbInfo) (files_are : map as_read files ≡ values s.files) (xorbs_are : xorbs ≡ values s.xorbs) where
     abbrev options : LayoutOptions
@@ -121,11 +121,11 @@ module _ (x : Export) (s : Shard) (shard : IsShard s) where
     out_xorbs = keyed_xorbs x.key xorbs
 
     files_returned : map as_read out_files ≡ values (exported_shard x s).files
-    files_returned = files_left x.parts.files keyed (all_with_aux_if aux files) (files_wanted aux s files files_are)
+    files_returned = files_left x.parts.files whole_keyed (all_with_aux_if aux files) (files_wanted aux s files files_are)
 
     xorbs_returned : map (λ r. r) out_xorbs ≡ values (exported_shard x s).xorbs
     xorbs_returned =
-        map-id out_xorbs ∙ ap (keyed_xorbs x.key) (xorbs_are ∙ xorbs_wanted aux s) ∙ sym (values-keyed x.key (shard_with_aux_if aux s)) ∙ xorbs_left x.parts.files keyed
+        map-id out_xorbs ∙ ap (keyed_xorbs x.key) (xorbs_are ∙ xorbs_wanted aux s) ∙ sym (values-keyed x.key (shard_with_aux_if aux s)) ∙ xorbs_left x.parts.files whole_keyed
 
     holds_export : FitsSection (file_records_in V3) out_files → FitsSection xorb_records out_xorbs
         → HasHeaderAndFooter (layout_of out_files out_xorbs options) (info_of out_files out_xorbs options) → HoldsExport x s (layout_of out_files out_xorbs options)
@@ -202,17 +202,17 @@ module _ (s : Shard) (bytes : List ℕ) (follows : FollowsHeader s bytes) where
     not_refused e (inl (is, unsupported)) = not_unsupported bytes info ends unsupported
     not_refused e (inr (is, short)) = not_too_short bytes info ends short
 
-    pub refused : (e : CoreError) → RefusesExport x bytes e → e ≡ OutOfMemory
-    refused e (inl is) = is
-    refused e (inr (read, inl load)) = absurd (not_refused e load)
-    refused e (inr (read, inr (other, there, inl (is, inl keyed)))) =
+    pub only_out_of_memory : (e : CoreError) → RefusesExport x bytes e → e ≡ OutOfMemory
+    only_out_of_memory e (inl is) = is
+    only_out_of_memory e (inr (read, inl load)) = absurd (not_refused e load)
+    only_out_of_memory e (inr (read, inr (other, there, inl (is, inl keyed)))) =
         absurd (keyed (ap (λ (i : MDBShardInfo). i.metadata.chunk_hash_hmac_key) (only_info bytes other info there ends) ∙ holds.under))
-    refused e (inr (read, inr (other, there, inl (is, inr late)))) = absurd (omega (arith, fits, late))
-    refused e (inr (read, inr (other, there, inr (can, case)))) = only_memory e read case
+    only_out_of_memory e (inr (read, inr (other, there, inl (is, inr late)))) = absurd (omega (arith, fits, late))
+    only_out_of_memory e (inr (read, inr (other, there, inr (can, case)))) = only_memory e read case
 
     pub export_succeeds : {T : Type 0} (Is : T → Type 0) (result : CoreResult T) → MatchResult result Is (RefusesExport x bytes) → IfErr result (λ e. e ≡ OutOfMemory)
     export_succeeds Is (Ok out) is = tt
-    export_succeeds Is (Err e) is = refused e is
+    export_succeeds Is (Err e) is = only_out_of_memory e is
 
 -- sections to which the footer leads follow the header, if its offsets say so
 pub follows_by_footer : (s : Shard) (bytes : List ℕ) (has : HasShard s bytes) → has.info.metadata.file_info_offset ≡ 48 → has.info.metadata.xorb_info_offset ≡ xorbs_after (values s.files) → FollowsHeader s bytes

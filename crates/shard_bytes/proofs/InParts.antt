@@ -45,10 +45,10 @@ module _ (bytes : List ℕ) (width : ℕ) (old new : MemorySource) (same : old.b
 pub rows_found : (bytes : List ℕ) (word : ℕ) (dest_old dest_new : List ℕ) (old new : MemorySource) (result : CoreResult ℕ) → old.bytes.now ≡ bytes → length bytes < 2 ^ 64 → length bytes % 12 ≡ 0
     → LooksUpIndex (table_of bytes 4) word dest_old dest_new (in_memory old) (in_memory new) result → MatchResult result (FindsRowsIn bytes word dest_old dest_new) (RefusesRows bytes word)
 rows_found bytes word dest_old dest_new old new (Ok count) same few whole looks = record { whole = whole; finds = looks.found }
-rows_found bytes word dest_old dest_new old new (Err e) same few whole looks = refused looks.refused where
-  refused : IndexRefused (table_of bytes 4) word (in_memory old) (in_memory new) e → RefusesRows bytes word e
-  refused (inl (works, is, collides)) = inr (is, collides)
-  refused (inr no_search) = absurd (no_refusal bytes 4 old new same few e no_search)
+rows_found bytes word dest_old dest_new old new (Err e) same few whole looks = refuses_rows looks.refused where
+  refuses_rows : IndexRefused (table_of bytes 4) word (in_memory old) (in_memory new) e → RefusesRows bytes word e
+  refuses_rows (inl (works, is, collides)) = inr (is, collides)
+  refuses_rows (inr no_search) = absurd (no_refusal bytes 4 old new same few e no_search)
 
 pub places_found : (bytes : List ℕ) (word : ℕ) (dest_old dest_new : List (ℕ × ℕ)) (old new : MemorySource) (result : CoreResult ℕ) → old.bytes.now ≡ bytes → length bytes < 2 ^ 64 → length bytes % 16 ≡ 0
     → Searches (table_of bytes 8) word IsRowAndIndex 8 dest_old dest_new (in_memory old) (in_memory new) result → MatchResult result (FindsPlaces bytes word dest_old dest_new) (RefusesPlaces bytes)

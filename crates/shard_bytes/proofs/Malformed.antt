@@ -92,11 +92,11 @@ module _ {R : Type 0} (IsFormed : R → Type 0) (rs : List R) (section : Section
       all formed k d below = formed k (get_or rs k d) (omega (arith, past, below)) (slice_get-get_or rs k d below)
 
 -- the rows that are left after the first records
-pub record Left {H R : Type 0} (K : RecordKind H R) (rs : List R) (i : ℕ) (rest : List ℕ) : Type 0 where
+pub record HasLeft {H R : Type 0} (K : RecordKind H R) (rs : List R) (i : ℕ) (rest : List ℕ) : Type 0 where
   pub tail : List ℕ
   pub bytes_are : rest ≡ flat_map K.record_bytes (drop i rs) ++ tail
 
-pub all_left_of : {H R : Type 0} (K : RecordKind H R) (stored : List ℕ) (rs : List R) (count : ℕ) → BeginsWith K stored rs count → Left K rs 0 stored
+pub all_left_of : {H R : Type 0} (K : RecordKind H R) (stored : List ℕ) (rs : List R) (count : ℕ) → BeginsWith K stored rs count → HasLeft K rs 0 stored
 all_left_of K stored rs count begins = record { tail = begins.rest; bytes_are = begins.held.bytes_are }
 
 pub drop_one : {X : Type 0} (xs : List X) (i : ℕ) (d : X) → i < length xs → drop i xs ≡ get_or xs i d ∷ drop (i + 1) xs
@@ -108,7 +108,7 @@ some_of (x ∷ xs) some = x
 
 -- the record at an index, its header and the rows after it
 module _ {H R : Type 0} (K : RecordKind H R) (laws : KindLaws K) (stored : List ℕ) (rs : List R) (count : ℕ) (begins : BeginsWith K stored rs count) (i : ℕ) (low : i < count)
-    (rest : List ℕ) (left : Left K rs i rest) where
+    (rest : List ℕ) (left : HasLeft K rs i rest) where
   pub in_rs : i < length rs
   in_rs = omega (arith, low, begins.count_is)
 
@@ -177,7 +177,7 @@ module _ {H R : Type 0} (K : RecordKind H R) (laws : KindLaws K) (stored : List 
       rows_are = front_is (48 * K.rows_after header) (drop 48 rest) rows_after_it after_it size rows_left;
     }
 
-    pub left_after : Left K rs (i + 1) (drop (48 * K.rows_after header) (drop 48 rest))
+    pub left_after : HasLeft K rs (i + 1) (drop (48 * K.rows_after header) (drop 48 rest))
     left_after = record { tail = left.tail; bytes_are = rest_is (48 * K.rows_after header) (drop 48 rest) rows_after_it after_it size rows_left }
 
     pub same_tail : left_after.tail ≡ left.tail

@@ -178,8 +178,8 @@ module _ (written found : List ℕ) (is_written : IsWrittenTable written) (found
     is_table : written_rows ≡ chunk_table xorbs
     is_table = same_rows written_rows (chunk_table xorbs) reads_written.widths (table_fits xorbs is_written.1) (sym written_is ∙ is_written.2 ∙ table_is xorbs)
 
-    pub reordered : WordsAscend found_rows → sorted ≡ written_rows → IsReorderedTable written found
-    reordered ascends same = record {
+    pub table_is_reordered : WordsAscend found_rows → sorted ≡ written_rows → IsReorderedTable written found
+    table_is_reordered ascends same = record {
       rows = written_rows;
       others = found_rows;
       written_are = written_is;
@@ -306,15 +306,15 @@ pub rows_found : (files : List MDBFileInfo) (xorbs : List MDBXorbInfo) (options 
     → (rows : List ChunkTableRow) × IsReordering (chunk_table xorbs) rows
     × (slice_range bytes (footer_value files xorbs options).chunk_lookup_offset (footer_value files xorbs options).footer_offset ≡ if_included options.chunk_table (flat_map chunk_table_row_bytes rows))
 rows_found files xorbs options fit bytes is =
-    found options.chunk_table (sym is.written_are ∙ own_slice files xorbs options [])
+    rows_if_table options.chunk_table (sym is.written_are ∙ own_slice files xorbs options [])
   where
-    found : (b : Bool) → flat_map chunk_table_row_bytes is.rows ≡ if_included b (chunk_table_bytes xorbs)
+    rows_if_table : (b : Bool) → flat_map chunk_table_row_bytes is.rows ≡ if_included b (chunk_table_bytes xorbs)
         → (rows : List ChunkTableRow) × IsReordering (chunk_table xorbs) rows
         × (slice_range bytes (footer_value files xorbs options).chunk_lookup_offset (footer_value files xorbs options).footer_offset ≡ if_included b (flat_map chunk_table_row_bytes rows))
-    found true rows_are =
+    rows_if_table true rows_are =
         let same : is.rows ≡ chunk_table xorbs = same_rows is.rows (chunk_table xorbs) is.widths (table_fits xorbs fit) (rows_are ∙ table_is xorbs) in
         (is.others, subst (λ rows. IsReordering rows is.others) same is.reordering, is.found_are)
-    found false rows_are =
+    rows_if_table false rows_are =
         let none : length is.others ≡ 0 = length_permutation is.rows is.others is.reordering.moved ∙ omega (arith, length-rows is.rows, ap length rows_are) in
         (chunk_table xorbs, reordering_of_itself xorbs, is.found_are ∙ ap (flat_map chunk_table_row_bytes) (no_elements is.others none))
 

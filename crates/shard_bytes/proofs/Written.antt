@@ -40,7 +40,7 @@ pub lookup_in_memory : (s : Shard) (hash : DataHash) (result : Result (Option MD
     → MatchResult result (FoundInShard s hash) (LookupFailsAmong file_records (values s.files) hash (in_memory old) (in_memory new)) → MatchResult result (FoundInShard s hash) (NotFoundInShard s hash)
 lookup_in_memory s hash (Ok value) old new is = is
 lookup_in_memory s hash (Err e) old new (inl failed) = absurd (omega (arith, failed.0))
-lookup_in_memory s hash (Err e) old new (inr (inl (is, some, few))) = inl (is, few)
+lookup_in_memory s hash (Err e) old new (inr (inl short)) = inl short
 lookup_in_memory s hash (Err e) old new (inr (inr many)) = inr many
 
 -- a query at a chunk of a xorb, on a source in memory

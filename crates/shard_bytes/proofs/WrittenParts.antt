@@ -54,18 +54,18 @@ use Rattle.shard_bytes.proofs.Walks.{memory_alone, one_at}
 
 -- a row of a table of starts is that of a record
 module _ {H R : Type 0} (K : RecordKind H R) where
-  started : (front records : List R) (i : ℕ) (p e : ℕ × ℕ) → i < length (map (start_of K) (with_fronts front records)) → get_or (map (start_of K) (with_fronts front records)) i e ≡ p
+  starts_record : (front records : List R) (i : ℕ) (p e : ℕ × ℕ) → i < length (map (start_of K) (with_fronts front records)) → get_or (map (start_of K) (with_fronts front records)) i e ≡ p
       → (before : List R) × (r : R) × (after : List R) × (records ≡ before ++ r ∷ after) × (p.1 ≡ total_rows K (front ++ before)) × ((hash_in K r).word0 ≡ p.0)
-  started front [] i p e below is = absurd (omega (arith, below))
-  started front (r ∷ records) zero p e below is =
+  starts_record front [] i p e below is = absurd (omega (arith, below))
+  starts_record front (r ∷ records) zero p e below is =
       ([], r, records, refl, sym (ap (λ (q : ℕ × ℕ). q.1) is) ∙ ap (total_rows K) (sym (append-nil front)), ap (λ (q : ℕ × ℕ). q.0) is)
-  started front (r ∷ records) (suc i) p e below is =
-      let later = started (front ++ r ∷ []) records i p e (omega (arith, below)) is in
+  starts_record front (r ∷ records) (suc i) p e below is =
+      let later = starts_record (front ++ r ∷ []) records i p e (omega (arith, below)) is in
       (r ∷ later.0, later.1, later.2, ap (λ rs. r ∷ rs) later.3, later.4 ∙ ap (total_rows K) (append_assoc front (r ∷ []) later.0), later.5)
 
   pub start_is : (records : List R) (word row : ℕ) → Contains (starts K records) (word, row) → (r : R) × StartsAt K records row r × ((hash_in K r).word0 ≡ word)
   start_is records word row (i, below, is) =
-      let at = started [] records i (word, row) (word, row) below is in
+      let at = starts_record [] records i (word, row) (word, row) below is in
       (at.1, record { before = at.0; after = at.2; records_are = at.3; row_is = at.4 }, at.5)
 
 -- bytes that begin where a stored record starts, and reach as far as it does, give it

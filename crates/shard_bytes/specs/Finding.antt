@@ -28,10 +28,12 @@ RefusesFile bytes hash e =
     (λ info before after. FindRecordFails (files_of info) (file_table info.metadata before)
     info.metadata.file_info_offset hash before after e)
 
--- why a file is not found in the bytes of a shard in memory: an allocation failed, if fewer than
--- eight files share the first word, or eight or more do
+-- why a file is not found in the bytes of a shard in memory: an allocation failed, if one to seven
+-- files share the first word, since only then a record is read; or eight or more do
 abbrev pub NotFoundInShard : Shard → DataHash → CoreError → Type 0
 NotFoundInShard s hash e =
-    ((e ≡ OutOfMemory) × (length (with_first_word file_records hash.word0 (values s.files)) < 8))
+    ((e ≡ OutOfMemory)
+    × (1 ≤ length (with_first_word file_records hash.word0 (values s.files)))
+    × (length (with_first_word file_records hash.word0 (values s.files)) < 8))
     ⊎ ((e ≡ TruncatedHashCollision hash.word0)
     × (8 ≤ length (with_first_word file_records hash.word0 (values s.files))))

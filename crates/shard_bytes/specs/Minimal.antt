@@ -55,7 +55,7 @@ Accepts (listed hashes) hash = Contains hashes.hashes.items hash
 abbrev pub HasXorb : MinimalShard → DataHash → Type 0
 HasXorb m hash = (x : MDBXorbInfo) × Contains m.xorbs x × (xorb_hash_of x ≡ hash)
 
--- those of the hashes, in their order, that no xorb has
+-- the hashes that no xorb has, in their order
 abbrev pub AreLacked : MinimalShard → List DataHash → List DataHash → Type 0
 AreLacked m = IsKept (λ hash lacks. IsTrue lacks ↔ (¬ HasXorb m hash))
 

@@ -1,4 +1,4 @@
-//! Files with an auxiliary row, which version 2 of the format does not have, found where they lie.
+//! Finds files with an auxiliary row, which version 2 does not have, where they lie in the bytes.
 
 ghost use Rattle.std.specs.Prelude.{◌≡◌, List, All, drop, map};
 ghost use Rattle.xet_core_structures.specs.declared.merklehash.DataHash.{DataHash};
@@ -8,10 +8,10 @@ ghost use Rattle.xet_core_structures.specs.SectionReading.{IsSection};
 ghost use Rattle.shard_bytes.specs.Versions.{have_aux_rows, has_new_files};
 
 use xet_core_structures::file_structs::{FileDataSequenceHeader, MDBFileInfo};
+use xet_core_structures::record_bytes::row;
+use xet_core_structures::record_reader::SectionRecord;
+use xet_core_structures::rows::ROW_SIZE;
 use xet_core_structures::set_operations::FormatVersion;
-use xet_records::record_bytes::row;
-use xet_records::record_reader::SectionRecord;
-use xet_records::rows::ROW_SIZE;
 
 /// Whether a version does not have a file of one of these shards. Nothing is said of bytes that are
 /// no shard.

@@ -1,4 +1,4 @@
-//! Whether the bytes of a shard are what the library would write of the records in them.
+//! Checks of a shard: would the library write the same bytes for its records?
 
 ghost use Rattle.std.specs.Prelude.{◌≡◌, ◌↔◌, [], ◌∷◌, ◌++◌, List, map, All, Contains, MatchOption, MatchResult, OnOk, IfOk, IfErr, IsTrue, if◌then◌else◌};
 ghost use Rattle.std.specs.List.{slice_range};
@@ -25,13 +25,10 @@ use std::cmp::Ordering;
 use xet_core_structures::error::{CoreError, Result};
 use xet_core_structures::file_structs::MDBFileInfo;
 use xet_core_structures::merklehash::MerkleHash;
-use xet_core_structures::shard_format::{MDBShardFileFooter, MDBShardInfo};
+use xet_core_structures::shard_format::{HEADER_SIZE, MDBShardFileFooter, MDBShardInfo};
+use xet_core_structures::shard_writer::{LayoutOptions, write_again};
 use xet_core_structures::source::{MemorySource, ShardSource};
 use xet_core_structures::xorb_structs::{MDBXorbInfo, XorbChunkSequenceHeader};
-use xet_shards::shard_writer::{LayoutOptions, write_again};
-
-/// The bytes before the file section.
-pub(crate) const HEADER_SIZE: u64 = 48;
 
 /// One of the two sections of a shard.
 #[derive(Clone, Copy, Debug, PartialEq, Eq)]
@@ -71,8 +68,8 @@ pub enum Finding {
     /// flags beside those of its optional parts, or a reserved word that is not zero, in its header
     /// or in a row of such a part; a xorb, if its chunks have more than 4294967295 bytes together.
     Malformed(Section, usize),
-    /// The part is not the one that the records give: of a section this is its bookend, since its
-    /// records are those that are read.
+    /// The part is not the one that the records give. In a section this is its bookend, since its
+    /// records are those that were read.
     Differs(Part),
     /// The chunk table has the rows that the records give, but rows with the same first word stand
     /// in another order than the library writes. It is a note: nothing is lost, and the original

@@ -1,4 +1,4 @@
-//! The whole shard of bytes that may end before its tables do, as of a stream that was cut.
+//! Completes a shard whose bytes stop after its sections, as those of a stream that was cut.
 
 ghost use Rattle.std.specs.Prelude.{◌≡◌, length, IfOk, MatchResult};
 ghost use Rattle.xet_core_structures.specs.declared.error.CoreError.{CoreError};
@@ -13,9 +13,9 @@ use crate::room::with_room;
 use std::alloc::Global;
 use xet_core_structures::error::Result;
 use xet_core_structures::merklehash::HMACKey;
+use xet_core_structures::record_reader::FormatVersion;
+use xet_core_structures::shard_writer::{LayoutOptions, write_again};
 use xet_core_structures::source::MemorySource;
-use xet_records::record_reader::FormatVersion;
-use xet_shards::shard_writer::{LayoutOptions, write_again};
 
 /// The bytes of the shard of which these bytes have the header and both sections, whatever comes
 /// after these, if anything. It is in version 3, with all tables, creation 0 and no expiry, and its

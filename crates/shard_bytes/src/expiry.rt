@@ -10,9 +10,7 @@ ghost use Rattle.shard_bytes.specs.Expiry.{HasNewExpiry};
 use crate::load::load_bytes;
 use std::alloc::Global;
 use xet_core_structures::error::{CoreError, Result};
-
-/// The size of a footer, in bytes.
-const FOOTER_SIZE: usize = 200;
+use xet_core_structures::shard_format::FOOTER_SIZE;
 
 /// The bytes of a shard with another expiry, a timestamp in seconds; all else stays.
 ///
@@ -27,7 +25,7 @@ pub fn with_expiry(alloc: Global, bytes: Vec<u8>, expiry: u64) -> Result<Vec<u8>
     let mut footer = load_bytes(alloc, bytes.as_slice())?.metadata;
     footer.shard_key_expiry = expiry;
     let mut changed = bytes;
-    changed.truncate(changed.len() - FOOTER_SIZE);
+    changed.truncate(changed.len() - FOOTER_SIZE as usize);
     match footer.serialize(&mut changed) {
         Ok(_) => Ok(changed),
         // Writing to a vector fails only if it is out of memory.

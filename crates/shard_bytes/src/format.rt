@@ -3,9 +3,9 @@
 ghost use Rattle.xet_core_structures.specs.Ends.{IsUnsupported};
 ghost use Rattle.shard_bytes.specs.Format.{IsUnsupportedFor};
 
-use xet_base::fields::split_u64;
+use xet_core_structures::fields::split_u64;
+use xet_core_structures::record_reader::FormatVersion;
 use xet_core_structures::shard_format::MDBShardFileHeader;
-use xet_records::record_reader::FormatVersion;
 
 /// Why the format of bytes is not supported.
 #[derive(Clone, Copy, Debug, PartialEq, Eq)]

@@ -11,7 +11,7 @@ use crate::room::with_room;
 use std::alloc::Global;
 use xet_core_structures::error::{CoreError, Result};
 use xet_core_structures::set_operations::FormatVersion;
-use xet_shards::shard_writer::{shards_in_a_row, shards_in_a_row_into};
+use xet_core_structures::shard_writer::{shards_in_a_row, shards_in_a_row_into};
 
 /// The bytes of the shard that has the records of one shard or more, in their order, in a version
 /// of the format. The hashes of files, and those of xorbs, have to ascend from each shard to the
@@ -19,7 +19,7 @@ use xet_shards::shard_writer::{shards_in_a_row, shards_in_a_row_into};
 /// expiry. Beside it, the call needs a few hundred bytes of memory a shard.
 ///
 /// So a merge may be made range by range, on many machines, and then be put together. If the merged
-/// shards are well-formed, have one key and agree pairwise, the results of
+/// shards are well-formed, have one key and agree pairwise, the results in version 3 of
 /// [`merge_range_bytes`](crate::merge::merge_range_bytes) for ranges that follow one another
 /// without a gap give the bytes of the one merge. Records are copied and not checked: if shards are
 /// not trusted, [`check_bytes`](crate::check::check_bytes) checks the result.

@@ -1,4 +1,4 @@
-//! Errors of calls that read from memory, which has no device that fails.
+//! Turns errors of calls on memory into those that a caller can meet: no device is involved.
 
 ghost use Rattle.std.specs.Prelude.{◌≡◌, ◌⊎◌};
 ghost use Rattle.xet_core_structures.specs.Errors.{IsWriteError};

@@ -1,4 +1,4 @@
-//! The number of a version of the format, put into bytes that were made in version 3.
+//! Changes the version number in the header of bytes that were made in version 3.
 
 ghost use Rattle.std.specs.Prelude.{◌≡◌, ℕ, true, List, drop, MatchResult};
 ghost use Rattle.xet_core_structures.specs.declared.file_structs.MDBFileInfo.{MDBFileInfo};

@@ -36,12 +36,12 @@ use std::alloc::Global;
 use xet_core_structures::error::{CoreError, Result};
 use xet_core_structures::file_structs::MDBFileInfo;
 use xet_core_structures::merklehash::MerkleHash;
+use xet_core_structures::record_reader::FormatVersion;
 use xet_core_structures::shard_format::{
     CHUNK_ROW_SIZE, MDBShardFileFooter, MDBShardFileHeader, MDBShardInfo, START_ROW_SIZE,
 };
 use xet_core_structures::source::MemorySource;
 use xet_core_structures::xorb_structs::MDBXorbInfo;
-use xet_records::record_reader::FormatVersion;
 
 /// Looks for the first word of a hash in rows of a file table or a xorb table. Puts the rows of the
 /// section at which the records with this word start at the front of `rows`, and returns how many

@@ -11,11 +11,11 @@ ghost use Rattle.shard_bytes.specs.Recording.{with_files, with_xorbs, shard_of, 
 use std::alloc::Global;
 use xet_core_structures::error::Result;
 use xet_core_structures::file_structs::MDBFileInfo;
+use xet_core_structures::record_reader::FormatVersion;
 use xet_core_structures::shard_format::MDBShardInfo;
+use xet_core_structures::shard_writer::UnindexedShard;
 use xet_core_structures::source::MemorySource;
 use xet_core_structures::xorb_structs::MDBXorbInfo;
-use xet_records::record_reader::FormatVersion;
-use xet_shards::shard_writer::UnindexedShard;
 
 /// The records of a shard, files and xorbs each in the order of their section.
 #[derive(Debug, PartialEq, Drop)]

@@ -1,5 +1,4 @@
-//! Merges of the records in given rows of shards, and the rows of a range as lookup tables have
-//! them.
+//! Merges of given rows of shards, and the rows of a range of hashes, by the lookup tables.
 
 ghost use Rattle.std.specs.Prelude.{◌≡◌, ◌+◌, ◌*◌, ◌<◌, ◌≤◌, ℕ, List, None, map, length, IfOk, MatchResult};
 ghost use Rattle.std.specs.List.{AllZip};
@@ -20,8 +19,8 @@ ghost use Rattle.shard_bytes.specs.Sizes.{IsResultSize};
 use crate::load::load_bytes;
 use crate::merge::merge_plan;
 use std::alloc::Global;
-use xet_base::fields::{split_u32, split_u64};
 use xet_core_structures::error::{CoreError, Result};
+use xet_core_structures::fields::{split_u32, split_u64};
 use xet_core_structures::merklehash::MerkleHash;
 use xet_core_structures::rows::{ROW_LIMIT, ROW_SIZE};
 use xet_core_structures::set_operations::{FormatVersion, HashRange, SectionRows, merge_rows_into};

@@ -10,10 +10,10 @@ use crate::memory::in_memory;
 use crate::room::with_room;
 use std::alloc::Global;
 use xet_core_structures::error::{CoreError, Result};
+pub use xet_core_structures::record_reader::FormatVersion;
 use xet_core_structures::shard_format::MDBShardInfo;
+use xet_core_structures::shard_writer::{LayoutOptions, write_again};
 use xet_core_structures::source::MemorySource;
-pub use xet_records::record_reader::FormatVersion;
-use xet_shards::shard_writer::{LayoutOptions, write_again};
 
 /// The bytes of the same shard in version 2, from its bytes in either version: its records, in
 /// their order, under its key and with its timestamps, and the tables of which its footer says that

@@ -5,11 +5,11 @@ use Rattle.std.specs.Bool.{Decides}
 use Rattle.std.specs.List.{Any}
 use Rattle.std.proofs.lemmas.Bool.Decides.{Decides-and, Decides-like, Decides-eqb}
 use Rattle.xet_base.proofs.HashOrder.{same_hash}
-use Rattle.shard_garbage.specs.declared.finding.Fault.{Fault}
-use Rattle.shard_garbage.specs.declared.finding.Fault.TheVariants.{Unnamed, Total, Start, Lacking, Outside, Bytes}
+use Rattle.shard_garbage.specs.declared.finding.Misfit.{Misfit}
+use Rattle.shard_garbage.specs.declared.finding.Misfit.TheVariants.{Unnamed, Total, Start, Lacking, Outside, Bytes}
 use Rattle.shard_garbage.specs.declared.finding.Finding.{Finding}
 use Rattle.shard_garbage.specs.declared.finding.Segment.{Segment}
-use Rattle.shard_garbage.specs.contracts.finding.FaultPartialEq as fault_equality
+use Rattle.shard_garbage.specs.contracts.finding.MisfitPartialEq as misfit_equality
 use Rattle.shard_garbage.specs.contracts.finding.FindingPartialEq as finding_equality
 use Rattle.shard_garbage.specs.contracts.finding.SegmentPartialEq as segment_equality
 
@@ -21,43 +21,43 @@ same_segments a b =
     (Decides-and _ _ (same_hash a.xorb b.xorb) (Decides-and _ _ (same_hash a.file b.file) (Decides-and _ _ (Decides-eqb a.index b.index)
     (Decides-and _ _ (Decides-eqb a.start b.start) (Decides-and _ _ (Decides-eqb a.end b.end) (Decides-eqb a.bytes b.bytes))))))
 
-same_faults : (a b : Fault) → (fault_equality.TheImpl.ghosts).eq a b ≡ true → a ≡ b
-same_faults Unnamed Unnamed e = refl
-same_faults Unnamed (Total a' b') e = absurd (true≢false (sym e))
-same_faults Unnamed (Start a' b' c') e = absurd (true≢false (sym e))
-same_faults Unnamed (Lacking a') e = absurd (true≢false (sym e))
-same_faults Unnamed (Outside a' b') e = absurd (true≢false (sym e))
-same_faults Unnamed (Bytes a' b') e = absurd (true≢false (sym e))
-same_faults (Total a b) Unnamed e = absurd (true≢false (sym e))
-same_faults (Total a b) (Total a' b') e = let p = (Decides-and _ _ (Decides-eqb a a') (Decides-eqb b b')).0 e in λ i. Total (p.0 i) (p.1 i)
-same_faults (Total a b) (Start a' b' c') e = absurd (true≢false (sym e))
-same_faults (Total a b) (Lacking a') e = absurd (true≢false (sym e))
-same_faults (Total a b) (Outside a' b') e = absurd (true≢false (sym e))
-same_faults (Total a b) (Bytes a' b') e = absurd (true≢false (sym e))
-same_faults (Start a b c) Unnamed e = absurd (true≢false (sym e))
-same_faults (Start a b c) (Total a' b') e = absurd (true≢false (sym e))
-same_faults (Start a b c) (Start a' b' c') e = let p = (Decides-and _ _ (Decides-eqb a a') (Decides-and _ _ (Decides-eqb b b') (Decides-eqb c c'))).0 e in λ i. Start (p.0 i) (p.1.0 i) (p.1.1 i)
-same_faults (Start a b c) (Lacking a') e = absurd (true≢false (sym e))
-same_faults (Start a b c) (Outside a' b') e = absurd (true≢false (sym e))
-same_faults (Start a b c) (Bytes a' b') e = absurd (true≢false (sym e))
-same_faults (Lacking a) Unnamed e = absurd (true≢false (sym e))
-same_faults (Lacking a) (Total a' b') e = absurd (true≢false (sym e))
-same_faults (Lacking a) (Start a' b' c') e = absurd (true≢false (sym e))
-same_faults (Lacking a) (Lacking a') e = ap Lacking ((same_segments a a').0 e)
-same_faults (Lacking a) (Outside a' b') e = absurd (true≢false (sym e))
-same_faults (Lacking a) (Bytes a' b') e = absurd (true≢false (sym e))
-same_faults (Outside a b) Unnamed e = absurd (true≢false (sym e))
-same_faults (Outside a b) (Total a' b') e = absurd (true≢false (sym e))
-same_faults (Outside a b) (Start a' b' c') e = absurd (true≢false (sym e))
-same_faults (Outside a b) (Lacking a') e = absurd (true≢false (sym e))
-same_faults (Outside a b) (Outside a' b') e = let p = (Decides-and _ _ (same_segments a a') (Decides-eqb b b')).0 e in λ i. Outside (p.0 i) (p.1 i)
-same_faults (Outside a b) (Bytes a' b') e = absurd (true≢false (sym e))
-same_faults (Bytes a b) Unnamed e = absurd (true≢false (sym e))
-same_faults (Bytes a b) (Total a' b') e = absurd (true≢false (sym e))
-same_faults (Bytes a b) (Start a' b' c') e = absurd (true≢false (sym e))
-same_faults (Bytes a b) (Lacking a') e = absurd (true≢false (sym e))
-same_faults (Bytes a b) (Outside a' b') e = absurd (true≢false (sym e))
-same_faults (Bytes a b) (Bytes a' b') e = let p = (Decides-and _ _ (same_segments a a') (Decides-eqb b b')).0 e in λ i. Bytes (p.0 i) (p.1 i)
+same_misfits : (a b : Misfit) → (misfit_equality.TheImpl.ghosts).eq a b ≡ true → a ≡ b
+same_misfits Unnamed Unnamed e = refl
+same_misfits Unnamed (Total a' b') e = absurd (true≢false (sym e))
+same_misfits Unnamed (Start a' b' c') e = absurd (true≢false (sym e))
+same_misfits Unnamed (Lacking a') e = absurd (true≢false (sym e))
+same_misfits Unnamed (Outside a' b') e = absurd (true≢false (sym e))
+same_misfits Unnamed (Bytes a' b') e = absurd (true≢false (sym e))
+same_misfits (Total a b) Unnamed e = absurd (true≢false (sym e))
+same_misfits (Total a b) (Total a' b') e = let p = (Decides-and _ _ (Decides-eqb a a') (Decides-eqb b b')).0 e in λ i. Total (p.0 i) (p.1 i)
+same_misfits (Total a b) (Start a' b' c') e = absurd (true≢false (sym e))
+same_misfits (Total a b) (Lacking a') e = absurd (true≢false (sym e))
+same_misfits (Total a b) (Outside a' b') e = absurd (true≢false (sym e))
+same_misfits (Total a b) (Bytes a' b') e = absurd (true≢false (sym e))
+same_misfits (Start a b c) Unnamed e = absurd (true≢false (sym e))
+same_misfits (Start a b c) (Total a' b') e = absurd (true≢false (sym e))
+same_misfits (Start a b c) (Start a' b' c') e = let p = (Decides-and _ _ (Decides-eqb a a') (Decides-and _ _ (Decides-eqb b b') (Decides-eqb c c'))).0 e in λ i. Start (p.0 i) (p.1.0 i) (p.1.1 i)
+same_misfits (Start a b c) (Lacking a') e = absurd (true≢false (sym e))
+same_misfits (Start a b c) (Outside a' b') e = absurd (true≢false (sym e))
+same_misfits (Start a b c) (Bytes a' b') e = absurd (true≢false (sym e))
+same_misfits (Lacking a) Unnamed e = absurd (true≢false (sym e))
+same_misfits (Lacking a) (Total a' b') e = absurd (true≢false (sym e))
+same_misfits (Lacking a) (Start a' b' c') e = absurd (true≢false (sym e))
+same_misfits (Lacking a) (Lacking a') e = ap Lacking ((same_segments a a').0 e)
+same_misfits (Lacking a) (Outside a' b') e = absurd (true≢false (sym e))
+same_misfits (Lacking a) (Bytes a' b') e = absurd (true≢false (sym e))
+same_misfits (Outside a b) Unnamed e = absurd (true≢false (sym e))
+same_misfits (Outside a b) (Total a' b') e = absurd (true≢false (sym e))
+same_misfits (Outside a b) (Start a' b' c') e = absurd (true≢false (sym e))
+same_misfits (Outside a b) (Lacking a') e = absurd (true≢false (sym e))
+same_misfits (Outside a b) (Outside a' b') e = let p = (Decides-and _ _ (same_segments a a') (Decides-eqb b b')).0 e in λ i. Outside (p.0 i) (p.1 i)
+same_misfits (Outside a b) (Bytes a' b') e = absurd (true≢false (sym e))
+same_misfits (Bytes a b) Unnamed e = absurd (true≢false (sym e))
+same_misfits (Bytes a b) (Total a' b') e = absurd (true≢false (sym e))
+same_misfits (Bytes a b) (Start a' b' c') e = absurd (true≢false (sym e))
+same_misfits (Bytes a b) (Lacking a') e = absurd (true≢false (sym e))
+same_misfits (Bytes a b) (Outside a' b') e = absurd (true≢false (sym e))
+same_misfits (Bytes a b) (Bytes a' b') e = let p = (Decides-and _ _ (same_segments a a') (Decides-eqb b b')).0 e in λ i. Bytes (p.0 i) (p.1 i)
 
 itself : (x : Bool) → Decides x (x ≡ true)
 itself x = (λ e. e, λ e. e)
@@ -65,8 +65,8 @@ itself x = (λ e. e, λ e. e)
 -- two findings that the derived test calls equal are equal
 same_findings : (a b : Finding) → (finding_equality.TheImpl.ghosts).eq a b ≡ true → a ≡ b
 same_findings a b e =
-    let p = (Decides-and _ _ (same_hash a.xorb b.xorb) (itself ((fault_equality.TheImpl.ghosts).eq a.fault b.fault))).0 e in
-    λ i. record { xorb = p.0 i; fault = same_faults a.fault b.fault p.1 i }
+    let p = (Decides-and _ _ (same_hash a.xorb b.xorb) (itself ((misfit_equality.TheImpl.ghosts).eq a.misfit b.misfit))).0 e in
+    λ i. record { xorb = p.0 i; misfit = same_misfits a.misfit b.misfit p.1 i }
 
 pub has_same : (fs : List Finding) (f : Finding) → Any (λ g. (finding_equality.TheImpl.ghosts).eq f g ≡ true) fs → Contains fs f
 has_same fs f (k, g, below, at, same) = subst (Contains fs) (sym (same_findings f g same)) (k, below, at)

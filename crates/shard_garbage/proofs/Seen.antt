@@ -6,8 +6,8 @@ use Rattle.std.proofs.lemmas.List.Sorted.{Contains-permutation, IsPermutation-sy
 use Rattle.xet_base.specs.declared.merklehash.DataHash.{DataHash}
 use Rattle.xet_records.specs.declared.file_structs.MDBFileInfo.{MDBFileInfo}
 use Rattle.xet_records.specs.declared.xorb_structs.MDBXorbInfo.{MDBXorbInfo}
-use Rattle.shard_garbage.specs.declared.finding.Fault.{Fault}
-use Rattle.shard_garbage.specs.declared.finding.Fault.TheVariants.{Unnamed, Total, Start, Lacking, Outside, Bytes}
+use Rattle.shard_garbage.specs.declared.finding.Misfit.{Misfit}
+use Rattle.shard_garbage.specs.declared.finding.Misfit.TheVariants.{Unnamed, Total, Start, Lacking, Outside, Bytes}
 use Rattle.shard_garbage.specs.declared.finding.Finding.{Finding}
 use Rattle.shard_garbage.specs.declared.finding.Segment.{Segment}
 use Rattle.shard_garbage.specs.declared.range.HashRange.{HashRange}
@@ -105,16 +105,16 @@ module _ (range : HashRange) (files : List MDBFileInfo) (xorbs : List MDBXorbInf
   in_sorted h is within = Contains-permutation hashes sorted h moved (hashes_are.all h is within)
 
   is_unnamed : (f : Finding) → InRange range f.xorb → IsOneOf (λ h. h) (IsUnnamed segments) sorted f → IsGarbage files xorbs f
-  is_unnamed f within (h, has, of_h, (fault, none)) =
-      inr (subst (IsOfHash files xorbs f.xorb) (sym fault)
+  is_unnamed f within (h, has, of_h, (misfit, none)) =
+      inr (subst (IsOfHash files xorbs f.xorb) (sym misfit)
       (subst (HasXorb xorbs) (sym of_h) (in_hashes h has), λ s is names. none s (segments_are.all s is (subst (InRange range) (sym names) within)) (names ∙ of_h)))
 
   is_lacking : (f : Finding) → InRange range f.xorb → IsOneOf (λ s. s.xorb) (IsLacking sorted) segments f → IsGarbage files xorbs f
-  is_lacking f within (s, has, of_s, (fault, none)) =
-      inr (subst (IsOfHash files xorbs f.xorb) (sym fault)
+  is_lacking f within (s, has, of_s, (misfit, none)) =
+      inr (subst (IsOfHash files xorbs f.xorb) (sym misfit)
       (segments_are.each s has, sym of_s, λ there. none (in_sorted s.xorb (subst (HasXorb xorbs) of_s there) (subst (InRange range) of_s within))))
 
-  of_hash : (f : Finding) (fault : Fault) → f.fault ≡ fault → InRange range f.xorb → IsOfHash files xorbs f.xorb fault → Contains with_lacking f
+  of_hash : (f : Finding) (misfit : Misfit) → f.misfit ≡ misfit → InRange range f.xorb → IsOfHash files xorbs f.xorb misfit → Contains with_lacking f
   of_hash f Unnamed is within (has, none) =
       lacking.kept f (unnamed.added f (f.xorb, in_sorted f.xorb has within, refl, (is, λ s there names. none s (segments_are.each s there) names)))
   of_hash f (Lacking s) is within (among, names, none) =
@@ -127,7 +127,7 @@ module _ (range : HashRange) (files : List MDBFileInfo) (xorbs : List MDBXorbInf
   pub reports_range : Reports range files xorbs result
   reports_range = record {
     each = λ f has. (from f ((order.each f has).1) (lacking.each f ((order.each f has).0)), (order.each f has).1);
-    all = λ f is within. order.kept f (⊎_elim (λ of_xorb. lacking.kept f (unnamed.kept f (found_are.all f of_xorb within))) (λ of_it. of_hash f f.fault refl within of_it) is) within;
+    all = λ f is within. order.kept f (⊎_elim (λ of_xorb. lacking.kept f (unnamed.kept f (found_are.all f of_xorb within))) (λ of_it. of_hash f f.misfit refl within of_it) is) within;
     ascend = order.ascend;
   } where
     earlier : (f : Finding) → InRange range f.xorb → Contains found f ⊎ IsOneOf (λ h. h) (IsUnnamed segments) sorted f → IsGarbage files xorbs f

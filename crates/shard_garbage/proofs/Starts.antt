@@ -5,8 +5,8 @@ use Rattle.std.proofs.lemmas.Option.{same_Some, slice_get_within, slice_get-get_
 use Rattle.xet_records.specs.declared.xorb_structs.XorbChunkSequenceEntry.{XorbChunkSequenceEntry}
 use Rattle.xet_records.specs.declared.xorb_structs.MDBXorbInfo.{MDBXorbInfo}
 use Rattle.xet_records.specs.XorbRecord.{total_bytes}
-use Rattle.shard_garbage.specs.declared.finding.Fault.{Fault}
-use Rattle.shard_garbage.specs.declared.finding.Fault.TheVariants.{Unnamed, Total, Start, Lacking, Outside, Bytes}
+use Rattle.shard_garbage.specs.declared.finding.Misfit.{Misfit}
+use Rattle.shard_garbage.specs.declared.finding.Misfit.TheVariants.{Unnamed, Total, Start, Lacking, Outside, Bytes}
 use Rattle.shard_garbage.specs.Garbage.{StartsAdd, IsStart}
 use Rattle.shard_garbage.proofs.FileSegments.{below_or_at}
 
@@ -19,7 +19,7 @@ starts_on chunks index sum d low sum_is start starts j c below at = of (below_or
       let c_is : get_or chunks index d ≡ c = same_Some _ _ (sym (slice_get-get_or chunks index d low) ∙ sym (ap (slice_get chunks) same) ∙ at) in
       ap (λ (x : XorbChunkSequenceEntry). x.chunk_byte_range_start) (sym c_is) ∙ start ∙ sum_is ∙ sym (ap (λ n. total_bytes (take n chunks)) same)
 
-pub none_starts : (x : MDBXorbInfo) (n : ℕ) → StartsAdd x.chunks n → length x.chunks ≤ n → (fault : Fault) → ¬ IsStart x fault
+pub none_starts : (x : MDBXorbInfo) (n : ℕ) → StartsAdd x.chunks n → length x.chunks ≤ n → (misfit : Misfit) → ¬ IsStart x misfit
 none_starts x n starts past (Start i said sum) ((c, at, said_is), sum_is, differ, before) =
     differ (sym said_is ∙ starts i c (omega (arith, past, slice_get_within x.chunks i c at)) at ∙ sym sum_is)
 none_starts x n starts past Unnamed is = is

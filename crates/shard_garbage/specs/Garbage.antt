@@ -7,8 +7,8 @@ use Rattle.xet_records.specs.declared.xorb_structs.XorbChunkSequenceEntry.{XorbC
 use Rattle.xet_records.specs.declared.xorb_structs.MDBXorbInfo.{MDBXorbInfo}
 use Rattle.xet_records.specs.XorbRecord.{total_bytes}
 use Rattle.shard_garbage.specs.declared.finding.Segment.{Segment}
-use Rattle.shard_garbage.specs.declared.finding.Fault.{Fault}
-use Rattle.shard_garbage.specs.declared.finding.Fault.TheVariants.{Unnamed, Total, Start, Lacking, Outside, Bytes}
+use Rattle.shard_garbage.specs.declared.finding.Misfit.{Misfit}
+use Rattle.shard_garbage.specs.declared.finding.Misfit.TheVariants.{Unnamed, Total, Start, Lacking, Outside, Bytes}
 use Rattle.shard_garbage.specs.declared.finding.Finding.{Finding}
 
 -- the segment at an index of a file
@@ -44,13 +44,13 @@ StartsAdd chunks i =
     → c.chunk_byte_range_start ≡ total_bytes (take j chunks)
 
 -- a xorb's own number of bytes is not the sum of its chunks'
-abbrev pub IsTotal : MDBXorbInfo → Fault → Type 0
+abbrev pub IsTotal : MDBXorbInfo → Misfit → Type 0
 IsTotal x (Total said sum) =
     (said ≡ x.metadata.num_bytes_in_xorb) × (sum ≡ total_bytes x.chunks) × (said ≢ sum)
 IsTotal x _ = ⊥
 
 -- the first chunk that does not start where those before it end
-abbrev pub IsStart : MDBXorbInfo → Fault → Type 0
+abbrev pub IsStart : MDBXorbInfo → Misfit → Type 0
 IsStart x (Start i said sum) =
     ((c : XorbChunkSequenceEntry) × (slice_get x.chunks i ≡ Some c)
     × (c.chunk_byte_range_start ≡ said))
@@ -66,25 +66,25 @@ abbrev pub bytes_within : Segment → MDBXorbInfo → ℕ
 bytes_within s x = total_bytes (take (s.end - s.start) (drop s.start x.chunks))
 
 -- a segment lies outside of the xorb, or its bytes are not those of its chunks
-abbrev pub IsOfSegment : Segment → MDBXorbInfo → Fault → Type 0
+abbrev pub IsOfSegment : Segment → MDBXorbInfo → Misfit → Type 0
 IsOfSegment s x (Outside t chunks) = (t ≡ s) × (chunks ≡ length x.chunks) × (¬ LiesWithin s x)
 IsOfSegment s x (Bytes t sum) =
     (t ≡ s) × LiesWithin s x × (sum ≡ bytes_within s x) × (sum ≢ s.bytes)
 IsOfSegment s x _ = ⊥
 
--- a fault of a xorb by itself, or of a segment that names it
+-- a misfit of a xorb by itself, or of a segment that names it
 abbrev pub IsOfXorb : List MDBFileInfo → MDBXorbInfo → Finding → Type 0
 IsOfXorb files x f =
     (x.metadata.xorb_hash ≡ f.xorb)
-    × (IsTotal x f.fault ⊎ (IsStart x f.fault ⊎ ((s : Segment) × IsSegment files s
-    × (s.xorb ≡ x.metadata.xorb_hash) × IsOfSegment s x f.fault)))
+    × (IsTotal x f.misfit ⊎ (IsStart x f.misfit ⊎ ((s : Segment) × IsSegment files s
+    × (s.xorb ≡ x.metadata.xorb_hash) × IsOfSegment s x f.misfit)))
 
--- a fault of one of the xorbs, or of a segment that names it
+-- a misfit of one of the xorbs, or of a segment that names it
 abbrev pub IsOfXorbs : List MDBFileInfo → List MDBXorbInfo → Finding → Type 0
 IsOfXorbs files xorbs f = (x : MDBXorbInfo) × Contains xorbs x × IsOfXorb files x f
 
--- a fault of a hash: no segment names it, but a xorb has it; or the other way round
-abbrev pub IsOfHash : List MDBFileInfo → List MDBXorbInfo → DataHash → Fault → Type 0
+-- a misfit of a hash: no segment names it, but a xorb has it; or the other way round
+abbrev pub IsOfHash : List MDBFileInfo → List MDBXorbInfo → DataHash → Misfit → Type 0
 IsOfHash files xorbs hash Unnamed =
     HasXorb xorbs hash × ((s : Segment) → IsSegment files s → ¬ (s.xorb ≡ hash))
 IsOfHash files xorbs hash (Lacking s) =
@@ -93,4 +93,4 @@ IsOfHash files xorbs hash _ = ⊥
 
 -- what does not fit together in files and xorbs
 abbrev pub IsGarbage : List MDBFileInfo → List MDBXorbInfo → Finding → Type 0
-IsGarbage files xorbs f = IsOfXorbs files xorbs f ⊎ IsOfHash files xorbs f.xorb f.fault
+IsGarbage files xorbs f = IsOfXorbs files xorbs f ⊎ IsOfHash files xorbs f.xorb f.misfit

@@ -5,10 +5,10 @@ use Rattle.std.specs.Ordering.{is_lt, nat_cmp, ordering_then}
 use Rattle.std.specs.declared.cmp.Ordering.{Ordering}
 use Rattle.xet_base.specs.declared.merklehash.DataHash.{DataHash}
 use Rattle.xet_base.specs.Hash.{hash_cmp}
-use Rattle.shard_garbage.specs.declared.finding.Fault.{Fault}
+use Rattle.shard_garbage.specs.declared.finding.Misfit.{Misfit}
 use Rattle.shard_garbage.specs.declared.finding.Finding.{Finding}
 use Rattle.shard_garbage.specs.declared.finding.Segment.{Segment}
-use Rattle.shard_garbage.specs.contracts.finding.FaultOrd as fault_order
+use Rattle.shard_garbage.specs.contracts.finding.MisfitOrd as misfit_order
 
 -- segments in the order of their fields
 abbrev pub segment_cmp : Segment → Segment → Ordering
@@ -25,13 +25,13 @@ is_before hash s = is_lt (hash_cmp s.xorb hash)
 abbrev pub is_up_to : DataHash → Segment → Bool
 is_up_to hash s = not (is_lt (hash_cmp hash s.xorb))
 
--- faults in the order of the variants, and then of their fields
-abbrev pub fault_cmp : Fault → Fault → Ordering
-fault_cmp = (fault_order.TheImpl.ghosts).cmp
+-- misfits in the order of the variants, and then of their fields
+abbrev pub misfit_cmp : Misfit → Misfit → Ordering
+misfit_cmp = (misfit_order.TheImpl.ghosts).cmp
 
--- findings in the order of their hashes, and then of their faults
+-- findings in the order of their hashes, and then of their misfits
 abbrev pub finding_cmp : Finding → Finding → Ordering
-finding_cmp f g = ordering_then (hash_cmp f.xorb g.xorb) (fault_cmp f.fault g.fault)
+finding_cmp f g = ordering_then (hash_cmp f.xorb g.xorb) (misfit_cmp f.misfit g.misfit)
 
 -- each finding is above the one before it
 abbrev pub Ascend : List Finding → Type 0

@@ -3,8 +3,8 @@ use Rattle.std.specs.Prelude.{◌≡◌, ◌⊎◌, List, [], ◌∷◌, ◌++�
 use Rattle.xet_base.specs.declared.merklehash.DataHash.{DataHash}
 use Rattle.xet_records.specs.declared.file_structs.MDBFileInfo.{MDBFileInfo}
 use Rattle.xet_records.specs.declared.xorb_structs.MDBXorbInfo.{MDBXorbInfo}
-use Rattle.shard_garbage.specs.declared.finding.Fault.{Fault}
-use Rattle.shard_garbage.specs.declared.finding.Fault.TheVariants.{Unnamed, Lacking}
+use Rattle.shard_garbage.specs.declared.finding.Misfit.{Misfit}
+use Rattle.shard_garbage.specs.declared.finding.Misfit.TheVariants.{Unnamed, Lacking}
 use Rattle.shard_garbage.specs.declared.finding.Finding.{Finding}
 use Rattle.shard_garbage.specs.declared.finding.Segment.{Segment}
 use Rattle.shard_garbage.specs.declared.range.HashRange.{HashRange}
@@ -29,28 +29,28 @@ pub record Adds {X : Type 0} (P : X → Type 0) (old new : List X) : Type 0 wher
   pub added : (x : X) → P x → Contains new x
   pub each : (x : X) → Contains new x → Contains old x ⊎ P x
 
--- a finding is this fault of the xorb with this hash, if there is a fault
-abbrev pub IsFound : DataHash → Option Fault → Finding → Type 0
-IsFound hash fault f = (f.xorb ≡ hash) × (fault ≡ Some f.fault)
+-- a finding is this misfit of the xorb with this hash, if there is a misfit
+abbrev pub IsFound : DataHash → Option Misfit → Finding → Type 0
+IsFound hash misfit f = (f.xorb ≡ hash) × (misfit ≡ Some f.misfit)
 
--- a finding is a fault of one of these values, of the hash that belongs to the value
-abbrev pub IsOneOf : {T : Type 0} → (T → DataHash) → (T → Fault → Type 0) → List T → Finding → Type 0
-IsOneOf {T = T} hash_of F xs f = (x : T) × Contains xs x × (f.xorb ≡ hash_of x) × F x f.fault
+-- a finding is a misfit of one of these values, of the hash that belongs to the value
+abbrev pub IsOneOf : {T : Type 0} → (T → DataHash) → (T → Misfit → Type 0) → List T → Finding → Type 0
+IsOneOf {T = T} hash_of F xs f = (x : T) × Contains xs x × (f.xorb ≡ hash_of x) × F x f.misfit
 
 -- none of these segments names a hash
-abbrev pub IsUnnamed : List Segment → DataHash → Fault → Type 0
-IsUnnamed segments hash fault =
-    (fault ≡ Unnamed) × ((s : Segment) → Contains segments s → ¬ (s.xorb ≡ hash))
+abbrev pub IsUnnamed : List Segment → DataHash → Misfit → Type 0
+IsUnnamed segments hash misfit =
+    (misfit ≡ Unnamed) × ((s : Segment) → Contains segments s → ¬ (s.xorb ≡ hash))
 
 -- a segment names none of these hashes
-abbrev pub IsLacking : List DataHash → Segment → Fault → Type 0
-IsLacking hashes s fault = (fault ≡ Lacking s) × (¬ Contains hashes s.xorb)
+abbrev pub IsLacking : List DataHash → Segment → Misfit → Type 0
+IsLacking hashes s misfit = (misfit ≡ Lacking s) × (¬ Contains hashes s.xorb)
 
--- a fault of a xorb by itself, or of one of these segments
+-- a misfit of a xorb by itself, or of one of these segments
 abbrev pub IsOfXorbAmong : List Segment → MDBXorbInfo → Finding → Type 0
 IsOfXorbAmong segments x f =
-    (((f.xorb ≡ x.metadata.xorb_hash) × IsTotal x f.fault)
-    ⊎ ((f.xorb ≡ x.metadata.xorb_hash) × IsStart x f.fault))
+    (((f.xorb ≡ x.metadata.xorb_hash) × IsTotal x f.misfit)
+    ⊎ ((f.xorb ≡ x.metadata.xorb_hash) × IsStart x f.misfit))
     ⊎ IsOneOf (λ s. x.metadata.xorb_hash) (λ s. IsOfSegment s x) segments f
 
 -- a list keeps the values whose hashes are in a range, and no others

@@ -2,19 +2,19 @@
 
 ghost use Rattle.std.specs.Prelude.{◌≡◌, ◌↔◌, Some, OnOk};
 ghost use Rattle.xet_records.specs.XorbRecord.{HasItsChunks};
-ghost use Rattle.shard_garbage.specs.declared.finding.Fault.{Fault as AFault};
+ghost use Rattle.shard_garbage.specs.declared.finding.Misfit.{Misfit as AMisfit};
 ghost use Rattle.shard_garbage.specs.Garbage.{IsOfSegment};
 ghost use Rattle.shard_garbage.specs.Steps.{Adds, IsFound, IsOfXorbAmong, IsOneOf, IsUnnamed, IsLacking};
 
-use crate::fault::{segment_fault, start_fault, total_fault};
-use crate::finding::{Fault, Finding, Segment};
+use crate::finding::{Finding, Misfit, Segment};
+use crate::misfit::{segment_misfit, start_misfit, total_misfit};
 use crate::sorted::{SortedHashes, SortedSegments};
 use std::alloc::AllocError;
 use xet_base::merklehash::MerkleHash;
 use xet_records::xorb_structs::MDBXorbInfo;
 
-/// Adds the faults of a xorb, and of these segments, which name it.
-pub(crate) fn add_xorb_faults(
+/// Adds the misfits of a xorb, and of these segments, which name it.
+pub(crate) fn add_xorb_misfits(
     found: &mut Vec<Finding>,
     segments: &[Segment],
     xorb: &MDBXorbInfo,
@@ -24,14 +24,14 @@ pub(crate) fn add_xorb_faults(
         (Adds (IsOfXorbAmong segments.now xorb.now) found.old.items found.new.items) }
 {
     let hash = xorb.metadata.xorb_hash;
-    add_fault(found, hash, total_fault(xorb))?;
-    add_fault(found, hash, start_fault(xorb))?;
-    add_segment_faults(found, segments, xorb)?;
+    add_misfit(found, hash, total_misfit(xorb))?;
+    add_misfit(found, hash, start_misfit(xorb))?;
+    add_segment_misfits(found, segments, xorb)?;
     Ok(())
 }
 
-// Adds the faults of segments that name a xorb.
-fn add_segment_faults(
+// Adds the misfits of segments that name a xorb.
+fn add_segment_misfits(
     found: &mut Vec<Finding>,
     segments: &[Segment],
     xorb: &MDBXorbInfo,
@@ -43,8 +43,8 @@ fn add_segment_faults(
 {
     let mut index = 0;
     while index < segments.len() {
-        let fault = segment_fault(&segments[index], xorb);
-        add_fault(found, xorb.metadata.xorb_hash, fault)?;
+        let misfit = segment_misfit(&segments[index], xorb);
+        add_misfit(found, xorb.metadata.xorb_hash, misfit)?;
         index += 1;
     }
     Ok(())
@@ -63,8 +63,8 @@ pub(crate) fn add_unnamed(
     let items = hashes.items.as_slice();
     let mut index = 0;
     while index < items.len() {
-        let fault = unnamed_fault(segments, items[index]);
-        add_fault(found, items[index], fault)?;
+        let misfit = unnamed_misfit(segments, items[index]);
+        add_misfit(found, items[index], misfit)?;
         index += 1;
     }
     Ok(())
@@ -83,48 +83,48 @@ pub(crate) fn add_lacking(
     let items = segments.items.as_slice();
     let mut index = 0;
     while index < items.len() {
-        let fault = lacking_fault(hashes, &items[index]);
-        add_fault(found, items[index].xorb, fault)?;
+        let misfit = lacking_misfit(hashes, &items[index]);
+        add_misfit(found, items[index].xorb, misfit)?;
         index += 1;
     }
     Ok(())
 }
 
 // That no segment names a hash.
-fn unnamed_fault(segments: &SortedSegments, hash: MerkleHash) -> Option<Fault>
-    ensures { (fault : AFault) → (result ≡ Some fault)
-        ↔ IsUnnamed segments.now.items.items hash fault }
+fn unnamed_misfit(segments: &SortedSegments, hash: MerkleHash) -> Option<Misfit>
+    ensures { (misfit : AMisfit) → (result ≡ Some misfit)
+        ↔ IsUnnamed segments.now.items.items hash misfit }
 {
     if segments.naming_hash(hash).is_empty() {
-        Some(Fault::Unnamed)
+        Some(Misfit::Unnamed)
     } else {
         None
     }
 }
 
 // That a segment names none of the hashes.
-fn lacking_fault(hashes: &SortedHashes, segment: &Segment) -> Option<Fault>
-    ensures { (fault : AFault) → (result ≡ Some fault)
-        ↔ IsLacking hashes.now.items.items segment.now fault }
+fn lacking_misfit(hashes: &SortedHashes, segment: &Segment) -> Option<Misfit>
+    ensures { (misfit : AMisfit) → (result ≡ Some misfit)
+        ↔ IsLacking hashes.now.items.items segment.now misfit }
 {
     if hashes.contains(&segment.xorb) {
         None
     } else {
-        Some(Fault::Lacking(*segment))
+        Some(Misfit::Lacking(*segment))
     }
 }
 
-// Adds a fault, if there is one.
-fn add_fault(
+// Adds a misfit, if there is one.
+fn add_misfit(
     found: &mut Vec<Finding>,
     xorb: MerkleHash,
-    fault: Option<Fault>,
+    misfit: Option<Misfit>,
 ) -> Result<(), AllocError>
-    ensures { OnOk result (Adds (IsFound xorb fault) found.old.items found.new.items) }
+    ensures { OnOk result (Adds (IsFound xorb misfit) found.old.items found.new.items) }
 {
-    match fault {
-        Some(fault) => {
-            found.push(Finding { xorb, fault })?;
+    match misfit {
+        Some(misfit) => {
+            found.push(Finding { xorb, misfit })?;
             Ok(())
         }
         None => Ok(()),

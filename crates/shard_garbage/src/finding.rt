@@ -19,7 +19,7 @@ pub struct Segment {
 
 /// What is wrong with a xorb, or with a segment that names it.
 #[derive(Clone, Copy, PartialEq, Eq, PartialOrd, Ord)]
-pub enum Fault {
+pub enum Misfit {
     /// No segment names the xorb.
     Unnamed,
     /// The xorb says to have `said` bytes, unpacked, and its chunks have `sum` together.
@@ -35,9 +35,9 @@ pub enum Fault {
     Bytes(Segment, u64),
 }
 
-/// A fault, and the xorb that it is about.
+/// A misfit, and the xorb that it is about.
 #[derive(Clone, Copy, PartialEq, Eq, PartialOrd, Ord)]
 pub struct Finding {
     pub xorb: MerkleHash,
-    pub fault: Fault,
+    pub misfit: Misfit,
 }

@@ -14,7 +14,7 @@ ghost use Rattle.shard_garbage.specs.Ranges.{HoldsSegments, in_range};
 ghost use Rattle.shard_garbage.specs.Reports.{HasSeen, Reports, ReportsAll};
 ghost use Rattle.shard_garbage.specs.Steps.{KeepsInRange, IsInOrder};
 
-use crate::adding::{add_lacking, add_unnamed, add_xorb_faults};
+use crate::adding::{add_lacking, add_unnamed, add_xorb_misfits};
 use crate::finding::Finding;
 use crate::range::HashRange;
 use crate::segments::Segments;
@@ -61,7 +61,7 @@ impl Garbage {
             return Ok(());
         }
         self.xorbs.push(hash)?;
-        add_xorb_faults(&mut self.found, self.segments.naming_hash(hash), xorb)?;
+        add_xorb_misfits(&mut self.found, self.segments.naming_hash(hash), xorb)?;
         Ok(())
     }
 

@@ -3,9 +3,9 @@
 #![tactic(auto)]
 
 mod adding;
-pub mod fault;
 pub mod finding;
 pub mod garbage;
+pub mod misfit;
 pub mod range;
 pub mod segments;
 mod sorted;

@@ -6,6 +6,12 @@ ghost use Rattle.xet_c.specs.Output.{Answers, Delivers, Refuses};
 
 use xet_core_structures::error::{CoreError, Result};
 
+/// A text is not the name of a shard's file: `CoreError::BadFilename`.
+pub const XET_BAD_FILENAME: u32 = 6;
+
+/// A text is not the digits of a hash: `CoreError::HashParsing`.
+pub const XET_HASH_PARSING: u32 = 16;
+
 /// An allocation failed: `CoreError::OutOfMemory`, the last of the library's own errors, 1 to 18.
 pub const XET_OUT_OF_MEMORY: u32 = 18;
 

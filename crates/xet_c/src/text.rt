@@ -10,7 +10,7 @@ ghost use Rattle.xet_c.specs.Output.{Outcome};
 ghost use Rattle.xet_c.specs.Text.{Reads, WritesTextOf};
 
 use crate::hash::{XetHash, of_hash};
-use crate::output::{deliver, error_number};
+use crate::output::{XET_BAD_FILENAME, XET_HASH_PARSING, deliver, error_number};
 use std::alloc::Global;
 use xet_core_structures::error::{CoreError, Result};
 use xet_core_structures::merklehash::MerkleHash;
@@ -42,7 +42,7 @@ pub extern "C" fn xet_hash_from_hex(text: &[u8], hash: &mut XetHash) -> u32
             *hash = of_hash(&read);
             0
         }
-        None => 16,
+        None => XET_HASH_PARSING,
     }
 }
 
@@ -74,7 +74,7 @@ pub extern "C" fn xet_parse_shard_name(name: &[u8], hash: &mut XetHash) -> u32
             *hash = of_hash(&read);
             0
         }
-        None => 6,
+        None => XET_BAD_FILENAME,
     }
 }
 

@@ -1,5 +1,6 @@
 -- Trees of unions.
 
+pub mod Sides
 pub mod MergeTrees
 pub mod RangeTrees
 pub mod RangeParts

@@ -1,11 +1,13 @@
-//! Metadata shards of Xet storage: the public modules of the crates below, but for those that serve
-//! these crates alone. `docs/DECISIONS.md` says which these are, and why.
+//! Metadata shards of Xet storage: unions and differences of their bytes, laws, and the public
+//! modules of the crates below, but for those that only these use.
 #![tactic(auto)]
 
 pub mod laws;
 pub mod set_operations;
 pub mod well_formed;
 
-pub use xet_base::{count, error, merklehash, serialization_utils, source};
-pub use xet_records::{file_structs, rows, xorb_structs};
-pub use xet_shards::{interpolation_search, shard_format, shard_in_memory, streaming_shard, utils};
+pub use xet_base::{count, error, fields, input, merklehash, serialization_utils, source};
+pub use xet_records::{file_structs, record_bytes, record_reader, rows, xorb_structs};
+pub use xet_shards::{
+    interpolation_search, shard_format, shard_in_memory, shard_writer, streaming_shard, utils,
+};

@@ -10,7 +10,7 @@ ghost use Rattle.xet_core_structures.specs.Steps.Agreement.{IsPlainHeader};
 use xet_records::file_structs::FileDataSequenceHeader;
 use xet_records::record_bytes::row;
 use xet_records::rows::ROW_SIZE;
-use xet_records::xorb_structs::XorbChunkSequenceEntry;
+use xet_records::xorb_structs::{MAX_XORB_BYTES, XorbChunkSequenceEntry};
 
 /// Whether the flags of a file's header announce optional parts and nothing else, and its reserved
 /// word is zero.
@@ -31,7 +31,7 @@ pub fn have_few_bytes(rows: &[u8]) -> bool
     while rest.len() >= ROW_SIZE {
         let chunk: XorbChunkSequenceEntry = row(rest, 0);
         bytes += u64::from(chunk.unpacked_segment_bytes);
-        if bytes > u64::from(u32::MAX) {
+        if bytes > MAX_XORB_BYTES {
             return false;
         }
         let (_chunk, after) = rest.split_at(ROW_SIZE);

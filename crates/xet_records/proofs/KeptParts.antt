@@ -66,18 +66,18 @@ part-kept kept r whole part n counted some = rows_of-kept kept r whole part ∙ 
 pub fewer-kept : (kept : KeptParts) (r : MDBFileInfo) (part : OptionalPart) → length (rows_of part (as_kept kept r)) ≤ length (rows_of part r)
 fewer-kept kept r part = either kept.aux_ext (has_verification r.metadata.file_flags && not kept.verification)
   where
-    dropped : (stays : OptionalPart → Bool) (h : FileDataSequenceHeader) (s : MDBFileInfo) → length (rows_of part (with_parts_if stays h s)) ≤ length (rows_of part s)
-    dropped stays h s = omega (arith, ap length (rows_of-with_parts_if stays h s part), length-cond-le (stays part) (rows_of part s))
+    fewer_without : (stays : OptionalPart → Bool) (h : FileDataSequenceHeader) (s : MDBFileInfo) → length (rows_of part (with_parts_if stays h s)) ≤ length (rows_of part s)
+    fewer_without stays h s = omega (arith, ap length (rows_of-with_parts_if stays h s part), length-cond-le (stays part) (rows_of part s))
 
     first : (leaves_out : Bool) → length (rows_of part (if leaves_out then without_verification r else r)) ≤ length (rows_of part r)
-    first true = dropped (all_but Verification) _ r
+    first true = fewer_without (all_but Verification) _ r
     first false = omega arith
 
     either : (aux leaves_out : Bool) → length (rows_of part (with_aux_if aux (if leaves_out then without_verification r else r))) ≤ length (rows_of part r)
     either true leaves_out = first leaves_out
     either false leaves_out =
         let s = if leaves_out then without_verification r else r in
-        omega (arith, dropped (all_but AuxExt) (without_aux s).metadata s, first leaves_out)
+        omega (arith, fewer_without (all_but AuxExt) (without_aux s).metadata s, first leaves_out)
 
 -- their bytes
 pub parts_joined : (s : MDBFileInfo) (header_bytes segment_bytes : List ℕ) → header_bytes ≡ header_row s.metadata → segment_bytes ≡ flat_map segment_row s.segments
@@ -139,12 +139,12 @@ module _ (stays : OptionalPart → Bool) (h : FileDataSequenceHeader) (r : MDBFi
       → ((part : OptionalPart) → announces h.file_flags part ≡ (stays part && announces r.metadata.file_flags part)) → FitsItsHeader (with_parts_if stays h r)
   with_parts_if-whole whole same_count flags = record {
     segments = whole.segments ∙ sym same_count;
-    parts = λ p. ap length (rows_of-with_parts_if stays h r p) ∙ counted (stays p) (announces r.metadata.file_flags p) _ (rows_of p r) (whole.parts p)
+    parts = λ p. ap length (rows_of-with_parts_if stays h r p) ∙ length_of_cond (stays p) (announces r.metadata.file_flags p) _ (rows_of p r) (whole.parts p)
         ∙ (λ i. if sym (flags p) i then size_of_part p (sym same_count i) else 0);
   } where
-    counted : (s b : Bool) (n : ℕ) (xs : List HashRow) → length xs ≡ (if b then n else 0) → length (if s then xs else []) ≡ (if s && b then n else 0)
-    counted true b n xs len = len
-    counted false b n xs len = refl
+    length_of_cond : (s b : Bool) (n : ℕ) (xs : List HashRow) → length xs ≡ (if b then n else 0) → length (if s then xs else []) ≡ (if s && b then n else 0)
+    length_of_cond true b n xs len = len
+    length_of_cond false b n xs len = refl
 
 pub rows-kept : (kept : KeptParts) (r : MDBFileInfo) → row_count (as_kept kept r) ≤ row_count r
 rows-kept kept r = omega (

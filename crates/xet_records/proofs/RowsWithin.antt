@@ -16,16 +16,16 @@ use Rattle.xet_records.proofs.XorbUnique.{chunk_row-injective}
 -- a row of a type has 48 bytes, which determine it
 pub record RowLaws {T : Type 0} (row_bytes : T → List ℕ) (Fits : T → Type 0) : Type 0 where
   pub size : (t : T) → Fits t → length (row_bytes t) ≡ 48
-  pub determined : (s t : T) → Fits s → Fits t → row_bytes s ≡ row_bytes t → s ≡ t
+  pub injective : (s t : T) → Fits s → Fits t → row_bytes s ≡ row_bytes t → s ≡ t
 
 pub segment_laws : RowLaws segment_row FitsSegment
-segment_laws = record { size = λ t _. length-segment_row t; determined = segment_row-injective }
+segment_laws = record { size = λ t _. length-segment_row t; injective = segment_row-injective }
 
 pub hash_laws : RowLaws hash_row FitsHashRow
-hash_laws = record { size = length-hash_row; determined = hash_row-injective }
+hash_laws = record { size = length-hash_row; injective = hash_row-injective }
 
 pub chunk_laws : RowLaws chunk_row FitsChunk
-chunk_laws = record { size = λ t _. length-chunk_row t; determined = chunk_row-injective }
+chunk_laws = record { size = λ t _. length-chunk_row t; injective = chunk_row-injective }
 
 -- the bytes have these rows, after so many others
 pub record HasRows {T : Type 0} (row_bytes : T → List ℕ) (Fits : T → Type 0) (bytes : List ℕ) (start : ℕ) (rows : List T) : Type 0 where
@@ -61,7 +61,7 @@ module _ {T : Type 0} (row_bytes : T → List ℕ) (Fits : T → Type 0) (laws :
       let row_fits : Fits row = fit 0 row (omega arith) in
       let front = front_is 48 ((row_bytes row ++ flat_map row_bytes rows) ++ after) (row_bytes row) (flat_map row_bytes rows ++ after) (laws.size row row_fits)
       (append_assoc (row_bytes row) (flat_map row_bytes rows) after) in
-      ap Some (sym (laws.determined stored row fits row_fits (same ∙ front)))
+      ap Some (sym (laws.injective stored row fits row_fits (same ∙ front)))
   row_among (row ∷ rows) (suc i) after stored fit within fits same =
       let row_fits : Fits row = fit 0 row (omega arith) in
       let size = laws.size row row_fits in
@@ -118,6 +118,6 @@ module _ {T : Type 0} (row_bytes : T → List ℕ) (Fits : T → Type 0) (laws :
       → at ≡ start → count ≡ length rows → ReadsRows row_bytes Fits as_read (λ taken. taken ≡ take (48 * count) (drop (48 * at) bytes)) count result
       → result ≡ map as_read rows
   rows_from_index as_read bytes start rows at count result has at_is count_is read =
-      let same : read.stored ≡ rows = (parts_front 48 row_bytes Fits laws.size laws.determined read.stored rows [] [] (read.len ∙ count_is) read.widths has.fit
+      let same : read.stored ≡ rows = (parts_front 48 row_bytes Fits laws.size laws.injective read.stored rows [] [] (read.len ∙ count_is) read.widths has.fit
       (append-nil (flat_map row_bytes read.stored) ∙ read.taken ∙ bytes_of_rows bytes start rows at count has at_is count_is ∙ sym (append-nil (flat_map row_bytes rows)))).0 in
       sym read.returned ∙ ap (map as_read) same

@@ -80,14 +80,14 @@ xorb_shown header bytes fits are few size begins =
 -- what decoding gives is shown by bytes that are long enough and begin with the header
 pub record DecodingLaws {H R : Type 0} (K : RecordKind H R) (IsWhole : R → Type 0) (record_at : H → List ℕ → R) : Type 0 where
   pub header_size : (header : H) → length (K.header_bytes header) ≡ 48
-  pub shown : (header : H) (bytes : List ℕ) → K.Fits header → AreBytes bytes → K.rows_after header ≤ 4294967295
+  pub shows : (header : H) (bytes : List ℕ) → K.Fits header → AreBytes bytes → K.rows_after header ≤ 4294967295
       → length bytes ≡ 48 + 48 * K.rows_after header → take 48 bytes ≡ K.header_bytes header → Shows K IsWhole header bytes (record_at header bytes)
 
 pub file_decoding : DecodingLaws file_records IsWholeFile file_at
-file_decoding = record { header_size = length-header_row; shown = file_shown }
+file_decoding = record { header_size = length-header_row; shows = file_shown }
 
 pub xorb_decoding : DecodingLaws xorb_records IsWholeXorb xorb_at
-xorb_decoding = record { header_size = length-xorb_header_row; shown = xorb_shown }
+xorb_decoding = record { header_size = length-xorb_header_row; shows = xorb_shown }
 
 module _ {H R : Type 0} (K : RecordKind H R) (IsWhole : R → Type 0) where
   pub header_begins : (header : H) (bytes : List ℕ) → K.Fits header → take 48 bytes ≡ K.header_bytes header → BeginsWithHeaderRow K bytes header
@@ -107,7 +107,7 @@ module _ {H R : Type 0} (K : RecordKind H R) (IsWhole : R → Type 0) where
       let front : take 48 cut ≡ K.header_bytes header =
       ap (take 48) cut_is ∙ sym (take-append-le 48 (take size bytes) (drop size bytes) (omega (arith, length-take-le size bytes enough)))
       ∙ ap (take 48) (take-append-drop size bytes) ∙ front_is 48 bytes (K.header_bytes header) begins.rest (laws.header_size header) begins.bytes_are in
-      laws.shown header cut begins.widths (subst AreBytes (sym cut_is) (take-bytes size bytes are)) (omega (arith, count_is)) (cut_size ∙ omega (arith, count_is)) front
+      laws.shows header cut begins.widths (subst AreBytes (sym cut_is) (take-bytes size bytes are)) (omega (arith, count_is)) (cut_size ∙ omega (arith, count_is)) front
 
   -- what the cut bytes show is what the bytes begin with
   pub shown_begins : (header : H) (bytes cut : List ℕ) (n : ℕ) (r : R) → cut ≡ take n bytes → Shows K IsWhole header cut r

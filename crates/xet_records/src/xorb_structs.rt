@@ -30,6 +30,9 @@ pub const MDB_DEFAULT_XORB_FLAG: u32 = 0;
 /// The flag of a chunk that the global index keeps whatever its hash.
 pub const MDB_CHUNK_WITH_GLOBAL_DEDUP_FLAG: u32 = 1 << 31;
 
+/// The most bytes that the chunks of a xorb may have together, since its header has 32 bits for them.
+pub const MAX_XORB_BYTES: u64 = u32::MAX as u64;
+
 /// The first row of a xorb record: which xorb it is, how many chunks follow and how many bytes they
 /// have.
 #[derive(Clone, Copy, Default, Debug, PartialEq, Eq)]

@@ -17,7 +17,7 @@
 ghost use Rattle.std.specs.Prelude.{◌≡◌, ◌+◌, ◌<◌, ◌≤◌, length, min, MatchResult, IfOk, OnOk, IfErr};
 ghost use Rattle.xet_base.specs.Source.{FillFails, next_bytes, NoFailure};
 ghost use Rattle.xet_base.specs.Bytes.{u64_from_bytes};
-ghost use Rattle.xet_shards.specs.Search.Table.{table_at, row_offset, hits, IsSorted, Finds, FitsTable, SearchRefused, Bounded, ReadsCount, ActsAsReadFull, Answers, IsEven};
+ghost use Rattle.xet_shards.specs.Search.Table.{table_at, row_offset, hits, IsSorted, Finds, FitsTable, SearchRefused, SearchIsBounded, ReadsCount, ActsAsReadFull, Answers, IsEven};
 ghost use Rattle.xet_shards.specs.Steps.Search.{TableFailure, table_in, ReadsKey, ReadsValues, StopsWithin, IsRow, KeepsValue, Extends, Counts, ReadsThrough, Runs};
 
 mod table_range;
@@ -74,7 +74,7 @@ pub fn search_on_sorted_u64s<S: ShardSource, V: Default + Copy, F: Fn(&mut S) ->
         (S.meaning source.old) (S.meaning source.new)) }
     ensures kept { (S.meaning source.new).bytes ≡ (S.meaning source.old).bytes }
     ensures bounds { let t = table_at (S.meaning source.old) read_start num_entries value_width in
-        IsSorted t → Bounded t key (S.meaning source.old) (S.meaning source.new) }
+        IsSorted t → SearchIsBounded t key (S.meaning source.old) (S.meaning source.new) }
     ensures even { IsEven (table_at (S.meaning source.old) read_start num_entries value_width)
         → (S.meaning source.new).seeks ≤ (S.meaning source.old).seeks + 3 }
 {
@@ -111,7 +111,7 @@ fn search_rows<S: ShardSource, V: Copy, F: Fn(&mut S) -> io::Result<V>>(
         (S.meaning source.new)) }
     ensures kept { (S.meaning source.new).bytes ≡ (S.meaning source.old).bytes }
     ensures bounds { IsSorted (table_in range (S.meaning source.old).bytes)
-        → Bounded (table_in range (S.meaning source.old).bytes) key (S.meaning source.old)
+        → SearchIsBounded (table_in range (S.meaning source.old).bytes) key (S.meaning source.old)
         (S.meaning source.new) }
     ensures even { IsEven (table_in range (S.meaning source.old).bytes)
         → (S.meaning source.new).seeks ≤ (S.meaning source.old).seeks + 3 }

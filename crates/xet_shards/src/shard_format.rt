@@ -10,6 +10,12 @@ pub use ends::footer::MDBShardFileFooter;
 pub use ends::header::MDBShardFileHeader;
 pub use ends::info::MDBShardInfo;
 
+/// The size of a shard's header, in bytes.
+pub const HEADER_SIZE: u64 = 48;
+
+/// The size of a shard's footer, in bytes.
+pub const FOOTER_SIZE: u64 = 200;
+
 /// The size of a row of the file table or the xorb table, in bytes.
 pub const START_ROW_SIZE: usize = 12;
 

@@ -13,14 +13,14 @@ ghost use Rattle.xet_shards.specs.Steps.FileStore.{AreClear};
 ghost use Rattle.shard_bytes.specs.Steps.Checking.{AddsMalformed, BeginsWith, HasRows};
 
 use super::{Finding, Section, push_unless};
-use xet_base::fields::{split_hash, split_u64};
 use xet_core_structures::error::Result;
+use xet_core_structures::fields::{split_hash, split_u64};
 use xet_core_structures::file_structs::{FileDataSequenceHeader, MDBFileInfo};
+use xet_core_structures::record_bytes::row;
+use xet_core_structures::record_reader::SectionRecord;
+use xet_core_structures::rows::ROW_SIZE;
 use xet_core_structures::well_formed::{have_few_bytes, is_plain};
 use xet_core_structures::xorb_structs::{MDBXorbInfo, XorbChunkSequenceHeader};
-use xet_records::record_bytes::row;
-use xet_records::record_reader::SectionRecord;
-use xet_records::rows::ROW_SIZE;
 
 /// A record that is judged by its header and the bytes of the rows after it.
 pub(super) trait Judged: SectionRecord {

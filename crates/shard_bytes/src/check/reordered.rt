@@ -10,10 +10,10 @@ ghost use Rattle.shard_bytes.specs.Checking.{IsReorderedTable, WordsAscend};
 ghost use Rattle.shard_bytes.specs.Steps.Checking.{IsWrittenTable, ReadsRows, IsSortedOf};
 
 use std::alloc::Global;
-use xet_base::fields::{split_u32, split_u64};
 use xet_core_structures::error::{CoreError, Result};
+use xet_core_structures::fields::{split_u32, split_u64};
 use xet_core_structures::shard_format::CHUNK_ROW_SIZE;
-use xet_shards::shard_writer::ChunkTableRow;
+use xet_core_structures::shard_writer::ChunkTableRow;
 
 /// Whether the chunk table `found` has the rows of the one that was written, in any order in which
 /// their first words ascend. `OutOfMemory` if an allocation fails.

@@ -156,8 +156,8 @@ module _ (shards : List OpenShard) (inputs : List (List ℕ)) (all : AreOpened i
   abbrev of_xorb : Differing → Disagreement
   of_xorb = disagreement_of Xorb
 
-  abbrev found : List Disagreement
-  found = map of_file files ++ map of_xorb xorbs
+  abbrev all_found : List Disagreement
+  all_found = map of_file files ++ map of_xorb xorbs
 
   file_disagrees : (d : Differing) → Contains files d → InputsDisagree inputs (of_file d)
   file_disagrees d has =
@@ -173,24 +173,24 @@ module _ (shards : List OpenShard) (inputs : List (List ℕ)) (all : AreOpened i
   each d (inl has) = let e = mapped_back of_file files d has in subst (InputsDisagree inputs) e.2 (file_disagrees e.0 e.1)
   each d (inr has) = let e = mapped_back of_xorb xorbs d has in subst (InputsDisagree inputs) e.2 (xorb_disagrees e.0 e.1)
 
-  hash_in : (d : Disagreement) → Contains found d → Contains (map (λ (e : Disagreement). e.record_hash) found) d.record_hash
-  hash_in d has = has_mapped (λ (e : Disagreement). e.record_hash) found d has
+  hash_in : (d : Disagreement) → Contains all_found d → Contains (map (λ (e : Disagreement). e.record_hash) all_found) d.record_hash
+  hash_in d has = has_mapped (λ (e : Disagreement). e.record_hash) all_found d has
 
-  file_in : (q : DataHash) → Contains (map (λ (d : Differing). d.hash) files) q → Contains (map (λ (e : Disagreement). e.record_hash) found) (File q)
+  file_in : (q : DataHash) → Contains (map (λ (d : Differing). d.hash) files) q → Contains (map (λ (e : Disagreement). e.record_hash) all_found) (File q)
   file_in q has =
       let d = mapped_back (λ (e : Differing). e.hash) files q has in
-      subst (λ h. Contains (map (λ (e : Disagreement). e.record_hash) found) (File h)) d.2 (hash_in (of_file d.0) (Contains-append_left (map of_file files) (map of_xorb xorbs) (of_file d.0) (has_mapped of_file files d.0 d.1)))
+      subst (λ h. Contains (map (λ (e : Disagreement). e.record_hash) all_found) (File h)) d.2 (hash_in (of_file d.0) (Contains-append_left (map of_file files) (map of_xorb xorbs) (of_file d.0) (has_mapped of_file files d.0 d.1)))
 
-  xorb_in : (q : DataHash) → Contains (map (λ (d : Differing). d.hash) xorbs) q → Contains (map (λ (e : Disagreement). e.record_hash) found) (Xorb q)
+  xorb_in : (q : DataHash) → Contains (map (λ (d : Differing). d.hash) xorbs) q → Contains (map (λ (e : Disagreement). e.record_hash) all_found) (Xorb q)
   xorb_in q has =
       let d = mapped_back (λ (e : Differing). e.hash) xorbs q has in
-      subst (λ h. Contains (map (λ (e : Disagreement). e.record_hash) found) (Xorb h)) d.2 (hash_in (of_xorb d.0) (Contains-append_right (map of_file files) (map of_xorb xorbs) (of_xorb d.0) (has_mapped of_xorb xorbs d.0 d.1)))
+      subst (λ h. Contains (map (λ (e : Disagreement). e.record_hash) all_found) (Xorb h)) d.2 (hash_in (of_xorb d.0) (Contains-append_right (map of_file files) (map of_xorb xorbs) (of_xorb d.0) (has_mapped of_xorb xorbs d.0 d.1)))
 
-  others : (h : RecordHash) → ¬ Contains (map (λ d. d.record_hash) found) h → AgreeOn inputs h
+  others : (h : RecordHash) → ¬ Contains (map (λ d. d.record_hash) all_found) h → AgreeOn inputs h
   others (File q) none = agree_in (λ (r : Records). r.files) file_records Agree (λ s. s.files) (λ records. refl) files_ascend shards inputs all q (files_found.others q (λ has. none (file_in q has)))
   others (Xorb q) none = agree_in (λ (r : Records). r.xorbs) xorb_records AreEqual (λ s. s.xorbs) (λ records. refl) xorbs_ascend shards inputs all q (xorbs_found.others q (λ has. none (xorb_in q has)))
 
-  pub all_disagreements : HasAllDisagreements inputs found
+  pub all_disagreements : HasAllDisagreements inputs all_found
   all_disagreements = record {
     held = zip_held shards inputs all;
     each = λ d has. each d (Contains-append_cases (map of_file files) (map of_xorb xorbs) d has);

@@ -116,12 +116,12 @@ module _ {H R : Type 0} (K : RecordKind H R) (laws : KindLaws K) (lists : List (
         copy_on first some first_at same = record {
           after = omega (arith, comparing.after);
           each = λ k has. later k (comparing.each k has);
-          covers = λ i p r low high p_at r_at. covered i p r low p_at r_at (below_or_at i at high);
+          covers = λ i p r low high p_at r_at. is_covered i p r low p_at r_at (below_or_at i at high);
           agrees = agrees_on (λ i p r s low high p_at r_at s_at. comparing.agrees i from p first r s low high (omega arith) some p_at first_at r_at (same s s_at));
         } where
-          covered : (i : ℕ) (p : Place) (r : R) → from ≤ i → slice_get places i ≡ Some p → IsRecordAt K lists p r → (i < at) ⊎ (i ≡ at) → (k : ReadRecord R) × Contains kept k × Covers agree k.value r
-          covered i p r low p_at r_at (inl less) = comparing.covers i p r low less p_at r_at
-          covered i p r low p_at r_at (inr is) =
+          is_covered : (i : ℕ) (p : Place) (r : R) → from ≤ i → slice_get places i ≡ Some p → IsRecordAt K lists p r → (i < at) ⊎ (i ≡ at) → (k : ReadRecord R) × Contains kept k × Covers agree k.value r
+          is_covered i p r low p_at r_at (inl less) = comparing.covers i p r low less p_at r_at
+          is_covered i p r low p_at r_at (inr is) =
               let p_is : p ≡ here = same_Some p here (sym p_at ∙ ap (slice_get places) is ∙ here_at) in
               comparing.covers from first r (omega arith) some first_at (same r (subst (λ x. IsRecordAt K lists x r) p_is r_at))
 
@@ -131,7 +131,7 @@ module _ {H R : Type 0} (K : RecordKind H R) (laws : KindLaws K) (lists : List (
           kept_on kept' keeps = record {
             after = omega (arith, comparing.after);
             each = λ k has. still k (keeps.keeps) has;
-            covers = λ i p r low high p_at r_at. covered i p r low p_at r_at (below_or_at i at high) keeps.keeps;
+            covers = λ i p r low high p_at r_at. is_covered i p r low p_at r_at (below_or_at i at high) keeps.keeps;
             agrees = agrees_on (λ i p r s low high p_at r_at s_at.
                 let k = comparing.covers i p r low high p_at r_at in
                 subst (agree r) (read s s_at) (k.2 next (keeps.agrees k.0 k.1)));
@@ -160,9 +160,9 @@ module _ {H R : Type 0} (K : RecordKind H R) (laws : KindLaws K) (lists : List (
             here_covered r is (inl (same, (k, has, over))) = (k, subst (λ l. Contains l k) (sym same) has, subst (Covers agree k.value) is over)
             here_covered r is (inr more) = (new, subst (λ l. Contains l new) (sym more) (Contains-push kept new), subst (Covers agree next) is (λ t agrees. agrees))
 
-            covered : (i : ℕ) (p : Place) (r : R) → from ≤ i → slice_get places i ≡ Some p → IsRecordAt K lists p r → (i < at) ⊎ (i ≡ at) → Keeps → (k : ReadRecord R) × Contains kept' k × Covers agree k.value r
-            covered i p r low p_at r_at (inl less) how = before i p r low less p_at r_at how
-            covered i p r low p_at r_at (inr is) how =
+            is_covered : (i : ℕ) (p : Place) (r : R) → from ≤ i → slice_get places i ≡ Some p → IsRecordAt K lists p r → (i < at) ⊎ (i ≡ at) → Keeps → (k : ReadRecord R) × Contains kept' k × Covers agree k.value r
+            is_covered i p r low p_at r_at (inl less) how = before i p r low less p_at r_at how
+            is_covered i p r low p_at r_at (inr is) how =
                 let p_is : p ≡ here = same_Some p here (sym p_at ∙ ap (slice_get places) is ∙ here_at) in
                 here_covered r (read r (subst (λ x. IsRecordAt K lists x r) p_is r_at)) how
 

@@ -104,17 +104,17 @@ module _ (key : DataHash) (inputs : List (List ℕ)) (plan : MergePlan) (shards 
     xorbs = omega (arith, ap (total_rows xorb_records) (values-keyed key join), keyed_total key (values join.xorbs), few.xorbs);
   }
 
-  held : IsMergeUnder key inputs plan (map (keyed_shard key) shards) (keyed_shard key join)
-  held = mapped_merge (keyed_shard key) (keys_pass key) (IsExportOf true key) (HoldsShard key) (export_held key) inputs plan shards join merge
+  is_merge : IsMergeUnder key inputs plan (map (keyed_shard key) shards) (keyed_shard key join)
+  is_merge = mapped_merge (keyed_shard key) (keys_pass key) (IsExportOf true key) (HoldsShard key) (export_held key) inputs plan shards join merge
 
   pub tree_of_exports : (out : List ℕ) → TreeWrites inputs plan out → out ≡ keyed_layout (keyed_shard key join) key
-  tree_of_exports out writes = (keyed_tree inputs key plan (map (keyed_shard key) shards) (keyed_shard key join) out held writes).0
+  tree_of_exports out writes = (keyed_tree inputs key plan (map (keyed_shard key) shards) (keyed_shard key join) out is_merge writes).0
 
   pub export_of_join : (out : List ℕ) → TreeWrites inputs plan out → out ≡ exported_bytes (values join.files) (values join.xorbs) (export_options key 0 18446744073709551615 true true true)
   export_of_join out writes = tree_of_exports out writes ∙ sym (exported_is join (keyed_options key) refl)
 
   pub exports_refused : (e : CoreError) → TreeRefusal inputs plan e → MergeRefused join e
-  exports_refused e refusal = elim (tree_refused inputs key plan (map (keyed_shard key) shards) (keyed_shard key join) e held.inputs_are held.agree held.is_join refusal) [
+  exports_refused e refusal = elim (tree_refused inputs key plan (map (keyed_shard key) shards) (keyed_shard key join) e is_merge.inputs_are is_merge.agree is_merge.is_join refusal) [
     | inl no_memory ↦ inl no_memory
     | inr many ↦ inr (many.0, λ few. many.1 (few_keyed few))
   ]

@@ -282,8 +282,8 @@ module _ (inputs : List (List ℕ)) where
         (are_ranges x is.info is.has_ends cuts s found.0 (out ∷ outs) are_cuts (subst (λ all. InRows x all s found.0 (out ∷ outs)) are found.1)))
 
   -- both sides of a tree
-  abbrev Joined : (plan left right : MergePlan) (ranges : List HashRange) (rows : List (List SectionRows)) (outs : List (List ℕ)) → Type 0
-  Joined plan left right ranges rows outs =
+  abbrev JoinsSides : (plan left right : MergePlan) (ranges : List HashRange) (rows : List (List SectionRows)) (outs : List (List ℕ)) → Type 0
+  JoinsSides plan left right ranges rows outs =
       (xs ys : List (List ℕ)) × WriteInRows inputs left ranges rows xs × WriteInRows inputs right ranges rows ys
       × (AllZip (λ range out. RangeWrites range inputs left out) ranges xs → AllZip (λ range out. RangeWrites range inputs right out) ranges ys → AllZip (λ range out. RangeWrites range inputs plan out) ranges outs)
 
@@ -291,7 +291,7 @@ module _ (inputs : List (List ℕ)) where
       (parted : (range : HashRange) (starts ends : List SectionRows) (out : List ℕ) → RowsWrite range starts ends inputs plan out
       → (x y : List ℕ) × RowsWrite range starts ends inputs left x × RowsWrite range starts ends inputs right y × UnitesBytes x y out)
       (united : (range : HashRange) (x y out : List ℕ) → RangeWrites range inputs left x → RangeWrites range inputs right y → UnitesBytes x y out → RangeWrites range inputs plan out) where
-    sides : (ranges : List HashRange) (rows : List (List SectionRows)) (outs : List (List ℕ)) → WriteInRows inputs plan ranges rows outs → Joined plan left right ranges rows outs
+    sides : (ranges : List HashRange) (rows : List (List SectionRows)) (outs : List (List ℕ)) → WriteInRows inputs plan ranges rows outs → JoinsSides plan left right ranges rows outs
     sides [] (ends ∷ []) [] writes = ([], [], tt, tt, λ one other. tt)
     sides [] [] outs writes = absurd writes
     sides [] (ends ∷ []) (out ∷ outs) writes = absurd writes

@@ -60,14 +60,14 @@ module _ {H R : Type 0} (K : RecordKind H R) where
     each = each;
     stored = All-append K.IsStored zs ws one.stored other.stored;
   } where
-    moved : (a b c a' b' c' : Option R) → a ≡ a' → b ≡ b' → c ≡ c' → E a' b' c' → E a b c
-    moved a b c a' b' c' p q r e = subst (λ t. t) (λ i. E (sym p i) (sym q i) (sym r i)) e
+    same_three : (a b c a' b' c' : Option R) → a ≡ a' → b ≡ b' → c ≡ c' → E a' b' c' → E a b c
+    same_three a b c a' b' c' p q r e = subst (λ t. t) (λ i. E (sym p i) (sym q i) (sym r i)) e
 
     low : (q : DataHash) → hash_cmp q k ≡ Less → E (with_hash K (xs ++ us) q) (with_hash K (ys ++ vs) q) (with_hash K (zs ++ ws) q)
-    low q less = moved _ _ _ _ _ _ (same_before K q xs us (after_from k q us less far.first)) (same_before K q ys vs (after_from k q vs less far.second)) (same_before K q zs ws (after_from k q ws less far.combined)) (one.each q)
+    low q less = same_three _ _ _ _ _ _ (same_before K q xs us (after_from k q us less far.first)) (same_before K q ys vs (after_from k q vs less far.second)) (same_before K q zs ws (after_from k q ws less far.combined)) (one.each q)
 
     high : (q : DataHash) → IsFrom k q → E (with_hash K (xs ++ us) q) (with_hash K (ys ++ vs) q) (with_hash K (zs ++ ws) q)
-    high q from = moved _ _ _ _ _ _ (same_after k q xs us from far.below.first) (same_after k q ys vs from far.below.second) (same_after k q zs ws from far.below.combined) (other.each q)
+    high q from = same_three _ _ _ _ _ _ (same_after k q xs us from far.below.first) (same_after k q ys vs from far.below.second) (same_after k q zs ws from far.below.combined) (other.each q)
 
     at : (q : DataHash) (o : Ordering) → hash_cmp q k ≡ o → E (with_hash K (xs ++ us) q) (with_hash K (ys ++ vs) q) (with_hash K (zs ++ ws) q)
     at q Less is = low q is

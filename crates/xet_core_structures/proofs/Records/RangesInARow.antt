@@ -126,8 +126,8 @@ module _ {X : Type 0} where
         (λ q x at. high_part (is_before to q) (is_lt (hash_cmp q k)) (get m q) x (sym (second q) ∙ at))))
         (entries_sorted a) (entries_sorted b)
 
-    found : (q : DataHash) → get n q ≡ get (from_sorted {R = hash_cmp} (entries a ++ entries b)) q
-    found q =
+    same_entry : (q : DataHash) → get n q ≡ get (from_sorted {R = hash_cmp} (entries a ++ entries b)) q
+    same_entry q =
         whole q
         ∙ sym (choice_in_whole (is_from from q) (is_before to q) (is_lt (hash_cmp q k)) (get m q) (up_to_before q k to up) (from_through q k from high))
         ∙ (λ i. found_first ((sym (first q) ∙ get-entries a q) i) ((sym (second q) ∙ get-entries b q) i))
@@ -135,7 +135,7 @@ module _ {X : Type 0} where
         ∙ sym (get-from_sorted hash_cmp (entries a ++ entries b) q sorted)
 
     entries_are : entries n ≡ entries a ++ entries b
-    entries_are = ap entries (same_map hash_cmp-IsTotalOrder hash_cmp-IsAntisymmetric n _ found) ∙ entries-from_sorted hash_cmp (entries a ++ entries b) sorted
+    entries_are = ap entries (same_map hash_cmp-IsTotalOrder hash_cmp-IsAntisymmetric n _ same_entry) ∙ entries-from_sorted hash_cmp (entries a ++ entries b) sorted
 
     values_are : values n ≡ values a ++ values b
     values_are = ap (map (λ (e : DataHash × X). e.1)) entries_are ∙ map-append (λ (e : DataHash × X). e.1) (entries a) (entries b)

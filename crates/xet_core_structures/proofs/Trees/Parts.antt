@@ -103,13 +103,13 @@ module _ {H R : Type 0} (K : RecordKind H R) (laws : KindLaws K) (v w : FormatVe
           λ t either. never t (subst (λ p. p) (λ k. makes (Some (one.2 k)) (Some (other.2 k)) t) either),
         )
 
-    refused : HaveNoListUnion K makes xs ys → (a b c : FinMap hash_cmp R) → IsSectionOf (in_version K v) x a → IsSectionOf (in_version K w) y b → ((q : DataHash) → makes (get a q) (get b q) (get c q)) → ¬ (total_rows K (values c) ≤ 4294967295)
-    refused (inl (zs, combined, many)) a b c a_is b_is each fits =
+    no_mix : HaveNoListUnion K makes xs ys → (a b c : FinMap hash_cmp R) → IsSectionOf (in_version K v) x a → IsSectionOf (in_version K w) y b → ((q : DataHash) → makes (get a q) (get b q) (get c q)) → ¬ (total_rows K (values c) ≤ 4294967295)
+    no_mix (inl (zs, combined, many)) a b c a_is b_is each fits =
         let fewer = sub-sum hash_cmp-IsTotalOrder hash_cmp-IsAntisymmetric K.row_count (list_map K zs) c (λ q t at.
         unique _ _ (get c q) (with_hash K zs q) (subst (λ p. p) (λ k. makes (at_list v x xs first a a_is q k) (at_list w y ys second b b_is q k) (get c q)) (each q)) (combined.each q)
         ∙ sym (get-list_map K zs combined.ascends q) ∙ at) in
         omega (arith, many, fits, fewer, ap (total_rows K) (values-list_map K zs combined.ascends))
-    refused (inr (r, s, r_in, s_in, same, never)) a b c a_is b_is each fits =
+    no_mix (inr (r, s, r_in, s_in, same, never)) a b c a_is b_is each fits =
         let k = key_of_record K r in
         let one = at_list v x xs first a a_is k ∙ with_hash_of K xs r first.writable.ascends r_in in
         let other = at_list w y ys second b b_is k ∙ ap (with_hash K ys) same ∙ with_hash_of K ys s second.writable.ascends s_in in
@@ -124,7 +124,7 @@ module _ {H R : Type 0} (K : RecordKind H R) (laws : KindLaws K) (v w : FormatVe
       first = first.section.records;
       second = second.section.records;
       clash = clash none;
-      none = refused none;
+      none = no_mix none;
     }
 
 no_shard_union : (x : List ℕ) (i : MDBShardInfo) (y : List ℕ) (j : MDBShardInfo) (one other : Records) → HoldsLists x i one.files one.xorbs → HoldsLists y j other.files other.xorbs → HaveNoRecordUnion IsEitherFile IsEitherXorb one other → HaveNoUnion x i y j

@@ -47,8 +47,8 @@ module _ (range : HashRange) (x : List ℕ) (info : MDBShardInfo) (ends : HasHea
   abbrev test : DataHash → Bool
   test = is_within range
 
-  abbrev left : Records
-  left = record { files = records_passing file_records test places.records.files; xorbs = records_passing xorb_records test places.records.xorbs }
+  abbrev records_in : Records
+  records_in = record { files = records_passing file_records test places.records.files; xorbs = records_passing xorb_records test places.records.xorbs }
 
   whole_files : values (shard_of places.records).files ≡ places.records.files
   whole_files = values-list_map file_records places.records.files places.lists.files.writable.ascends
@@ -56,36 +56,36 @@ module _ (range : HashRange) (x : List ℕ) (info : MDBShardInfo) (ends : HasHea
   whole_xorbs : values (shard_of places.records).xorbs ≡ places.records.xorbs
   whole_xorbs = values-list_map xorb_records places.records.xorbs places.lists.xorbs.writable.ascends
 
-  left_files : values (shard_of left).files ≡ left.files
-  left_files = values-list_map file_records left.files (those_ascend file_records test places.records.files places.lists.files.writable.ascends)
+  left_files : values (shard_of records_in).files ≡ records_in.files
+  left_files = values-list_map file_records records_in.files (those_ascend file_records test places.records.files places.lists.files.writable.ascends)
 
-  left_xorbs : values (shard_of left).xorbs ≡ left.xorbs
-  left_xorbs = values-list_map xorb_records left.xorbs (those_ascend xorb_records test places.records.xorbs places.lists.xorbs.writable.ascends)
+  left_xorbs : values (shard_of records_in).xorbs ≡ records_in.xorbs
+  left_xorbs = values-list_map xorb_records records_in.xorbs (those_ascend xorb_records test places.records.xorbs places.lists.xorbs.writable.ascends)
 
   holds : Holds x info (shard_of places.records)
   holds = lists_hold x info places.records places.lists
 
-  is_left : IsPartOf test (shard_of places.records) (shard_of left)
+  is_left : IsPartOf test (shard_of places.records) (shard_of records_in)
   is_left = part_of_lists test places.records places.lists.files.writable.ascends places.lists.xorbs.writable.ascends
 
-  readable : IsReadable (shard_of left)
-  readable = part_readable test x info (shard_of places.records) (shard_of left) holds is_left
+  readable : IsReadable (shard_of records_in)
+  readable = part_readable test x info (shard_of places.records) (shard_of records_in) holds is_left
       (omega (arith, ap (total_rows file_records) whole_files, places.lists.files.writable.rows)) (omega (arith, ap (total_rows xorb_records) whole_xorbs, places.lists.xorbs.writable.rows))
 
   key_is : cut.key ≡ key_of info
   key_is = same_key ∙ places.key
 
-  written : IsBytesUnderKey (key_of info) (shard_of left) (keyed_layout (shard_of left) (key_of info)) (keyed_info (shard_of left) (key_of info))
-  written = under_key_of x info (shard_of left) ends readable
+  written : IsBytesUnderKey (key_of info) (shard_of records_in) (keyed_layout (shard_of records_in) (key_of info)) (keyed_info (shard_of records_in) (key_of info))
+  written = under_key_of x info (shard_of records_in) ends readable
 
   pub placed_range : (out : List ℕ) × IsRangeOf range x out × (there : MDBShardInfo) × IsUnited out there cut
   placed_range = (
-    keyed_layout (shard_of left) (key_of info),
-    record { whole = shard_of places.records; part = shard_of left; has = record { info = info; ends = ends; holds = holds }; is_part = is_left; bytes_are = refl; holds = shard_under (key_of info) (shard_of left) _ _ written },
-    keyed_info (shard_of left) (key_of info),
+    keyed_layout (shard_of records_in) (key_of info),
+    record { whole = shard_of places.records; part = shard_of records_in; has = record { info = info; ends = ends; holds = holds }; is_part = is_left; bytes_are = refl; holds = shard_under (key_of info) (shard_of records_in) _ _ written },
+    keyed_info (shard_of records_in) (key_of info),
     record {
-      union = shard_of left;
-      info_is = ap (keyed_info (shard_of left)) (sym key_is);
+      union = shard_of records_in;
+      info_is = ap (keyed_info (shard_of records_in)) (sym key_is);
       written = rw key_is written;
       files = subst (PlacesAll file_records cut.files.items) (sym left_files) files;
       xorbs = subst (PlacesAll xorb_records cut.xorbs.items) (sym left_xorbs) xorbs;

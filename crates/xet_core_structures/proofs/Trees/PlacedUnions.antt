@@ -228,13 +228,13 @@ module _ {H R : Type 0} (K : RecordKind H R) (laws : KindLaws K) where
       too_many ps_none qs_none many = inl (uniting.zs, uniting_ends ps_none qs_none, many_rows many)
 
       -- what a call returns that refuses a list with too many rows
-      pub united : ps ≡ [] → qs ≡ [] → {V : Type 0} (items : V → List (PlacedRecord H)) (v : V) → items v ≡ made → (result : Result V CoreError)
+      pub after_all : ps ≡ [] → qs ≡ [] → {V : Type 0} (items : V → List (PlacedRecord H)) (v : V) → items v ≡ made → (result : Result V CoreError)
           → MatchResult result (λ found. (found ≡ v) × (rows ≤ 4294967295)) (λ e. IsInvalidShard e × (4294967295 < rows))
           → MatchResult result (λ placed. (zs : List R) × PlacesAll K (items placed) zs × Combines K makes xs ys zs × (total_rows K zs ≤ 4294967295))
           (λ e. (e ≡ OutOfMemory) ⊎ (IsInvalidShard e × HaveNoListUnion K makes xs ys))
-      united ps_none qs_none items v is (Ok found) (found_is, few) =
+      after_all ps_none qs_none items v is (Ok found) (found_is, few) =
           (uniting.zs, subst (λ l. PlacesAll K l uniting.zs) (sym (ap items found_is ∙ is)) uniting.places, uniting_ends ps_none qs_none, few_rows few)
-      united ps_none qs_none items v is (Err e) (invalid, many) = inr (invalid, too_many ps_none qs_none many)
+      after_all ps_none qs_none items v is (Err e) (invalid, many) = inr (invalid, too_many ps_none qs_none many)
 
       -- two records have no union
       pub no_record : (g h : PlacedRecord H) (gs hs : List (PlacedRecord H)) → ps ≡ g ∷ gs → qs ≡ h ∷ hs → hash_at K g ≡ hash_at K h → MakesNothing K makes g h → HaveNoListUnion K makes xs ys

@@ -1,6 +1,6 @@
 -- A tree of unions over bytes that hold shards that agree pairwise, under one key, writes of a range the layout of the
 -- records of their join that are in it.
-use Rattle.std.proofs.Common.{◌≡◌, ◌⊎◌, inl, inr, ℕ, zero, suc, ◌<◌, List, [], ◌∷◌, ◌++◌, length, get_or, map, Bor, Some, Ok, Err, refl, sym, ap, ◌∙◌, subst, arith}
+use Rattle.std.proofs.Common.{◌≡◌, ◌⊎◌, inl, inr, ℕ, zero, suc, ◌<◌, List, [], ◌∷◌, length, get_or, map, Bor, Some, Ok, Err, refl, sym, ap, ◌∙◌, subst, arith}
 use Rattle.std.specs.List.{AllZip}
 use Rattle.std.specs.Prelude.{Contains, MatchResult, slice_get}
 use Rattle.std.specs.declared.result.Result.{Result}
@@ -11,7 +11,6 @@ use Rattle.xet_base.specs.declared.merklehash.DataHash.{DataHash}
 use Rattle.xet_shards.specs.Content.Joins.{IsJoinOf, AgreePairwise}
 use Rattle.xet_shards.specs.Content.Shard.{Shard, IsShard}
 use Rattle.xet_shards.proofs.Content.Joins.{join-unique, join-one, follows_parts}
-use Rattle.xet_shards.proofs.Content.AgreeingJoins.{joins_exist}
 use Rattle.xet_shards.proofs.Write.Sections.{files_fit}
 use Rattle.xet_core_structures.specs.declared.set_operations.MergePlan.{MergePlan}
 use Rattle.xet_core_structures.specs.declared.set_operations.MergePlan.TheVariants.{Leaf, Both'}
@@ -27,22 +26,22 @@ use Rattle.xet_core_structures.specs.Trees.RangeTrees.{IsRangeOf, ReadRefusal, R
 use Rattle.xet_core_structures.proofs.Records.ByteUnions.{held_with_options, info_found, loads_well, fits_key}
 use Rattle.xet_core_structures.proofs.Records.ShardContents.{only_shard, held_whole, held_well}
 use Rattle.xet_core_structures.proofs.Records.Within.{part_is_shard, one_part, part_of, part_of_is, part_of-preserves}
-use Rattle.xet_core_structures.proofs.Records.Zipped.{zipped_parts, zipped_with}
+use Rattle.xet_core_structures.proofs.Records.Zipped.{zipped_with}
 use Rattle.xet_core_structures.proofs.Trees.MappedJoins.{mapped_agree}
-use Rattle.xet_core_structures.proofs.Trees.MergeTrees.{agree_l, agree_r, few_left, few_right, both_written, both_refused}
+use Rattle.xet_core_structures.proofs.Trees.Sides.{sides_of, side_refused}
 
 module _ (range : HashRange) (inputs : List (List ℕ)) (key : DataHash) where
   -- the bytes hold a shard under the key, and this is its part in the range
   abbrev HoldsWhole : Shard → List ℕ → Type 0
   HoldsWhole t x = (s : Shard) × HoldsShard key s x × IsPartOf (is_within range) s t
 
+  -- the input at an index does
+  abbrev HasPartAt : ℕ → Shard → Type 0
+  HasPartAt i t = InputIs inputs (HoldsWhole t) i
+
   -- the inputs at all leaves do
   abbrev AreWhole : MergePlan → List Shard → Type 0
-  AreWhole plan parts = AllZip (λ i t. InputIs inputs (HoldsWhole t) i) (leaves plan) parts
-
-  abbrev sides_of : (left right : MergePlan) (parts : List Shard) → AllZip (λ i t. InputIs inputs (HoldsWhole t) i) (leaves left ++ leaves right) parts
-      → (xs ys : List Shard) × (xs ++ ys ≡ parts) × AreWhole left xs × AreWhole right ys
-  sides_of left right parts are = zipped_parts (λ i t. InputIs inputs (HoldsWhole t) i) (leaves left) (leaves right) parts are
+  AreWhole plan parts = AllZip HasPartAt (leaves plan) parts
 
   -- what is written of one input is the layout of its part, and holds it
   part_written : (t : Shard) (x out : List ℕ) → HoldsWhole t x → IsRangeOf range x out → HoldsShard key t out × (out ≡ keyed_layout t key)
@@ -77,16 +76,12 @@ module _ (range : HashRange) (inputs : List (List ℕ)) (key : DataHash) where
       let c_is = join-unique (Contains (t ∷ [])) t c (join-one t (follows_parts t (part_shard t bytes here))) join in
       (subst (λ d. HoldsShard key d out) c_is found.0, found.1 ∙ ap (λ d. keyed_layout d key) c_is)
   range_written (Both' p left q right) parts c out are agree join (x, y, x_written, y_written, unites) =
-      let sides = sides_of left right parts are in
-      let xs = sides.0 in
-      let ys = sides.1 in
-      let agree = subst (λ ss. AgreePairwise (Contains ss)) (sym sides.2) agree in
-      let join = subst (λ ss. IsJoinOf (Contains ss) c) (sym sides.2) join in
-      let l = joins_exist xs (agree_l inputs key xs ys c agree join) in
-      let r = joins_exist ys (agree_r inputs key xs ys c agree join) in
-      let first = range_written left xs l.0 x sides.3 (agree_l inputs key xs ys c agree join) l.1 x_written in
-      let second = range_written right ys r.0 y sides.4 (agree_r inputs key xs ys c agree join) r.1 y_written in
-      let written = both_written inputs key xs ys c agree join l.0 r.0 x y out l.1 r.1 first.0 second.0 unites in
+      let both = sides_of key HasPartAt left right parts c are agree join in
+      let l = both.first in
+      let r = both.second in
+      let x_holds = (range_written left l.shards l.join x l.are_at l.agree l.is_join x_written).0 in
+      let y_holds = (range_written right r.shards r.join y r.are_at r.agree r.is_join y_written).0 in
+      let written = both.united x y out x_holds y_holds unites in
       (written.1, written.0)
 
   range_refused : (plan : MergePlan) (parts : List Shard) (c : Shard) (err : CoreError) → AreWhole plan parts → AgreePairwise (Contains parts) → IsJoinOf (Contains parts) c
@@ -96,60 +91,40 @@ module _ (range : HashRange) (inputs : List (List ℕ)) (key : DataHash) where
   range_refused (Leaf i) (t ∷ ts) c err ((bytes, at, here), rest) agree join (inr (x, x_at, refusal)) =
       part_read t c bytes err here (subst (λ b. ReadRefusal b err) (same_Some x bytes (sym x_at ∙ at)) refusal)
   range_refused (Both' p left q right) parts c err are agree join (inl refusal) =
-      let sides = sides_of left right parts are in
-      let xs = sides.0 in
-      let ys = sides.1 in
-      let agree = subst (λ ss. AgreePairwise (Contains ss)) (sym sides.2) agree in
-      let join = subst (λ ss. IsJoinOf (Contains ss) c) (sym sides.2) join in
-      let l = joins_exist xs (agree_l inputs key xs ys c agree join) in
-      elim (range_refused left xs l.0 err sides.3 (agree_l inputs key xs ys c agree join) l.1 refusal) [
-        | inl no_memory ↦ inl no_memory
-        | inr many ↦ inr (many.0, λ few. many.1 (few_left inputs key xs ys c agree join l.0 l.1 few))
-      ]
+      let l = (sides_of key HasPartAt left right parts c are agree join).first in
+      side_refused key HasPartAt left c err l (range_refused left l.shards l.join err l.are_at l.agree l.is_join refusal)
   range_refused (Both' p left q right) parts c err are agree join (inr (x, x_written, inl refusal)) =
-      let sides = sides_of left right parts are in
-      let xs = sides.0 in
-      let ys = sides.1 in
-      let agree = subst (λ ss. AgreePairwise (Contains ss)) (sym sides.2) agree in
-      let join = subst (λ ss. IsJoinOf (Contains ss) c) (sym sides.2) join in
-      let r = joins_exist ys (agree_r inputs key xs ys c agree join) in
-      elim (range_refused right ys r.0 err sides.4 (agree_r inputs key xs ys c agree join) r.1 refusal) [
-        | inl no_memory ↦ inl no_memory
-        | inr many ↦ inr (many.0, λ few. many.1 (few_right inputs key xs ys c agree join r.0 r.1 few))
-      ]
+      let r = (sides_of key HasPartAt left right parts c are agree join).second in
+      side_refused key HasPartAt right c err r (range_refused right r.shards r.join err r.are_at r.agree r.is_join refusal)
   range_refused (Both' p left q right) parts c err are agree join (inr (x, x_written, inr (y, y_written, refusal))) =
-      let sides = sides_of left right parts are in
-      let xs = sides.0 in
-      let ys = sides.1 in
-      let agree = subst (λ ss. AgreePairwise (Contains ss)) (sym sides.2) agree in
-      let join = subst (λ ss. IsJoinOf (Contains ss) c) (sym sides.2) join in
-      let l = joins_exist xs (agree_l inputs key xs ys c agree join) in
-      let r = joins_exist ys (agree_r inputs key xs ys c agree join) in
-      let first = range_written left xs l.0 x sides.3 (agree_l inputs key xs ys c agree join) l.1 x_written in
-      let second = range_written right ys r.0 y sides.4 (agree_r inputs key xs ys c agree join) r.1 y_written in
-      both_refused inputs key xs ys c agree join l.0 r.0 x y err l.1 r.1 first.0 second.0 refusal
+      let both = sides_of key HasPartAt left right parts c are agree join in
+      let l = both.first in
+      let r = both.second in
+      let x_holds = (range_written left l.shards l.join x l.are_at l.agree l.is_join x_written).0 in
+      let y_holds = (range_written right r.shards r.join y r.are_at r.agree r.is_join y_written).0 in
+      both.refused x y err x_holds y_holds refusal
 
   -- of inputs that hold shards that agree
   module _ (plan : MergePlan) (shards : List Shard) (join part : Shard) (merge : IsRangeMerge range key inputs plan shards join part) where
-    abbrev cut : Shard → Shard
-    cut = part_of (is_within range)
+    abbrev range_of : Shard → Shard
+    range_of = part_of (is_within range)
 
-    are_whole : AreWhole plan (map cut shards)
-    are_whole = zipped_with (λ i s. InputIs inputs (HoldsShard key s) i) (λ i t. InputIs inputs (HoldsWhole t) i) cut IsShard
+    are_whole : AreWhole plan (map range_of shards)
+    are_whole = zipped_with (λ i s. InputIs inputs (HoldsShard key s) i) (λ i t. InputIs inputs (HoldsWhole t) i) range_of IsShard
         (λ i s shard input. (input.0, input.1, (s, input.2, part_of_is (is_within range) s))) (leaves plan) shards merge.agree.shards merge.inputs_are
 
-    agree : AgreePairwise (Contains (map cut shards))
-    agree = mapped_agree cut (part_of-preserves (is_within range)) shards merge.agree
+    agree : AgreePairwise (Contains (map range_of shards))
+    agree = mapped_agree range_of (part_of-preserves (is_within range)) shards merge.agree
 
-    is_join : IsJoinOf (Contains (map cut shards)) part
-    is_join = subst (IsJoinOf (Contains (map cut shards))) (one_part (is_within range) join (cut join) part (part_of_is (is_within range) join) merge.is_part)
+    is_join : IsJoinOf (Contains (map range_of shards)) part
+    is_join = subst (IsJoinOf (Contains (map range_of shards))) (one_part (is_within range) join (range_of join) part (part_of_is (is_within range) join) merge.is_part)
         ((part_of-preserves (is_within range)).join shards join merge.is_join)
 
     pub one_layout : (out : List ℕ) → RangeWrites range inputs plan out → IsHeldLayout key part out
-    one_layout out writes = let found = range_written plan (map cut shards) part out are_whole agree is_join writes in record { bytes_are = found.1; holds = found.0 }
+    one_layout out writes = let found = range_written plan (map range_of shards) part out are_whole agree is_join writes in record { bytes_are = found.1; holds = found.0 }
 
     pub one_refusal : (e : CoreError) → RangeRefusal range inputs plan e → MergeRefused part e
-    one_refusal e = range_refused plan (map cut shards) part e are_whole agree is_join
+    one_refusal e = range_refused plan (map range_of shards) part e are_whole agree is_join
 
 -- the bytes that a reference to an input refers to
 pub at_input : (xs : List (Bor (List ℕ))) (i : ℕ) (d : Bor (List ℕ)) → i < length xs → slice_get (map (λ x. x.now) xs) i ≡ Some (get_or xs i d).now

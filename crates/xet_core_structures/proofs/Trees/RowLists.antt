@@ -34,7 +34,7 @@ module _ {H R : Type 0} (K : RecordKind H R) (laws : KindLaws K) (range : HashRa
   Above before rs = IfSome before (λ b. AllByRecursion (λ q. hash_cmp (K.hash_of b) q ≡ Less) (map (key_of_record K) rs))
 
   -- bytes begin with records in order
-  record Followed (left : ℕ) (bytes : List ℕ) (rs : List R) : Type 0 where
+  record FollowingRows (left : ℕ) (bytes : List ℕ) (rs : List R) : Type 0 where
     stored : List R
     rest : List ℕ
     are_stored : All K.IsStored stored
@@ -49,9 +49,9 @@ module _ {H R : Type 0} (K : RecordKind H R) (laws : KindLaws K) (range : HashRa
   above_next h left bytes (r ∷ rs) (rest, after, next, rows, follow) =
       (next.follows, below_through_all (K.hash_of h) (key_of_record K r) (map (key_of_record K) rs) next.follows (above_next (K.header_of r) after rest rs follow))
 
-  followed : (before : Option H) (left : ℕ) (bytes : List ℕ) (rs : List R) → RowsFollow K range before left bytes rs → Followed left bytes rs
+  following_rows : (before : Option H) (left : ℕ) (bytes : List ℕ) (rs : List R) → RowsFollow K range before left bytes rs → FollowingRows left bytes rs
   unfolding IsStrictlySortedBy
-  followed before left bytes [] follow = record {
+  following_rows before left bytes [] follow = record {
     stored = [];
     rest = bytes;
     are_stored = All-nil K.IsStored;
@@ -61,8 +61,8 @@ module _ {H R : Type 0} (K : RecordKind H R) (laws : KindLaws K) (range : HashRa
     ascends = tt;
     within = All-nil (λ (r : R). is_within range (key_of_record K r) ≡ true);
   }
-  followed before left bytes (r ∷ rs) (rest, after, next, rows, follow) =
-      let later = followed (Some (K.header_of r)) after rest rs follow in
+  following_rows before left bytes (r ∷ rs) (rest, after, next, rows, follow) =
+      let later = following_rows (Some (K.header_of r)) after rest rs follow in
       record {
         stored = next.stored ∷ later.stored;
         rest = later.rest;
@@ -114,7 +114,7 @@ module _ {H R : Type 0} (K : RecordKind H R) (laws : KindLaws K) (range : HashRa
     pub has_in_rows : first ≤ end → end ≤ 4294967295 → (range.from ≡ None → first ≡ 0) → (range.to ≡ None → BeginsWithBookend K (drop (48 * end) section))
         → (left : ℕ) → first + left ≡ end → (found : List R) → RowsFollow K range None left from_first found → HasInRows K range section first end found
     has_in_rows order few starts ends left left_is found follow =
-        let all = followed None left from_first found follow in
+        let all = following_rows None left from_first found follow in
         let stored_rows : total_rows K found ≡ total_rows K all.stored = ap (total_rows K) (sym all.returned) ∙ rows_handed K laws all.stored in
         record {
           stored = all.stored;

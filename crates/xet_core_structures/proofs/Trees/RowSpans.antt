@@ -32,10 +32,10 @@ module _ {H R : Type 0} (K : RecordKind H R) (laws : KindLaws K) (version : Form
       let bookend = ends_at_bookend (in_version K version) (laws_in K laws version) range section first end found has none in
       record { header = bookend.header; rest = bookend.rest; widths = bookend.widths; is_bookend = bookend.is_bookend; bytes_are = bookend.bytes_are })
 
-  pub walked : Starts → Finishes → end ≤ 4294967295 → (left : ℕ) → first + left ≡ end → (placed : List (PlacedRecord H))
+  pub has_rows_found : Starts → Finishes → end ≤ 4294967295 → (left : ℕ) → first + left ≡ end → (placed : List (PlacedRecord H))
       → (found : List R) × RowsFollow (in_version K version) range None left (drop (48 * first) section) found × PlacesAll K placed found
       → (found : List R) × HasInRows (in_version K version) range section first end found × PlacesAll K placed found
-  walked starts finishes few left left_is placed (found, follow, places) = (
+  has_rows_found starts finishes few left left_is placed (found, follow, places) = (
     found,
     has_in_rows (in_version K version) (laws_in K laws version) range section first end starts.0 few starts.1
         (λ none. let bookend = finishes none in record { header = bookend.header; rest = bookend.rest; widths = bookend.widths; is_bookend = bookend.is_bookend; bytes_are = bookend.bytes_are })

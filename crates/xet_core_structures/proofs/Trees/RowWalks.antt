@@ -165,13 +165,13 @@ module _ {H R : Type 0} (K : RecordKind H R) (version : FormatVersion) (range : 
     pub on : (more : List R) → RowsFollow (in_version K version) range before left rest more → RowsFollow (in_version K version) range None count bytes (found ++ more)
 
 module _ {H R : Type 0} (K : RecordKind H R) (laws : KindLaws K) (version : FormatVersion) (range : HashRange) (count : ℕ) (bytes : List ℕ) where
-  abbrev Walking : ℕ → Option H → List ℕ → List (PlacedRecord H) → Type 0
-  Walking left before rest placed = IsWalking K version range count bytes left before rest placed
+  abbrev IsWalkingFrom : ℕ → Option H → List ℕ → List (PlacedRecord H) → Type 0
+  IsWalkingFrom left before rest placed = IsWalking K version range count bytes left before rest placed
 
-  pub walk_starts : Walking count None bytes []
+  pub walk_starts : IsWalkingFrom count None bytes []
   walk_starts = record { found = []; places = tt; few = omega arith; back = λ all follow. (all, refl, follow); on = λ more follow. follow }
 
-  module _ (left : ℕ) (before : Option H) (rest : List ℕ) (placed : List (PlacedRecord H)) (walking : Walking left before rest placed) where
+  module _ (left : ℕ) (before : Option H) (rest : List ℕ) (placed : List (PlacedRecord H)) (walking : IsWalkingFrom left before rest placed) where
     abbrev W : RecordKind H R
     W = in_version K version
 
@@ -182,7 +182,7 @@ module _ {H R : Type 0} (K : RecordKind H R) (laws : KindLaws K) (version : Form
       no_more [] follow = omega (arith, some, follow)
       no_more (r ∷ rs) (after, count, next, rows, follow) = none r after next
 
-    pub walk_on : (left' : ℕ) (p : PlacedRecord H) (rest' : List ℕ) → PlacesNext K version range before left left' rest p rest' → Walking left' (Some p.header) rest' (placed ++ p ∷ [])
+    pub walk_on : (left' : ℕ) (p : PlacedRecord H) (rest' : List ℕ) → PlacesNext K version range before left left' rest p rest' → IsWalkingFrom left' (Some p.header) rest' (placed ++ p ∷ [])
     walk_on left' p rest' step = record {
       found = walking.found ++ step.found ∷ [];
       places = zipped_append _ placed (p ∷ []) walking.found (step.found ∷ []) walking.places (step.places, tt);

@@ -288,8 +288,8 @@ module _ {H R : Type 0} (K : RecordKind H R) (laws : KindLaws K) (v w : FormatVe
         firsts = merging.firsts;
         seconds = merging.seconds;
         made = merging.made;
-        first = ended v start_1 now_1 left_1 next_1 merging.firsts merging.first none_1;
-        second = ended w start_2 now_2 left_2 next_2 merging.seconds merging.second none_2;
+        first = has_ended v start_1 now_1 left_1 next_1 merging.firsts merging.first none_1;
+        second = has_ended w start_2 now_2 left_2 next_2 merging.seconds merging.second none_2;
         first_ascends = merging.first_ascends;
         second_ascends = merging.second_ascends;
         combined = merging.combined;
@@ -297,8 +297,8 @@ module _ {H R : Type 0} (K : RecordKind H R) (laws : KindLaws K) (v w : FormatVe
         written = merging.written;
         bytes = Appends-trans start now new (flat_map K.record_bytes merging.made) (K.header_bytes K.bookend) merging.bytes bookend;
       } where
-        ended : (version : FormatVersion) (start now : Source) (left : ℕ) (next : Option H) (found : List R) (pending : HasPending (in_version K version) start now left next found) → next ≡ None → StreamsSection (in_version K version) start now found
-        ended version start now left next found pending none =
+        has_ended : (version : FormatVersion) (start now : Source) (left : ℕ) (next : Option H) (found : List R) (pending : HasPending (in_version K version) start now left next found) → next ≡ None → StreamsSection (in_version K version) start now found
+        has_ended version start now left next found pending none =
             section_ends (in_version K version) (laws_in K laws version) start pending.mid found pending.before pending.records now (subst (ReadsNextHeader (in_version K version) (ReadsBytes pending.mid now) pending.before left) none pending.header).bookend
 
   -- so no section was written

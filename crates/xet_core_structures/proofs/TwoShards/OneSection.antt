@@ -90,11 +90,11 @@ module _ {H R : Type 0} (K : RecordKind H R) (laws : KindLaws K) (version : Form
       record { mid = start; before = 4294967295; records = nothing_read (in_version K version) (laws_in K laws version) (ReadsBytes start start) (ReadsBytes-nil start); header = following.read }
 
   module _ (start now : Source) (left : ℕ) (next : Option H) (found : List R) (pending : HasPending (in_version K version) start now left next found) where
-    begun : (h : H) → next ≡ Some h → CountsHeader (in_version K version) (ReadsBytes pending.mid now) pending.before left h
-    begun h is = subst (ReadsNextHeader (in_version K version) (ReadsBytes pending.mid now) pending.before left) is pending.header
+    has_begun : (h : H) → next ≡ Some h → CountsHeader (in_version K version) (ReadsBytes pending.mid now) pending.before left h
+    has_begun h is = subst (ReadsNextHeader (in_version K version) (ReadsBytes pending.mid now) pending.before left) is pending.header
 
     pub pending_header : (h : H) → next ≡ Some h → IsRecordHeader K h
-    pending_header h is = let header = begun h is in record { is_record = header.read.is_record; fits = header.read.widths }
+    pending_header h is = let header = has_begun h is in record { is_record = header.read.is_record; fits = header.read.widths }
 
     pub pending_serves : NoFailure start now
     pending_serves = serves_on start pending.mid now (taken_serves start pending.mid _ pending.records.taken) (next_serves next pending.header) where
@@ -105,7 +105,7 @@ module _ {H R : Type 0} (K : RecordKind H R) (laws : KindLaws K) (version : Form
     -- its record was read too
     read_on : (h : H) (mid : Source) (r : R) → next ≡ Some h → ReadsOptionalRecord K (Some h) now mid (Some r) → HasRead (in_version K version) (ReadsBytes start mid) (found ++ r ∷ []) left
     read_on h mid r is (s, same, read) =
-        let header = begun h is in
+        let header = has_begun h is in
         let read_r = subst (λ (o : R). CountsRecord (in_version K version) (ReadsBytes pending.mid mid) pending.before left o) (sym (same_Some r s same))
         (rows_after_header K laws version (ReadsBytes pending.mid now) (ReadsBytes now mid) (ReadsBytes pending.mid mid) pending.before left h s (ReadsBytes-trans pending.mid now mid) header
         (omega (arith, pending.records.rows)) read) in
@@ -234,7 +234,7 @@ module _ {H R : Type 0} (K : RecordKind H R) (laws : KindLaws K) (version : Form
     -- the rows of the next record were not
     pub rows_not_read : (h : H) (new : Source) (e : CoreError) → next ≡ Some h → ReadFails now new (48 * K.rows_after h) e → AscendingNotStreamed K version start new e
     rows_not_read h new e is fails =
-        let header = begun start now left next found pending h is in
+        let header = has_begun start now left next found pending h is in
         not_taken start pending.mid found pending.before pending.records found_ascends new e
         (record_fails (in_version K version) (laws_in K laws version) (λ (s : Source). s) pending.before pending.mid new e (no_rows h now left header fails))
 

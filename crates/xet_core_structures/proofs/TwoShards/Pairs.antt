@@ -126,14 +126,14 @@ module _ {H R : Type 0} (K : RecordKind H R) where
             reads_first = keeps.past;
             reads_second = (r, refl, keeps.copied.read);
             is_made = is_made r keeps.other keeps.copied.read keeps.past;
-            made_of = record { stored = facts.2; rows = omega arith; hash = λ x is. made_of_kept r keeps.other keeps.copied.read keeps.past x (turned x is) };
+            made_of = record { stored = facts.2; rows = omega arith; hash = λ x is. made_of_kept r keeps.other keeps.copied.read keeps.past x (other_way x is) };
             few = omega (arith, keeps.few, facts.1);
             bytes = subst (Appends old new) (sym (append-nil (K.record_bytes r))) keeps.copied.bytes;
             written = keeps.copied.written;
           } where
-            turned : (x : R) → (keeps.other ≡ Some x) ⊎ (Some keeps.copied.found ≡ Some x) → (Some keeps.copied.found ≡ Some x) ⊎ (keeps.other ≡ Some x)
-            turned x (inl is) = inr is
-            turned x (inr is) = inl is
+            other_way : (x : R) → (keeps.other ≡ Some x) ⊎ (Some keeps.copied.found ≡ Some x) → (Some keeps.copied.found ≡ Some x) ⊎ (keeps.other ≡ Some x)
+            other_way x (inl is) = inr is
+            other_way x (inr is) = inl is
 
       -- it has too many rows
       cannot_first : ((r : R) (other : Option R) → ReadsRowsAfter K kept (ReadsBytes old_1 new_1) r → ReadsOptionalRecord K passed old_2 new_2 other → makes (Some r) other (Some r))
@@ -148,11 +148,11 @@ module _ {H R : Type 0} (K : RecordKind H R) where
       cannot_second is_made one other (r, is, read) q many =
           let facts = record_of kept old_1 new_1 r read header in
           subst (λ o. CannotMake K makes rows other o) (sym is)
-          (too_many_rows r (is_made r other read q) (record { stored = facts.2; rows = omega arith; hash = λ x at. made_of_kept r other read q x (turned x at) }) (subst (HasTooManyRows K rows) is many))
+          (too_many_rows r (is_made r other read q) (record { stored = facts.2; rows = omega arith; hash = λ x at. made_of_kept r other read q x (other_way x at) }) (subst (HasTooManyRows K rows) is many))
         where
-          turned : (x : R) → (other ≡ Some x) ⊎ (Some r ≡ Some x) → (Some r ≡ Some x) ⊎ (other ≡ Some x)
-          turned x (inl at) = inr at
-          turned x (inr at) = inl at
+          other_way : (x : R) → (other ≡ Some x) ⊎ (Some r ≡ Some x) → (Some r ≡ Some x) ⊎ (other ≡ Some x)
+          other_way x (inl at) = inr at
+          other_way x (inr at) = inl at
 
       -- what a call that keeps one record returns
       pub keeps_first : ((r : R) (other : Option R) → ReadsRowsAfter K kept (ReadsBytes old_1 new_1) r → ReadsOptionalRecord K passed old_2 new_2 other → makes (Some r) other (Some r))

@@ -57,10 +57,10 @@ rest_all P (x ∷ xs) ys all = rest_all P xs ys (All-drop P 1 (x ∷ xs ++ ys) a
 module _ {H R : Type 0} (K : RecordKind H R) (laws : KindLaws K) where
   tail_after : (k : DataHash) (z : R) (zs : List R) → Ascends K (z ∷ zs) → hash_cmp k (key_of_record K z) ≡ Less → ComeAfter K k (z ∷ zs)
   unfolding IsStrictlySortedBy
-  tail_after k z zs ascends less = (less, unmapped zs ascends.0) where
-    unmapped : (rs : List R) → AllByRecursion (λ q. hash_cmp (key_of_record K z) q ≡ Less) (map (key_of_record K) rs) → ComeAfter K k rs
-    unmapped [] all = tt
-    unmapped (r ∷ rs) all = (hash_cmp-IsTotalOrder.trans k (key_of_record K z) (key_of_record K r) less all.0, unmapped rs all.1)
+  tail_after k z zs ascends less = (less, all_after zs ascends.0) where
+    all_after : (rs : List R) → AllByRecursion (λ q. hash_cmp (key_of_record K z) q ≡ Less) (map (key_of_record K) rs) → ComeAfter K k rs
+    all_after [] all = tt
+    all_after (r ∷ rs) all = (hash_cmp-IsTotalOrder.trans k (key_of_record K z) (key_of_record K r) less all.0, all_after rs all.1)
 
   ascends_back : (xs ys : List R) → Ascends K (xs ++ ys) → Ascends K ys
   unfolding IsStrictlySortedBy
@@ -70,10 +70,10 @@ module _ {H R : Type 0} (K : RecordKind H R) (laws : KindLaws K) where
   -- what comes after a record of an ascending list
   after_last : (xs : List R) (r : R) (ys : List R) → Ascends K ((xs ++ r ∷ []) ++ ys) → ComeAfter K (key_of_record K r) ys
   unfolding IsStrictlySortedBy
-  after_last [] r ys ascends = unmapped ys ascends.0 where
-    unmapped : (rs : List R) → AllByRecursion (λ q. hash_cmp (key_of_record K r) q ≡ Less) (map (key_of_record K) rs) → ComeAfter K (key_of_record K r) rs
-    unmapped [] all = tt
-    unmapped (s ∷ rs) all = (all.0, unmapped rs all.1)
+  after_last [] r ys ascends = all_after ys ascends.0 where
+    all_after : (rs : List R) → AllByRecursion (λ q. hash_cmp (key_of_record K r) q ≡ Less) (map (key_of_record K) rs) → ComeAfter K (key_of_record K r) rs
+    all_after [] all = tt
+    all_after (s ∷ rs) all = (all.0, all_after rs all.1)
   after_last (x ∷ xs) r ys ascends = after_last xs r ys ascends.1
 
   -- one of two sections that begin with such records
@@ -194,7 +194,7 @@ module _ {H R : Type 0} (K : RecordKind H R) (laws : KindLaws K) where
       first = none.holds_1;
       second = none.holds_2;
       clash = clash none.cannot;
-      none = refused none.cannot;
+      none = no_such none.cannot;
     } where
       clash : CannotMake K makes (total_rows K none.made) none.one none.other
           → ((made : List R) × Combines K makes (map K.as_read none.stored_1) (map K.as_read none.stored_2) made × (4294967295 < total_rows K made))
@@ -221,10 +221,10 @@ module _ {H R : Type 0} (K : RecordKind H R) (laws : KindLaws K) where
             omega (arith, many, sum_by-append K.row_count none.made (z ∷ []), sum_by-cons K.row_count z []),
           )
 
-      refused : CannotMake K makes (total_rows K none.made) none.one none.other → (a b c : FinMap hash_cmp R) → IsSectionOf (in_version K v) x a → IsSectionOf (in_version K w) y b
+      no_such : CannotMake K makes (total_rows K none.made) none.one none.other → (a b c : FinMap hash_cmp R) → IsSectionOf (in_version K v) x a → IsSectionOf (in_version K w) y b
           → ((q : DataHash) → makes (get a q) (get b q) (get c q)) → ¬ (total_rows K (values c) ≤ 4294967295)
-      refused (nothing_made r s one other never) a b c a_is b_is each fits = not_both a b c a_is b_is each r s one other never
-      refused (too_many_rows z is_made made_of many) a b c a_is b_is each fits = not_within a b c a_is b_is each z is_made made_of many fits
+      no_such (nothing_made r s one other never) a b c a_is b_is each fits = not_both a b c a_is b_is each r s one other never
+      no_such (too_many_rows z is_made made_of many) a b c a_is b_is each fits = not_within a b c a_is b_is each z is_made made_of many fits
 
   -- the rest of a list has no more rows, so there is always a difference
   from_second : (o p c : Option R) (v : R) → IsRest o p c → c ≡ Some v → p ≡ Some v

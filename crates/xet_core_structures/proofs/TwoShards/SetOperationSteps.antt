@@ -138,8 +138,8 @@ module _ (old_1 old_2 : Source) (i j : MDBShardInfo) (same : key_of i ≡ key_of
       abbrev other : Records
       other = record { files = combined.seconds; xorbs = further.seconds }
 
-      abbrev made : Records
-      made = record { files = combined.made; xorbs = further.made }
+      abbrev both_made : Records
+      both_made = record { files = combined.made; xorbs = further.made }
 
       inputs : HaveInputs old_1.bytes i old_2.bytes j one other
       inputs = record {
@@ -148,7 +148,7 @@ module _ (old_1 old_2 : Source) (i j : MDBShardInfo) (same : key_of i ≡ key_of
         second = lists_read old_2 mid_2 new_2 j combined.seconds further.seconds combined.second further.second combined.second_ascends further.second_ascends;
       }
 
-      are_combined : AreCombined IsFile IsXorb one other made
+      are_combined : AreCombined IsFile IsXorb one other both_made
       are_combined = record { files = combined.combined; xorbs = further.combined; few_files = combined.few; few_xorbs = further.few }
 
       whole_1 : NoFailure old_1 new_1
@@ -163,7 +163,7 @@ module _ (old_1 old_2 : Source) (i j : MDBShardInfo) (same : key_of i ≡ key_of
           → OperatesOn IsResult Refusal i j (streams old_1 old_2 start) (streams new_1 new_2 end) r
       tables_written start end (Ok info) header ends fits none =
           let rest = ends combined.made further.made (λ k r below. (combined.combined.stored k r below).widths) combined.written further.written in
-          let written = laws.written old_1.bytes i old_2.bytes j one other made start end info inputs are_combined
+          let written = laws.written old_1.bytes i old_2.bytes j one other both_made start end info inputs are_combined
           (rest.0, whole_layout start after_header after_files after_xorbs end combined.made further.made (keyed_options (key_of i)) header combined.bytes further.bytes rest.1) in
           record {
             written = written;

@@ -8,7 +8,8 @@ use Rattle.xet_base.specs.declared.merklehash.DataHash.{DataHash}
 abbrev pub IsRest : {R : Type 0} → Option R → Option R → Option R → Type 0
 IsRest a b c = c ≡ (if is_some a then None else b)
 
--- of the next headers of two sections, if any, those with the lesser hash, or both
+-- the next headers of two sections, if any: the one with the lesser hash, or both if their hashes are
+-- equal
 abbrev pub IsNextPair : {H : Type 0} → (H → DataHash) → Option H → Option H → Option H → Option H
     → Type 0
 IsNextPair hash None q a b = (a ≡ None) × (b ≡ q)

@@ -1,4 +1,4 @@
-//! A law: what follows where inputs hold shards that agree.
+//! A law of merges whose inputs hold shards that agree.
 
 ghost use Rattle.std.specs.Prelude.{◌≡◌, ℕ, List, Contains};
 ghost use Rattle.std.specs.List.{AllZip};

@@ -133,9 +133,9 @@ pub fn find_disagreement(alloc: Global, inputs: &[&[u8]]) -> Result<Option<Disag
     Ok(Some(found[0]))
 }
 
-/// A record that no shard may have, of the first input that holds one: a file, if it holds such a
-/// file. `None` if each input holds a well-formed shard. If such shards agree pairwise, under one
-/// key, each tree with a union over all of them gives the same bytes.
+/// A record that no shard may have, of the first input that holds one, or `None` if each input holds
+/// a well-formed shard. If such shards agree pairwise, under one key, each tree with a union over all
+/// of them gives the same bytes.
 ///
 /// The errors are those of [`find_disagreements`].
 pub fn find_malformed(alloc: Global, inputs: &[&[u8]]) -> Result<Option<MalformedRecord>>

@@ -107,7 +107,7 @@ impl FileDataSequenceHeader {
     pub fn parts(&self) -> Parts
         ensures { result ≡ flags_of (announces self.now.file_flags) }
     {
-        Parts::announced(self.file_flags)
+        Parts::of_flags(self.file_flags)
     }
 
     /// Whether the header announces a part.

@@ -109,7 +109,7 @@ impl Parts {
 
     /// The parts that the flags announce.
     #[inline(always)]
-    pub fn announced(flags: u32) -> Self
+    pub fn of_flags(flags: u32) -> Self
         ensures { result ≡ flags_of (announces flags) }
     {
         Parts {

@@ -124,11 +124,11 @@ run_no_shorter key [] cs = omega arith
 run_no_shorter key (q ∷ qs) [] = omega arith
 run_no_shorter key (q ∷ qs) (c ∷ cs) = by_hash (hash_eq q c.chunk_hash) refl (run_no_shorter key qs cs)
   where
-    keyed : Bool
-    keyed = hash_eq (under_key key q) (under_key key c.chunk_hash)
+    same_under_key : Bool
+    same_under_key = hash_eq (under_key key q) (under_key key c.chunk_hash)
 
     by_hash : (b : Bool) → hash_eq q c.chunk_hash ≡ b → run_length no_key qs cs ≤ run_length key qs (map (keyed_chunk key) cs)
-        → cond b (1 + run_length no_key qs cs) 0 ≤ cond keyed (1 + run_length key qs (map (keyed_chunk key) cs)) 0
+        → cond b (1 + run_length no_key qs cs) 0 ≤ cond same_under_key (1 + run_length key qs (map (keyed_chunk key) cs)) 0
     by_hash false is rest = omega arith
     by_hash true is rest =
         let same : hash_eq (under_key key q) (under_key key c.chunk_hash) ≡ true =

@@ -34,20 +34,20 @@ module _ {X : Type 0} (f : X → X) where
   seconds-mapped (e ∷ es) = ap (λ vs. f e.1 ∷ vs) (seconds-mapped es)
 
   module _ (m : FinMap hash_cmp X) where
-    sorted : T (is_sorted hash_cmp (map_entries (entries m)))
-    sorted = subst T (sym (sorted-mapped (entries m))) (entries_sorted m)
+    are_sorted : T (is_sorted hash_cmp (map_entries (entries m)))
+    are_sorted = subst T (sym (sorted-mapped (entries m))) (entries_sorted m)
 
     abbrev mapped_map : FinMap hash_cmp X
     mapped_map = from_sorted (map_entries (entries m))
 
     pub entries-mapped : entries mapped_map ≡ map_entries (entries m)
-    entries-mapped = entries-from_sorted hash_cmp (map_entries (entries m)) sorted
+    entries-mapped = entries-from_sorted hash_cmp (map_entries (entries m)) are_sorted
 
     pub values-mapped : values mapped_map ≡ map f (values m)
     values-mapped = ap (map (λ (e : DataHash × X). e.1)) entries-mapped ∙ seconds-mapped (entries m)
 
     pub get-mapped : (q : DataHash) → get mapped_map q ≡ option_map f (get m q)
-    get-mapped q = get-from_sorted hash_cmp (map_entries (entries m)) q sorted ∙ find-mapped q (entries m) ∙ ap (option_map f) (sym (get-entries m q))
+    get-mapped q = get-from_sorted hash_cmp (map_entries (entries m)) q are_sorted ∙ find-mapped q (entries m) ∙ ap (option_map f) (sym (get-entries m q))
 
 -- what an option that is mapped has
 pub mapped_some : {X Y : Type 0} (f : X → Y) (a : Option X) (y : Y) → option_map f a ≡ Some y → (x : X) × (a ≡ Some x) × (f x ≡ y)

@@ -80,11 +80,11 @@ plain_without_aux q r has = record {
   flags = cleared-known r.metadata.file_flags has.flags ∙ (λ i. flags_of (λ part. sym (announces-without_aux r.metadata.file_flags part) i));
   segments = has.segments;
   absent = λ part none. rows_of-with_parts_if (all_but AuxExt) (without_aux r).metadata r part
-      ∙ dropped (all_but AuxExt part) (has_part r part) (rows_of part r) (sym (announces-without_aux r.metadata.file_flags part) ∙ none) (has.absent part);
+      ∙ no_rows_stay (all_but AuxExt part) (has_part r part) (rows_of part r) (sym (announces-without_aux r.metadata.file_flags part) ∙ none) (has.absent part);
 } where
-  dropped : (stays v : Bool) (xs : List HashRow) → (stays && v) ≡ false → (v ≡ false → xs ≡ []) → (if stays then xs else []) ≡ []
-  dropped true v xs none absent = absent none
-  dropped false v xs none absent = refl
+  no_rows_stay : (stays v : Bool) (xs : List HashRow) → (stays && v) ≡ false → (v ≡ false → xs ≡ []) → (if stays then xs else []) ≡ []
+  no_rows_stay true v xs none absent = absent none
+  no_rows_stay false v xs none absent = refl
 
 -- the parts of a file without its auxiliary row
 abbrev part_if : OptionalPart → Option (List HashRow) → Option (List HashRow)

@@ -146,7 +146,7 @@ module _ {H R : Type 0} (K : RecordKind H R) (exports : R → List R) where
       })
 
 -- a section that was exported, where what becomes of its records has another name
-pub record Exported {H R : Type 0} (K : RecordKind H R) (version : FormatVersion) (out : List R → List R) (Collected : List R → Type 0) (old new : Source) (before after : Option (List ℕ))
+pub record SectionExported {H R : Type 0} (K : RecordKind H R) (version : FormatVersion) (out : List R → List R) (Collected : List R → Type 0) (old new : Source) (before after : Option (List ℕ))
     : Type 0 where
   pub stored : List R
   pub passed : ReadsThroughSection (in_version K version) old new stored
@@ -155,7 +155,7 @@ pub record Exported {H R : Type 0} (K : RecordKind H R) (version : FormatVersion
 
 pub section_exported : {H R : Type 0} {K : RecordKind H R} {version : FormatVersion} {exports : R → List R} (out : List R → List R) → ((rs : List R) → flat_map exports rs ≡ out rs)
     → {Collected : List R → Type 0} {old new : Source} {before after : Option (List ℕ)} → ExportsSection K version exports Collected old new before after
-    → Exported K version out Collected old new before after
+    → SectionExported K version out Collected old new before after
 section_exported {K = K} out same {Collected} {old} {new} {before} {after} e = record {
   stored = e.stored;
   passed = e.passed;

@@ -247,7 +247,7 @@ module _ {H R : Type 0} (K : RecordKind H R) (laws : KindLaws K) (sections : Lis
 
     pub next_ascend : (last : Option DataHash) (ends : EndHashes) → AscendTo K (all_of (take i records)) last → ((rs : List R) → HoldsRecords K (get_or sections i d) rs → 0 < length rs → HasEnds K rs ends)
         → false ≡ (length (get_or sections i d).rows.now == 0) → is_after last ends.first ≡ true → AscendTo K (all_of (take (i + 1) records)) (Some ends.last)
-    next_ascend last ends before found full after = record { ascend = subst (Ascends K) (sym more) (joined last before.ascend before.last_is after); last_is = last_there } where
+    next_ascend last ends before found full after = record { ascend = subst (Ascends K) (sym more) (ascends_with_next last before.ascend before.last_is after); last_is = last_there } where
       has : HasEnds K here ends
       has = found here holds_here (some_here full)
 
@@ -256,9 +256,9 @@ module _ {H R : Type 0} (K : RecordKind H R) (laws : KindLaws K) (sections : Lis
           let end = has.last_is in
           (all_of (take i records) ++ end.0, end.1, more ∙ ap (λ rs. all_of (take i records) ++ rs) end.2 ∙ sym (append_assoc (all_of (take i records)) end.0 (end.1 ∷ [])), end.3)
 
-      joined : (last : Option DataHash) → Ascends K (all_of (take i records)) → IsLastHash K (all_of (take i records)) last → is_after last ends.first ≡ true → Ascends K (all_of (take i records) ++ here)
-      joined None ascend none after = subst (λ rs. Ascends K (rs ++ here)) (sym none) (each i [] within)
-      joined (Some l) ascend (front, r, are, hash) after =
+      ascends_with_next : (last : Option DataHash) → Ascends K (all_of (take i records)) → IsLastHash K (all_of (take i records)) last → is_after last ends.first ≡ true → Ascends K (all_of (take i records) ++ here)
+      ascends_with_next None ascend none after = subst (λ rs. Ascends K (rs ++ here)) (sym none) (each i [] within)
+      ascends_with_next (Some l) ascend (front, r, are, hash) after =
           let less : hash_cmp (hash_in K r) (hash_in K has.first_record) ≡ Less = is_less _ ((λ j. is_lt (hash_cmp (hash j) (has.first_is j))) ∙ after) in
           subst (λ rs. Ascends K (rs ++ here)) (sym are) (subst (λ rs. Ascends K ((front ++ r ∷ []) ++ rs)) (sym has.records_are)
           (rises_on (hash_in K) front r has.first_record has.rest (subst (Ascends K) are ascend) (subst (Ascends K) has.records_are (each i [] within)) less))

@@ -11,7 +11,7 @@ use Rattle.std.proofs.lemmas.Map.Keys.{Less-from_sorted}
 use Rattle.xet_base.specs.declared.error.CoreError.{CoreError}
 use Rattle.xet_base.specs.Bytes.{u32_bytes, u64_bytes}
 use Rattle.xet_base.specs.Source.{Source, DeviceFailure}
-use Rattle.xet_shards.specs.Search.Table.{Table, table_at, Hit, IsHit, Finds, hits, IsSorted, Bounded, SearchRefused}
+use Rattle.xet_shards.specs.Search.Table.{Table, table_at, Hit, IsHit, Finds, hits, IsSorted, SearchIsBounded, SearchRefused}
 use Rattle.xet_base.proofs.Bytes.{length-u32_bytes, u32_bytes-front, u32_bytes-injective}
 use Rattle.xet_records.specs.declared.file_structs.MDBFileInfo.{MDBFileInfo}
 use Rattle.xet_records.specs.declared.xorb_structs.MDBXorbInfo.{MDBXorbInfo}
@@ -106,7 +106,7 @@ module _ (files : List MDBFileInfo) (xorbs : List MDBXorbInfo) (options : Layout
       let location = u32_bytes-injective h.value.1 (row_of_hit h).index row.2.1 fits.index start.1 in
       (row.0, row.1, λ k. (start.0 k, location k))
 
-  pub chunk_search_costs : (word : ℕ) (new : Source) → (IsSorted table → Bounded table word old new) → ChunkSearchCosts xorbs word old new
+  pub chunk_search_costs : (word : ℕ) (new : Source) → (IsSorted table → SearchIsBounded table word old new) → ChunkSearchCosts xorbs word old new
   chunk_search_costs word new sorted =
       let bounded = sorted table_sorted in
       let known : table.rows ≡ length rows = rows_known.count_is in

@@ -93,16 +93,16 @@ module _ {X : Type 0} (key : X → ℕ) (value : X → List ℕ) (width : ℕ) (
       hits_below_end : All (λ h. h.row < length rows) found
       hits_below_end = All-weaker (IsHit table word Gives) (λ h. h.row < length rows) (λ h hit. (row_hit h hit).0) found each
 
-      marked : All (λ h. (key (row_of h.row) == word) ≡ true) found
-      marked = All-weaker (IsHit table word Gives) (λ h. (key (row_of h.row) == word) ≡ true) (λ h hit. eq-eqb _ _ (row_hit h hit).1) found each
+      have_word : All (λ h. (key (row_of h.row) == word) ≡ true) found
+      have_word = All-weaker (IsHit table word Gives) (λ h. (key (row_of h.row) == word) ≡ true) (λ h hit. eq-eqb _ _ (row_hit h hit).1) found each
 
       -- they are no more than the rows with the word
       pub hits_few : length found ≤ length (rows_with word)
-      hits_few = few_marked (λ x. key x == word) rows d found distinct hits_below_end marked
+      hits_few = few_marked (λ x. key x == word) rows d found distinct hits_below_end have_word
 
       -- and if they are as many, each row with the word is among them
       pub hits_all : length found ≡ hits table word → (i : ℕ) → i < length rows → key (row_of i) ≡ word → (k : ℕ) × (k < length found) × ((h : Hit V) → (get_or found k h).row ≡ i)
       hits_all all i within same =
           let one : mark word i ≡ 1 = cond-true {A = ℕ} _ 1 0 (eq-eqb _ _ same) in
           all_marked (mark word) (length rows) found i distinct hits_below_end
-          (omega (arith, sum-marked_hits (λ x. key x == word) rows d found marked, sum-marks word, all, rows_hit word)) within (omega (arith, one))
+          (omega (arith, sum-marked_hits (λ x. key x == word) rows d found have_word, sum-marks word, all, rows_hit word)) within (omega (arith, one))

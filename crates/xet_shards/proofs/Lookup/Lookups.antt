@@ -4,7 +4,7 @@ use Rattle.std.specs.Prelude.{IfOk}
 use Rattle.std.specs.declared.result.Result.{Result}
 use Rattle.std.proofs.lemmas.Grind.{common_steps}
 use Rattle.std.proofs.lemmas.List.{length-append}
-use Rattle.xet_shards.specs.Search.Table.{Table, IsSorted, Bounded, Hit, Finds}
+use Rattle.xet_shards.specs.Search.Table.{Table, IsSorted, SearchIsBounded, Hit, Finds}
 use Rattle.xet_base.specs.Source.{NoFailure, Source, ReadsBytes, Fails, after_seek, bytes_left}
 use Rattle.std.proofs.lemmas.List.Elements.{AllZip-push, All-push}
 use Rattle.std.proofs.lemmas.List.Sums.{sum_by-append}
@@ -135,7 +135,7 @@ module _ {H R : Type 0} (K : RecordKind H R) (laws : KindLaws K) where
 
   -- the search answered, and the records at its rows were read
   module _ (t : Table) (offset count : ℕ) (hash : DataHash) (old mid new : Source) (dest_old dest_new : List ℕ)
-      (finds : IndexFinds t hash.word0 dest_old dest_new count) (no_failure : NoFailure old mid) (bounded : IsSorted t → Bounded t hash.word0 old mid)
+      (finds : IndexFinds t hash.word0 dest_old dest_new count) (no_failure : NoFailure old mid) (bounded : IsSorted t → SearchIsBounded t hash.word0 old mid)
       (visits : VisitsSome K 1 offset (take count dest_new) mid new) where
     looked_up : (Answer : List ℕ → Type 0) → Answer (take count dest_new) → LooksUp K t offset hash.word0 old new Answer
     looked_up Answer answer = grind (arith, common_steps)

@@ -38,8 +38,8 @@ module _ {x : MDBXorbInfo} (stored : IsStoredXorb x) (q : QueryAt) (old : Source
   abbrev from : List XorbChunkSequenceEntry
   from = drop q.index x.chunks
 
-  abbrev left : ℕ
-  left = chunks_left q x.metadata
+  abbrev rows_left : ℕ
+  rows_left = chunks_left q x.metadata
 
   chunks_are : q.index ≤ length x.chunks → chunks_at q old.bytes ≡ flat_map chunk_row from ++ rest
   chunks_are within =
@@ -58,8 +58,8 @@ module _ {x : MDBXorbInfo} (stored : IsStoredXorb x) (q : QueryAt) (old : Source
       ∙ sym (append_assoc (xorb_header_row x.metadata) (flat_map chunk_row (take q.index x.chunks)) (flat_map chunk_row from ++ rest)))
 
   -- chunks that are read there are the xorb's
-  module _ (within : q.index ≤ length x.chunks) {cs : List XorbChunkSequenceEntry} {after : List ℕ} (there : HasChunks left (chunks_at q old.bytes) cs after) where
-    size_from : length from ≡ left
+  module _ (within : q.index ≤ length x.chunks) {cs : List XorbChunkSequenceEntry} {after : List ℕ} (there : HasChunks rows_left (chunks_at q old.bytes) cs after) where
+    size_from : length from ≡ rows_left
     size_from = length-drop q.index x.chunks ∙ ap (λ n. n - q.index) stored.count
 
     same : (cs ≡ take (length cs) from) × (after ≡ flat_map chunk_row (drop (length cs) from) ++ rest)
@@ -87,7 +87,7 @@ module _ {x : MDBXorbInfo} (stored : IsStoredXorb x) (q : QueryAt) (old : Source
       let front : from ≡ is.chunks ++ more = front_of within is.there in
       let count : run_length q.key q.hashes from ≡ run.0 =
       ap (run_length q.key q.hashes) front
-      ∙ run_decided q.key q.hashes left is.chunks more is.decide (omega (arith, length-drop (length is.chunks) from, size_from within is.there, is.there.few))
+      ∙ run_decided q.key q.hashes rows_left is.chunks more is.decide (omega (arith, length-drop (length is.chunks) from, size_from within is.there, is.there.few))
       ∙ sym is.count in
       let part : take run.0 is.chunks ≡ take run.0 from =
       sym (take-append-le run.0 is.chunks more (omega (arith, is.count, run_within q.key q.hashes is.chunks))) ∙ ap (take run.0) (sym front) in
@@ -126,7 +126,7 @@ module _ {x : MDBXorbInfo} (stored : IsStoredXorb x) (q : QueryAt) (old : Source
           | inr passes ↦ within_not_past within (subst (λ (h : XorbChunkSequenceHeader). RunExceeds q.key q.hashes (chunks_left q h) (chunks_at q old.bytes)) is passes)
         ]
       where
-        within_not_past : q.index < x.metadata.num_entries → ¬ RunExceeds q.key q.hashes left (chunks_at q old.bytes)
+        within_not_past : q.index < x.metadata.num_entries → ¬ RunExceeds q.key q.hashes rows_left (chunks_at q old.bytes)
         within_not_past within (cs, after, there, all, past) = omega (arith, few, past, bytes_within (omega (arith, within, stored.count)) there)
 
     not_cut : ¬ IsTruncatedAt q old.bytes
@@ -136,7 +136,7 @@ module _ {x : MDBXorbInfo} (stored : IsStoredXorb x) (q : QueryAt) (old : Source
         let within : q.index < x.metadata.num_entries = omega (arith, location.within, ap (λ (h : XorbChunkSequenceHeader). h.num_entries) is) in
         within_not_cut within (subst (λ (h : XorbChunkSequenceHeader). RunIsTruncated q.key q.hashes (chunks_left q h) (chunks_at q old.bytes)) is cut)
       where
-        within_not_cut : q.index < x.metadata.num_entries → ¬ RunIsTruncated q.key q.hashes left (chunks_at q old.bytes)
+        within_not_cut : q.index < x.metadata.num_entries → ¬ RunIsTruncated q.key q.hashes rows_left (chunks_at q old.bytes)
         within_not_cut within (cs, after, there, all, fit, more_hashes, more, short) =
             let at : q.index ≤ length x.chunks = omega (arith, within, stored.count) in
             let next = drop (length cs) from in

@@ -12,7 +12,7 @@ use Rattle.xet_base.specs.declared.error.CoreError.TheVariants.{OutOfMemory, Tru
 use Rattle.xet_base.specs.declared.merklehash.DataHash.{DataHash}
 use Rattle.xet_base.specs.Bytes.{u32_bytes}
 use Rattle.xet_base.specs.Source.{Source, DeviceFailure}
-use Rattle.xet_shards.specs.Search.Table.{table_at, Table, IsSorted, hits, Hit, IsHit, OtherRow, SearchRefused, Bounded}
+use Rattle.xet_shards.specs.Search.Table.{table_at, Table, IsSorted, hits, Hit, IsHit, OtherRow, SearchRefused, SearchIsBounded}
 use Rattle.xet_base.proofs.Bytes.{length-u32_bytes, u32_bytes-injective}
 use Rattle.xet_records.specs.RecordKind.{RecordKind}
 use Rattle.xet_records.proofs.RecordKinds.{KindLaws}
@@ -252,7 +252,7 @@ module _ {H R : Type 0} (K : RecordKind H R) (laws : KindLaws K) (d : R) (record
   search_answers = search_served word_of start_bytes 4 (0, 0) (starts K records) start count old known_rows
 
   -- what the search costs, and what the lookup does
-  search_costs : (word : ℕ) (new : Source) → Bounded table word old new → SearchWithinBounds K records word old new
+  search_costs : (word : ℕ) (new : Source) → SearchIsBounded table word old new → SearchWithinBounds K records word old new
   search_costs word new bounded = search (rules, rows_is, table_hits)
 
   -- a lookup reads at most the records of the records that share the first word

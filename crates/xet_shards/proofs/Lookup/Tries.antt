@@ -66,18 +66,18 @@ module _ {footer : MDBShardFileFooter} {hashes : List DataHash} (locations : Lis
 
   -- it has a run, or was refused
   pub stops_next : IfOk r (λ answer. true ≡ is_some answer) → OutcomeOfTries footer hashes locations old new r
-  stops_next some = record { answer = found r some outcome.answer; refused = refused r outcome.refused; no_failure = no_failure r outcome.no_failure; visits = visits }
+  stops_next some = record { answer = answer_found r some outcome.answer; refused = next_refused r outcome.refused; no_failure = no_failure r outcome.no_failure; visits = visits }
     where
-      found : (o : CoreResult (Option Run)) → IfOk o (λ answer. true ≡ is_some answer) → IfOk o (AnswerAt (query_at footer hashes next) now.bytes)
+      answer_found : (o : CoreResult (Option Run)) → IfOk o (λ answer. true ≡ is_some answer) → IfOk o (AnswerAt (query_at footer hashes next) now.bytes)
           → IfOk o (λ answer. TriedAnswer footer hashes old.bytes answer locations)
-      found (Ok None) some answer = absurd (true≢false some)
-      found (Ok (Some run)) some answer = (next, contains, answer_stays (Some run) answer)
-      found (Err e) some answer = tt
+      answer_found (Ok None) some answer = absurd (true≢false some)
+      answer_found (Ok (Some run)) some answer = (next, contains, answer_stays (Some run) answer)
+      answer_found (Err e) some answer = tt
 
-      refused : (o : CoreResult (Option Run)) → IfErr o (RefusedAt (λ e. e ≡ InvalidShard text) (query_at footer hashes next) now new)
+      next_refused : (o : CoreResult (Option Run)) → IfErr o (RefusedAt (λ e. e ≡ InvalidShard text) (query_at footer hashes next) now new)
           → IfErr o (λ e. TriedRefused footer hashes old new e locations)
-      refused (Ok answer) none = tt
-      refused (Err e) why = (next, contains, refused_later (query_at footer hashes next) old now new e before.no_failure (if_corrupt (query_at footer hashes next) now new e text bare why))
+      next_refused (Ok answer) none = tt
+      next_refused (Err e) why = (next, contains, refused_later (query_at footer hashes next) old now new e before.no_failure (if_corrupt (query_at footer hashes next) now new e text bare why))
 
       no_failure : (o : CoreResult (Option Run)) → OnOk o (NoFailure now new) → OnOk o (NoFailure old new)
       no_failure (Ok answer) is = serves_after old now new before.no_failure is

@@ -156,11 +156,11 @@ module _ {files : List MDBFileInfo} {xorbs : List MDBXorbInfo} {options : Layout
     abbrev hash : DataHash
     hash = under_key key q
 
-    abbrev Answered : ℕ × ℕ → Option Run → Type 0
-    Answered v answer = AnswerAt (query_at footer (q ∷ qs) v) old.bytes answer
+    abbrev IsAnswerAt : ℕ × ℕ → Option Run → Type 0
+    IsAnswerAt v answer = AnswerAt (query_at footer (q ∷ qs) v) old.bytes answer
 
     -- no run at a hit: its chunk has another hash
-    no_run_at : (h : Hit (ℕ × ℕ)) → IsHit t hash.word0 IsRowAndIndex h → Answered h.value None → is_other hash (get_or (all_chunks xorbs) (chunk_of h.row) no_chunk) ≡ true
+    no_run_at : (h : Hit (ℕ × ℕ)) → IsHit t hash.word0 IsRowAndIndex h → IsAnswerAt h.value None → is_other hash (get_or (all_chunks xorbs) (chunk_of h.row) no_chunk) ≡ true
     no_run_at h hit none =
         let of = of_chunk hash.word0 h hit in
         let run = run_there old is of.starts (q ∷ qs) h.value.1 None none in
@@ -170,7 +170,7 @@ module _ {files : List MDBFileInfo} {xorbs : List MDBXorbInfo} {options : Layout
         λ i. eq-eqb (get_or (all_chunks xorbs) (chunk_of h.row) no_chunk).chunk_hash.word0 hash.word0 of.word_is i && not (not_same i)
 
     -- a run at a hit
-    run_at_hit : (h : Hit (ℕ × ℕ)) (run : Run) → IsHit t hash.word0 IsRowAndIndex h → Answered h.value (Some run) → RunAmong key (q ∷ qs) xorbs (Some run)
+    run_at_hit : (h : Hit (ℕ × ℕ)) (run : Run) → IsHit t hash.word0 IsRowAndIndex h → IsAnswerAt h.value (Some run) → RunAmong key (q ∷ qs) xorbs (Some run)
     run_at_hit h run hit some =
         let of = of_chunk hash.word0 h hit in
         let x = of.spot.xorb in
@@ -216,15 +216,15 @@ module _ {files : List MDBFileInfo} {xorbs : List MDBXorbInfo} {options : Layout
 
       found_run : (run : Run) → TriedAnswer footer (q ∷ qs) old.bytes (Some run) values → RunAmong key (q ∷ qs) xorbs (Some run)
       found_run run (location, contains, some) =
-          let P : ℕ × ℕ → Type 0 = λ v. Answered v (Some run) → RunAmong key (q ∷ qs) xorbs (Some run) in
+          let P : ℕ × ℕ → Type 0 = λ v. IsAnswerAt v (Some run) → RunAmong key (q ∷ qs) xorbs (Some run) in
           All-contains P values location
           (All-map P (λ (h : Hit (ℕ × ℕ)). h.value) found (All-weaker (IsHit t hash.word0 IsRowAndIndex) (λ h. P h.value) (λ h hit. run_at_hit h run hit) found each))
           contains some
 
       module _ (none : TriedAnswer footer (q ∷ qs) old.bytes None values) where
-        none_at : (i : ℕ) (d : Hit (ℕ × ℕ)) → i < length found → Answered (get_or found i d).value None
+        none_at : (i : ℕ) (d : Hit (ℕ × ℕ)) → i < length found → IsAnswerAt (get_or found i d).value None
         none_at i d below =
-            subst (λ v. Answered v None) (get_or-map (λ (h : Hit (ℕ × ℕ)). h.value) found i d (0, 0) below)
+            subst (λ v. IsAnswerAt v None) (get_or-map (λ (h : Hit (ℕ × ℕ)). h.value) found i d (0, 0) below)
             (none i (0, 0) (omega (arith, below, length-map found (λ (h : Hit (ℕ × ℕ)). h.value))))
 
         -- the chunks of the hits are so many others with the word
@@ -266,7 +266,7 @@ module _ {files : List MDBFileInfo} {xorbs : List MDBXorbInfo} {options : Layout
             let value : h.value ≡ (row.0, p.1) =
             (hit_row files xorbs options old footer is with_table hash.word0 h (each m.0 no_hit m.1)).2
             ∙ ap (λ k. ((row_of k).row, (row_of k).index)) (m.2 no_hit) ∙ ap (λ (s : ChunkTableRow). (s.row, s.index)) row.5 in
-            let run = run_there old is row.1 (q ∷ qs) p.1 None (subst (λ v. Answered v None) value (none_at m.0 no_hit m.1)) in
+            let run = run_there old is row.1 (q ∷ qs) p.1 None (subst (λ v. IsAnswerAt v None) value (none_at m.0 no_hit m.1)) in
             let other = none_is_other key q qs p.0 p.1 within run.0 in
             let same = same_Some hash (get_or p.0.chunks p.1 no_chunk).chunk_hash (sym at.chunk ∙ chunk_here key q qs p.0 p.1 within) in
             true≢false (sym ((same_hash hash (get_or p.0.chunks p.1 no_chunk).chunk_hash).1 same) ∙ other)

@@ -39,8 +39,8 @@ module _ {files : List MDBFileInfo} {xorbs : List MDBXorbInfo} {options : Layout
 
   -- where a xorb starts
   module _ {row : ℕ} {x : MDBXorbInfo} (at : StartsAt xorb_records xorbs row x) where
-    stored : IsStoredXorb x
-    stored = is_stored xorb_records xorb_laws xorbs footer.xorb_info_offset old section row x at
+    x_is_stored : IsStoredXorb x
+    x_is_stored = is_stored xorb_records xorb_laws xorbs footer.xorb_info_offset old section row x at
 
     there : (rest : List ℕ) × (drop (row_at footer.xorb_info_offset row) old.bytes ≡ xorb_record_bytes x ++ rest)
     there = record_there xorb_records xorb_laws xorbs footer.xorb_info_offset old section row x at
@@ -54,11 +54,11 @@ module _ {files : List MDBFileInfo} {xorbs : List MDBXorbInfo} {options : Layout
 
       -- a query there gives the run
       pub run_there : (answer : Option Run) → AnswerAt q old.bytes answer → RunInXorb footer.chunk_hash_hmac_key qs x index answer
-      run_there answer found = answers_at stored q old there.0 there.1 fits answer found
+      run_there answer found = answers_at x_is_stored q old there.0 there.1 fits answer found
 
       pub no_run_there : (Absent : CoreError → Type 0) (new : Source) (e : CoreError) → size_of_chunks x ≤ 4294967295 → RefusedAt Absent q old new e
           → DeviceFailure old new e ⊎ (Absent e × (length x.chunks ≤ index))
-      no_run_there Absent new e few refused = refuses_at stored q old there.0 there.1 fits few Absent new e refused
+      no_run_there Absent new e few refused = refuses_at x_is_stored q old there.0 there.1 fits few Absent new e refused
 
       pub direct_with_options : size_of_chunks x ≤ 4294967295 → (new : Source) (r : CoreResult (Option Run)) → OutcomeAt (λ e. e ≡ InvalidArguments) q old new r
           → MatchResult r (RunInXorb options.key qs x index) (QueryFailsInXorb qs x index old new)

@@ -3,7 +3,7 @@ use Rattle.std.proofs.Common.{◌≡◌, ℕ, ◌+◌, ◌-◌, ◌*◌, ◌<◌
 use Rattle.xet_shards.specs.declared.interpolation_search.window.Window.{Window}
 use Rattle.std.specs.declared.io.Error.{Error}
 use Rattle.xet_base.specs.Source.{Source, Fails, after_seek}
-use Rattle.xet_shards.specs.Search.Table.{Table, row_offset, IsSorted, hits_below, hits, Bounded}
+use Rattle.xet_shards.specs.Search.Table.{Table, row_offset, IsSorted, hits_below, hits, SearchIsBounded}
 use Rattle.xet_shards.specs.Steps.Search.{ReadsKey, StopsWithin, IsRow, Counts, ReadsThrough, Runs}
 use Rattle.xet_shards.proofs.Search.Progress.{AllSmaller, Searches}
 use Rattle.xet_shards.proofs.Search.Tables.{offset_of_row-add, hits_below-le, hits_below-none}
@@ -20,7 +20,7 @@ module _ {V : Type 0} (t : Table) (key : ℕ) (Gives : List ℕ → V → Type 0
     (so_far : Searches t key Gives w old now results_old results count) where
   -- one more seek, and the bytes of at most n more rows
   stays_in_bounds : (sorted : IsSorted t) (new : Source) (n : ℕ) → new.seeks ≡ now.seeks + 1 → new.read ≤ now.read + n * (8 + t.width)
-      → n + (so_far.sorted sorted).later ≤ 258 + hits t key → Bounded t key old new
+      → n + (so_far.sorted sorted).later ≤ 258 + hits t key → SearchIsBounded t key old new
   stays_in_bounds sorted new n seeks read few =
       let before = so_far.sorted sorted in
       let rows : so_far.made + before.later + n ≤ 257 + hits t key + (so_far.made + 1) = omega (arith, few) in
@@ -33,12 +33,12 @@ module _ {V : Type 0} (t : Table) (key : ℕ) (Gives : List ℕ → V → Type 0
       }
 
   -- a probed row's key was not read
-  pub bounded_key_not : (sorted : IsSorted t) (new : Source) (e : Error) → StopsWithin t 1 8 now new e → Bounded t key old new
+  pub bounded_key_not : (sorted : IsSorted t) (new : Source) (e : Error) → StopsWithin t 1 8 now new e → SearchIsBounded t key old new
   bounded_key_not sorted new e stops = stays_in_bounds sorted new 1 stops.seeks (omega (arith, stops.read)) (omega (arith, (so_far.sorted sorted).left))
 
   -- the search ended in a run of rows with the key
   pub bounded_runs : (sorted : IsSorted t) (mid new : Source) (found : ℕ) → w.low + 256 < w.high → ReadsKey t (w.probe - 1) now mid found
-      → Runs t key (w.probe - 1) (w.high - 1) mid new → Bounded t key old new
+      → Runs t key (w.probe - 1) (w.high - 1) mid new → SearchIsBounded t key old new
   bounded_runs sorted mid new found running reads runs =
       let before = so_far.sorted sorted in
       let rows = runs.end - (w.probe - 1) in
@@ -55,12 +55,12 @@ module _ {V : Type 0} (t : Table) (key : ℕ) (Gives : List ℕ → V → Type 0
       (omega (arith, runs.equal, runs.past, hits_below-le t key runs.end (w.high - 1) runs.within, before.left))
 
   -- the seek to the last rows failed
-  pub bounded_seek_not : (sorted : IsSorted t) (new : Source) (e : Error) → Fails now new 1 e → Bounded t key old new
+  pub bounded_seek_not : (sorted : IsSorted t) (new : Source) (e : Error) → Fails now new 1 e → SearchIsBounded t key old new
   bounded_seek_not sorted new e fails = stays_in_bounds sorted new 0 fails.seeks (omega (arith, fails.read)) (omega (arith, (so_far.sorted sorted).left))
 
   -- the last rows were read
   pub bounded_passes : (sorted : IsSorted t) (mid new : Source) → w.high ≤ w.low + 256 → mid ≡ after_seek now (row_offset t w.low)
-      → ReadsThrough t w.low (w.high - 1) mid new → Bounded t key old new
+      → ReadsThrough t w.low (w.high - 1) mid new → SearchIsBounded t key old new
   bounded_passes sorted mid new small sought passes =
       let rows = w.high - 1 - w.low in
       let end_is : w.low + rows ≡ w.high - 1 = omega (arith, so_far.around.rows) in

@@ -10,7 +10,7 @@ use Rattle.xet_base.specs.Source.{Source, next_bytes}
 use Rattle.xet_base.specs.Bytes.{u64_from_bytes}
 use Rattle.xet_shards.specs.Search.Table.{Table, row_offset, key_at, value_at, HasKey, hits_below, Hit, IsHit, OtherRow, Finds, ReadsCount}
 use Rattle.xet_shards.specs.Steps.Search.{IsRow, KeepsValue, FindsFrom, Counts, ReadsThrough, Runs}
-use Rattle.xet_shards.proofs.Search.Progress.{FindsAround, Collected, Keeps}
+use Rattle.xet_shards.proofs.Search.Progress.{FindsAround, HasCollected, Keeps}
 use Rattle.xet_base.proofs.Lists.{front_is}
 use Rattle.xet_shards.proofs.Search.Tables.{offset_of_row-next, offset_of_row-le, hits_below-hit, hits_below-miss}
 use Rattle.xet_shards.proofs.Search.Steps.{serves_still, serves_advanced}
@@ -144,7 +144,7 @@ module _ (t : Table) (i : ℕ) (mid after : Source) (same : mid.bytes ≡ t.byte
   past_row = omega (arith, ap (λ s. s.at) reads.after, at, offset_of_row-next t.start t.width i)
 
 pub collected_start : {V : Type 0} (t : Table) (key : ℕ) (Gives : List ℕ → V → Type 0) (from to : ℕ) (old : Source) (results : List V) (had : ℕ)
-    → old.at ≡ row_offset t from → had ≤ length results → Collected t key Gives from from to 0 old old results results had had
+    → old.at ≡ row_offset t from → had ≤ length results → HasCollected t key Gives from from to 0 old old results results had had
 collected_start t key Gives from to old results had at room = record {
   no_failure = serves_still old;
   at = at;
@@ -165,7 +165,7 @@ counts_keep t key from i had value results new room count count_new counted ther
 -- the first of a run of rows with the key, whose key was read before
 pub collected_first : {V : Type 0} (t : Table) (key : ℕ) (Gives : List ℕ → V → Type 0) (from to : ℕ) (old after : Source) (results new : List V) (had count : ℕ) (value : V)
     → old.bytes ≡ t.bytes → old.at ≡ row_offset t from + 8 → IsRow t key from → from < to → had ≤ length results → ReadsCount old after t.width
-    → Gives (value_at t from) value → KeepsValue results new had value count → Collected t key Gives from (from + 1) to 8 old after results new had count
+    → Gives (value_at t from) value → KeepsValue results new had value count → HasCollected t key Gives from (from + 1) to 8 old after results new had count
 collected_first t key Gives from to old after results new had count value same at is_row lt room reads gives kept = record {
   no_failure = serves_advanced old old after t.width (serves_still old) reads.after;
   at = past_row t from old after same at reads;
@@ -178,14 +178,14 @@ collected_first t key Gives from to old after results new had count value same a
 }
 
 module _ {V : Type 0} (t : Table) (key : ℕ) (Gives : List ℕ → V → Type 0) (from i to skip : ℕ) (old now mid after : Source) (results_old results : List V) (had count : ℕ)
-    (same : old.bytes ≡ t.bytes) (so_far : Collected t key Gives from i to skip old now results_old results had count)
+    (same : old.bytes ≡ t.bytes) (so_far : HasCollected t key Gives from i to skip old now results_old results had count)
     (reads : ReadsCount now mid 8) (reads_value : ReadsCount mid after t.width) where
   now_same : now.bytes ≡ t.bytes
   now_same = so_far.no_failure.bytes ∙ same
 
   collected_next : (new : List V) (count_new : ℕ)
       → ((before : List V) → FindsAround t key Gives from i to before results count → FindsAround t key Gives from (i + 1) to before new count_new)
-      → Counts t key from (i + 1) (length results_old) had count_new → Collected t key Gives from (i + 1) to skip old after results_old new had count_new
+      → Counts t key from (i + 1) (length results_old) had count_new → HasCollected t key Gives from (i + 1) to skip old after results_old new had count_new
   collected_next new count_new finds counted = record {
     no_failure = serves_advanced old mid after t.width (serves_advanced old now mid 8 so_far.no_failure reads.after) reads_value.after;
     at = past_row t i mid after (key_bytes t i now mid now_same so_far.at reads) (past_key t i now mid now_same so_far.at reads) reads_value;
@@ -196,7 +196,7 @@ module _ {V : Type 0} (t : Table) (key : ℕ) (Gives : List ℕ → V → Type 0
   }
 
   pub collected_keep : (value : V) (new : List V) (count_new : ℕ) → from ≤ i → i < to → i < t.rows → key_at t i ≡ key → Gives (next_bytes mid t.width) value
-      → length results ≡ length results_old → KeepsValue results new count value count_new → Collected t key Gives from (i + 1) to skip old after results_old new had count_new
+      → length results ≡ length results_old → KeepsValue results new count value count_new → HasCollected t key Gives from (i + 1) to skip old after results_old new had count_new
   collected_keep value new count_new le lt within same_key gives len kept =
       let there : HasKey t i = key_there t i now mid now_same so_far.at reads in
       let mid_same = key_bytes t i now mid now_same so_far.at reads in
@@ -210,14 +210,14 @@ module _ {V : Type 0} (t : Table) (key : ℕ) (Gives : List ℕ → V → Type 0
       collected_next new count_new (λ before found. around_keep t key Gives from i to before results count value new count_new found le lt is_hit kept)
       (counts_keep t key from i had value results new (length results_old) count count_new so_far.counted there same_key len kept)
 
-  pub collected_skip : key_at t i ≢ key → Collected t key Gives from (i + 1) to skip old after results_old results had count
+  pub collected_skip : key_at t i ≢ key → HasCollected t key Gives from (i + 1) to skip old after results_old results had count
   collected_skip other =
       collected_next results count (λ before found. around_skip t key Gives from i to before results count found)
       (omega (arith, so_far.counted, hits_below-miss t key i other))
 
 -- the end of a pass
 module _ {V : Type 0} (t : Table) (key : ℕ) (Gives : List ℕ → V → Type 0) (from i to : ℕ) (old now : Source) (results_old results : List V) (had count : ℕ)
-    (so_far : Collected t key Gives from i to 0 old now results_old results had count) where
+    (so_far : HasCollected t key Gives from i to 0 old now results_old results had count) where
   -- in row i, of which no more than all was read
   pub passes_part : (new : Source) (part : ℕ) → new.bytes ≡ now.bytes → new.seeks ≡ now.seeks → new.read ≤ now.read + part → part ≤ 8 + t.width
       → i < to → ReadsThrough t from to old new

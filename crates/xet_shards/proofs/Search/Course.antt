@@ -2,7 +2,7 @@
 use Rattle.std.proofs.Common.{◌≡◌, inl, inr, ℕ, ◌+◌, ◌-◌, ◌*◌, ◌/◌, ◌<◌, ◌≤◌, min, max, refl, arith, mul-le-mul_right}
 use Rattle.std.proofs.lemmas.Bool.{cases_lt}
 use Rattle.xet_shards.specs.Steps.Probes.{guess_of, Around, AfterBelow, AfterAbove}
-use Rattle.xet_shards.proofs.Search.Progress.{Shrinks, IsProbe, Matching, Course}
+use Rattle.xet_shards.proofs.Search.Progress.{Shrinks, IsProbe, IsMatching, Course}
 use Rattle.xet_shards.proofs.Search.Quarter.{left_below, left_above}
 use Rattle.xet_shards.proofs.Search.Probing.{guess_quotient, guess_most, below_within, above_within}
 
@@ -145,7 +145,7 @@ module _ (R R' : Type 0) (all later low low_key high high_key key probe made fou
   course_above (inr (inr ended)) over past after = absurd (omega (arith, ended.small, running))
 
   pub course_equal : Course R all later low low_key high high_key key probe made → R' → next ≡ probe - min 4 (probe - (low + 1)) → (later' : ℕ) → 1 ≤ later'
-      → (Matching R all later low high probe made → later + 4 ≤ later') → Course R' all later' low low_key probe high_key key next (made + 1)
+      → (IsMatching R all later low high probe made → later + 4 ≤ later') → Course R' all later' low low_key probe high_key key next (made + 1)
   course_equal (inl going) equal stepped later' some more = inr (inl (record {
     is_equal = equal;
     equal = 1;

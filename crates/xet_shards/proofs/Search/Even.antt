@@ -79,7 +79,7 @@ module _ (t : Table) (key : ℕ) (w : Window) (found : ℕ) (even : IsEven t) (a
         arith,
         step_fits t.rows,
         ap (λ n. s * n) all_is,
-        split s w.probe (w.high - w.probe),
+        product_of_sum s w.probe (w.high - w.probe),
         mul_comm s (t.rows + 1),
         found_is,
         whole.high_key,
@@ -96,8 +96,8 @@ module _ (t : Table) (key : ℕ) (w : Window) (found : ℕ) (even : IsEven t) (a
       expand : (n s : ℕ) → (n + 2) * s ≡ n * s + 2 * s
       expand n s = grind arith
 
-      split : (s a b : ℕ) → s * (a + b) ≡ a * s + s * b
-      split s a b = grind arith
+      product_of_sum : (s a b : ℕ) → s * (a + b) ≡ a * s + s * b
+      product_of_sum s a b = grind arith
 
   -- a row that is a step past one that is two rows off at most has a greater key
   step_past : w.probe ≡ w.low + 256 → key < (w.low + 2) * even_step t.rows → key < found

@@ -12,7 +12,7 @@ pub record FindsAround {V : Type 0} (t : Table) (key : ℕ) (Gives : List ℕ �
   pub rows : All (λ hit. ((from ≤ hit.row) × (hit.row < i)) ⊎ (to ≤ hit.row)) finds.found
 
 -- rows from `from` to before `i` were read but for the first `skip` bytes, and those with the key kept
-pub record Collected {V : Type 0} (t : Table) (key : ℕ) (Gives : List ℕ → V → Type 0) (from i to skip : ℕ) (old new : Source)
+pub record HasCollected {V : Type 0} (t : Table) (key : ℕ) (Gives : List ℕ → V → Type 0) (from i to skip : ℕ) (old new : Source)
     (results_old results : List V) (had count : ℕ) : Type 0 where
   pub no_failure : NoFailure old new
   pub at : new.at ≡ row_offset t i
@@ -24,7 +24,7 @@ pub record Collected {V : Type 0} (t : Table) (key : ℕ) (Gives : List ℕ → 
 -- and all of them have the key
 pub record Keeps {V : Type 0} (t : Table) (key : ℕ) (Gives : List ℕ → V → Type 0) (from i to : ℕ) (old new : Source)
     (results_old results : List V) (had count : ℕ) : Type 0 where
-  pub collected : Collected t key Gives from i to 8 old new results_old results had count
+  pub collected : HasCollected t key Gives from i to 8 old new results_old results had count
   pub equal : i + hits_below t key from ≡ hits_below t key i + from
 
 -- a turn at the probe leaves few rows, or at least 256 less than `before`
@@ -37,7 +37,7 @@ abbrev pub IsProbe : ℕ → ℕ → ℕ → ℕ → ℕ → ℕ → Type 0
 IsProbe low low_key high high_key key probe = (probe ≡ guess_of low low_key high high_key key) ⊎ ((probe + 256 ≡ high) ⊎ (probe ≡ low + 256))
 
 -- no probed row had the key; `before` rows were left one turn ago, and each turn takes 128 on average
-pub record Going (all low low_key high high_key key probe made : ℕ) : Type 0 where
+pub record IsNarrowing (all low low_key high high_key key probe made : ℕ) : Type 0 where
   pub before : ℕ
   pub spent : 128 * made + (high - low) ≤ all + 128
   pub spent_before : 128 * made + before ≤ all + 256
@@ -45,7 +45,7 @@ pub record Going (all low low_key high high_key key probe made : ℕ) : Type 0 w
   pub chosen : low + 256 < high → IsProbe low low_key high high_key key probe
 
 -- the upper end has the key; `later` rows with the key were passed, four between one probe and the next
-pub record Matching (IsEqual : Type 0) (all later low high probe made : ℕ) : Type 0 where
+pub record IsMatching (IsEqual : Type 0) (all later low high probe made : ℕ) : Type 0 where
   pub is_equal : IsEqual
   pub equal : ℕ
   pub spent : 128 * made ≤ all + 256 + 128 * equal
@@ -53,7 +53,7 @@ pub record Matching (IsEqual : Type 0) (all later low high probe made : ℕ) : T
   pub stepped : low + 256 < high → probe + 4 ≡ high
 
 -- few rows are left
-pub record Ended (all later low high made : ℕ) : Type 0 where
+pub record HasEnded (all later low high made : ℕ) : Type 0 where
   pub small : high ≤ low + 256
   pub equal : ℕ
   pub spent : 128 * made ≤ all + 384 + 128 * equal
@@ -62,7 +62,7 @@ pub record Ended (all later low high made : ℕ) : Type 0 where
 -- the seeks that were made on a sorted table
 abbrev pub Course : Type 0 → ℕ → ℕ → ℕ → ℕ → ℕ → ℕ → ℕ → ℕ → ℕ → Type 0
 Course IsEqual all later low low_key high high_key key probe made =
-    Going all low low_key high high_key key probe made ⊎ (Matching IsEqual all later low high probe made ⊎ Ended all later low high made)
+    IsNarrowing all low low_key high high_key key probe made ⊎ (IsMatching IsEqual all later low high probe made ⊎ HasEnded all later low high made)
 
 -- rows before `low` have smaller keys, as far as the bytes go
 abbrev pub AllSmaller : Table → ℕ → ℕ → Type 0

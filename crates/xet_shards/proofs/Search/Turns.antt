@@ -5,7 +5,7 @@ use Rattle.xet_base.specs.Source.{Source, NoFailure}
 use Rattle.xet_shards.specs.Search.Table.{Table, row_offset, key_at, HasKey, IsSorted, hits_below, hits, even_step, IsEven}
 use Rattle.xet_shards.specs.Steps.Search.{ReadsKey, IsRow, FindsFrom, Counts, Runs}
 use Rattle.xet_shards.specs.Steps.Probes.{guess_of, IsWhole, NarrowsBelow, NarrowsAbove, NarrowsEqual, OnEven, KeepsEven}
-use Rattle.xet_shards.proofs.Search.Progress.{Matching, OnSorted, Searches}
+use Rattle.xet_shards.proofs.Search.Progress.{IsMatching, OnSorted, Searches}
 use Rattle.xet_shards.proofs.Search.Tables.{offset_of_row-add, offset_of_row-le, hits_below-hit, hits_below-le, keys_ascend, none_after}
 use Rattle.xet_shards.proofs.Search.Steps.{serves_still, serves_moved, serves_advanced}
 use Rattle.xet_shards.proofs.Search.Probing.{guess_within, below_within, above_within, window, is_below, is_above, is_equal}
@@ -242,7 +242,7 @@ module _ {V : Type 0} (t : Table) (key : ℕ) (Gives : List ℕ → V → Type 0
           let read : after.read ≤ mid.read + rows * (8 + t.width) =
           omega (arith, runs.read, offset_of_row-add t.start t.width (w.probe - 1) rows, ap (row_offset t) end_is) in
           let few : before.later + rows ≤ later_new = omega (arith, runs.equal, runs.past, hits_below-le t key runs.end (w.high - 1) runs.within, less) in
-          let more : Matching (IsRow t key (w.high - 1)) (t.rows + 1) before.later w.low w.high w.probe so_far.made → before.later + 4 ≤ later_new =
+          let more : IsMatching (IsRow t key (w.high - 1)) (t.rows + 1) before.later w.low w.high w.probe so_far.made → before.later + 4 ≤ later_new =
           λ matching. omega (
             arith,
             less,

@@ -41,12 +41,12 @@ first_of Greater p is = absurd (true≢false is)
 
 -- neither of two hashes is above the other
 between : (o p : Ordering) → o ≡ ordering_reverse p → is_gt o ≡ false → is_gt p ≡ false → o ≡ Equal
-between Less p is below above = absurd (true≢false (reversed p is ∙ above))
+between Less p is below above = absurd (true≢false (greater_if_reversed p is ∙ above))
   where
-    reversed : (p : Ordering) → Less ≡ ordering_reverse p → true ≡ is_gt p
-    reversed Less is = absurd (cc)
-    reversed Equal is = absurd (cc)
-    reversed Greater is = refl
+    greater_if_reversed : (p : Ordering) → Less ≡ ordering_reverse p → true ≡ is_gt p
+    greater_if_reversed Less is = absurd (cc)
+    greater_if_reversed Equal is = absurd (cc)
+    greater_if_reversed Greater is = refl
 between Equal p is below above = refl
 between Greater p is below above = absurd (true≢false below)
 

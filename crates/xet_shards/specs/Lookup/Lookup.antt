@@ -9,7 +9,7 @@ use Rattle.xet_base.specs.declared.merklehash.DataHash.{DataHash}
 use Rattle.xet_base.specs.Bytes.{u32_bytes}
 use Rattle.xet_base.specs.Errors.{CoreResult, IsBareInvalidShard}
 use Rattle.xet_base.specs.Source.{Source, DeviceFailure, NoFailure}
-use Rattle.xet_shards.specs.Search.Table.{Table, table_at, Hit, IsHit, OtherRow, IsSorted, hits, Finds, FitsTable, Bounded, IsEven, SearchRefused}
+use Rattle.xet_shards.specs.Search.Table.{Table, table_at, Hit, IsHit, OtherRow, IsSorted, hits, Finds, FitsTable, SearchIsBounded, IsEven, SearchRefused}
 use Rattle.xet_records.specs.declared.file_structs.MDBFileInfo.{MDBFileInfo}
 use Rattle.xet_records.specs.RecordKind.{RecordKind}
 use Rattle.xet_records.specs.FileRecord.{file_records}
@@ -132,7 +132,7 @@ pub record Searches {V : Type 0} (t : Table) (word : ℕ) (Gives : List ℕ → 
   -- the bytes of the source stay
   pub kept : new.bytes ≡ old.bytes
   -- seeks and bytes are bounded where the table is sorted
-  pub bounds : IsSorted t → Bounded t word old new
+  pub bounds : IsSorted t → SearchIsBounded t word old new
   -- there are at most three seeks where the table is even
   pub even : IsEven t → new.seeks ≤ old.seeks + 3
 
@@ -174,7 +174,7 @@ pub record LooksUpIndex (t : Table) (key : ℕ) (dest_old dest_new : List ℕ) (
   pub no_failure : OnOk result (NoFailure old new)
   pub refused : IfErr result (IndexRefused t key old new)
   pub kept : new.bytes ≡ old.bytes
-  pub bounds : IsSorted t → Bounded t key old new
+  pub bounds : IsSorted t → SearchIsBounded t key old new
   pub even : IsEven t → new.seeks ≤ old.seeks + 3
 
 -- a call went to a row, by at most so many seeks, and read at most the record there
@@ -218,7 +218,7 @@ pub record LooksUp {H R : Type 0} (K : RecordKind H R) (t : Table) (offset key :
   -- the device did not fail in the search
   pub no_failure : NoFailure old searched
   -- seeks and bytes of the search are bounded where the table is sorted
-  pub bounded : IsSorted t → Bounded t key old searched
+  pub bounded : IsSorted t → SearchIsBounded t key old searched
   -- calls went to the first few of these rows, by one seek each at most, and read at most the
   -- records there
   pub visits : VisitsSome K 1 offset (map (λ hit. hit.value) found) searched new
@@ -279,7 +279,7 @@ FindsRecord K t offset hash old new answer =
 abbrev pub FindRecordFails : {H R : Type 0} → RecordKind H R → Table → ℕ → DataHash → Source → Source
     → CoreError → Type 0
 FindRecordFails K t offset hash old new e =
-    (IndexRefused t hash.word0 old new e × (IsSorted t → Bounded t hash.word0 old new))
+    (IndexRefused t hash.word0 old new e × (IsSorted t → SearchIsBounded t hash.word0 old new))
     ⊎ LooksUp K t offset hash.word0 old new (LookupRefused K offset old new e)
 
 -- a lookup of a record by its hash: the answer or the error, and the bytes of the source stay

@@ -6,7 +6,7 @@ use Rattle.xet_base.specs.declared.merklehash.DataHash.{DataHash}
 use Rattle.xet_base.specs.Errors.{CoreResult, IsEndOfInput, IsBareInvalidShard}
 use Rattle.xet_base.specs.KeyedHash.{under_key}
 use Rattle.xet_base.specs.Source.{Source, DeviceFailure, NoFailure}
-use Rattle.xet_shards.specs.Search.Table.{Hit, IsHit, OtherRow, IsSorted, hits, FitsTable, Bounded, SearchRefused}
+use Rattle.xet_shards.specs.Search.Table.{Hit, IsHit, OtherRow, IsSorted, hits, FitsTable, SearchIsBounded, SearchRefused}
 use Rattle.xet_records.specs.declared.xorb_structs.XorbChunkSequenceEntry.{XorbChunkSequenceEntry}
 use Rattle.xet_records.specs.declared.xorb_structs.XorbChunkSequenceHeader.{XorbChunkSequenceHeader}
 use Rattle.xet_records.specs.Reading.{BeginsWithHeader}
@@ -180,7 +180,7 @@ pub record Queries (footer : MDBShardFileFooter) (hash : DataHash) (old new : So
   pub no_failure : NoFailure old searched
   -- seeks and bytes of the search are bounded where the table is sorted
   pub bounded : IsSorted (chunk_lookup_table footer old)
-      → Bounded (chunk_lookup_table footer old) (keyed_word footer hash) old searched
+      → SearchIsBounded (chunk_lookup_table footer old) (keyed_word footer hash) old searched
   -- calls went to the xorbs of the first few locations, by two seeks each at most, and read at most
   -- the records there
   pub visits : VisitsSome xorb_records 2 footer.xorb_info_offset
@@ -221,7 +221,7 @@ QueryRefused footer (q ∷ qs) old new e =
     (footer.chunk_lookup_num_entry ≢ 0)
     × ((SearchRefused (chunk_lookup_table footer old) old new e
     × (IsSorted (chunk_lookup_table footer old)
-    → Bounded (chunk_lookup_table footer old) (keyed_word footer q) old new))
+    → SearchIsBounded (chunk_lookup_table footer old) (keyed_word footer q) old new))
     ⊎ Queries footer q old new (TriedRefused footer (q ∷ qs) old new e))
 
 -- the outcome of a query

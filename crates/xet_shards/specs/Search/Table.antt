@@ -113,7 +113,7 @@ SearchRefused t old new e =
     × (length old.bytes < row_offset t t.rows))))
 
 -- the seeks made and the bytes read are within the bounds for a sorted table
-pub record Bounded (t : Table) (key : ℕ) (old new : Source) : Type 0 where
+pub record SearchIsBounded (t : Table) (key : ℕ) (old new : Source) : Type 0 where
   pub made : ℕ
   pub seeks : new.seeks ≡ old.seeks + made
   pub few : made ≤ (t.rows + 1) / 128 + hits t key / 4 + 8

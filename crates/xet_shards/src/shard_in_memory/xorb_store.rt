@@ -20,7 +20,7 @@ use std::rc::Rc;
 use xet_base::error::{CoreError, Result};
 use xet_base::merklehash::MerkleHash;
 use xet_records::rows::{Row, all_widths};
-use xet_records::xorb_structs::MDBXorbInfo;
+use xet_records::xorb_structs::{MAX_XORB_BYTES, MDBXorbInfo};
 
 /// Well-formed xorbs, each under its hash, and a location of each of their chunk hashes. Contracts
 /// see both as finite maps.
@@ -257,7 +257,7 @@ pub fn is_well_formed(xorb: &MDBXorbInfo) -> bool
     !metadata.is_bookend()
         && xorb.chunks.len() as u64 == u64::from(metadata.num_entries)
         && metadata.num_entries < u32::MAX
-        && sum_of_chunks(xorb) <= u64::from(u32::MAX)
+        && sum_of_chunks(xorb) <= MAX_XORB_BYTES
 }
 
 // The bytes of a xorb's chunks.

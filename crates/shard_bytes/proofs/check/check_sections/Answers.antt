@@ -10,7 +10,7 @@ use Rattle.xet_shards.specs.Export.Rewriting.{HasSections}
 use Rattle.xet_shards.specs.Write.Tables.{hash_in}
 use Rattle.shard_bytes.specs.declared.check.Section.TheVariants.{Files, Xorbs}
 use Rattle.shard_bytes.specs.Steps.Checking.{IsReport, IsUnreadable, AddsDisorder, BeginsWith}
-use Rattle.shard_bytes.proofs.Checking.{IfOk-weaker, reported}
+use Rattle.shard_bytes.proofs.Checking.{IfOk-weaker, reports_all}
 use Rattle.shard_bytes.proofs.Combining.{in_memory}
 use Rattle.shard_bytes.proofs.Reading.{files_unread, xorbs_unread, files, xorbs, both_read, file_hashes_are, xorb_hashes_are, files_begin, xorbs_begin}
 use Rattle.shard_bytes.proofs.check.check_sections.Goals as goal
@@ -98,7 +98,7 @@ returns-clause-report c =
     let bad_files = subst (λ fs. BeginsWith file_records c.slice-from_files.result.now (the_files r) (length fs)) (sym c.as_slice-3.ensures.value) (begin_with_files r c.slice-from_files.result.now (c.slice-from_files.ensures ∙ take_rest bytes 48)) in
     let bad_xorbs = subst (λ xs. BeginsWith xorb_records c.slice-from_xorbs.result.now (the_xorbs r) (length xs)) (sym c.as_slice-4.ensures.value)
     (begin_with_xorbs r c.slice-from_xorbs.result.now (c.slice-from_xorbs.ensures ∙ take_rest bytes c.in_ok-xorbs_start.xorbs_start)) in
-    reported bytes c.args.info.now c.requires (map file_hash c.as_slice.result.now) (map xorb_hash c.as_slice-2.result.now) (the_files r) (the_xorbs r) (read_both r)
+    reports_all bytes c.args.info.now c.requires (map file_hash c.as_slice.result.now) (map xorb_hash c.as_slice-2.result.now) (the_files r) (the_xorbs r) (read_both r)
     (ap (map file_hash) c.as_slice.ensures.value ∙ hashes_of_files r) (ap (map xorb_hash) c.as_slice-2.ensures.value ∙ hashes_of_xorbs r)
     c.push_disorder.new.findings.items c.push_disorder-2.new.findings.items c.push_malformed.new.findings.items c.push_malformed-2.new.findings.items _
     (subst (λ old. AddsDisorder Files (map file_hash c.as_slice.result.now) old c.push_disorder.new.findings.items) c.new-findings.ensures.items c.in_ok-push_disorder.ensures.added)

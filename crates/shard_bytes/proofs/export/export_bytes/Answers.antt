@@ -2,7 +2,7 @@ use Rattle.std.proofs.Common.{◌≡◌, inl, sym, ap, ◌∙◌, subst, arith}
 use Rattle.std.proofs.lemmas.Result.{err_from_is_err_and}
 use Rattle.xet_core_structures.specs.Ends.{HasHeaderAndFooter}
 use Rattle.shard_bytes.proofs.Exporting.{export_refused, export_made}
-use Rattle.shard_bytes.proofs.ExportedShards.{export_held, export_size, export_succeeds, refused}
+use Rattle.shard_bytes.proofs.ExportedShards.{export_held, export_size, export_succeeds, only_out_of_memory}
 use Rattle.xet_core_structures.specs.Source.{Source}
 use Rattle.shard_bytes.specs.Exporting.{ExportsBytes}
 use Rattle.shard_bytes.proofs.export.export_bytes.Goals as goal
@@ -50,4 +50,4 @@ returns-in_err-exported-clause-succeeds c = λ s holds follows fits.
     (returns-in_err-exported-clause-exported c)
 
 pub returns-in-Err-clause-succeeds : goal.returns-in-Err-clause-succeeds
-returns-in-Err-clause-succeeds c = λ s holds follows fits. refused s c.args.bytes.now follows c.args.export.now holds fits _ (returns-in-Err-clause-exported c)
+returns-in-Err-clause-succeeds c = λ s holds follows fits. only_out_of_memory s c.args.bytes.now follows c.args.export.now holds fits _ (returns-in-Err-clause-exported c)

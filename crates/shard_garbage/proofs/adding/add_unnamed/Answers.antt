@@ -10,7 +10,7 @@ pub loop-index-preserved : goal.loop-index-preserved
 loop-index-preserved c =
     let low : c.loop-index.index < length c.as_slice-items.result.now = search rules in
     up_to_more (λ h. h) (IsUnnamed c.args.segments.now.items.items) c.as_slice-items.result.now c.loop-index.index _ _ _ _ _ _ low refl
-    c.unnamed_fault-fault.ensures c.loop-index.invariant c.in_ok-add_fault.ensures
+    c.unnamed_misfit-misfit.ensures c.loop-index.invariant c.in_ok-add_misfit.ensures
 
 pub returns : goal.returns
 returns c =

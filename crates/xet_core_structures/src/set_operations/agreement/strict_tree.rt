@@ -1,5 +1,5 @@
-//! A tree of unions whose sides are compared where they have records with one hash. So inputs that
-//! agree are found to agree while they are merged, with no list of all records.
+//! A tree of unions that compares records with one hash as it unites them. So inputs that agree are
+//! found to agree while they are merged, with no list of all records.
 
 ghost use Rattle.std.specs.Prelude.{◌≡◌, ◌<◌, ◌≤◌, ℕ, List, Option, None, Some, Contains, IfOk, MatchOption, MatchResult};
 ghost use Rattle.xet_base.specs.declared.error.CoreError.TheVariants.{OutOfMemory};

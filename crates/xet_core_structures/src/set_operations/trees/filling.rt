@@ -26,11 +26,8 @@ use xet_records::record_reader::SectionRecord;
 use xet_records::row_copier::{CopyFailure, CopyResult};
 use xet_records::rows::{ROW_SIZE, Row};
 use xet_records::xorb_structs::{MDBXorbInfo, XorbChunkSequenceHeader};
-use xet_shards::shard_format::CHUNK_ROW_SIZE;
+use xet_shards::shard_format::{CHUNK_ROW_SIZE, FOOTER_SIZE};
 use xet_shards::shard_writer::{LayoutOptions, WrittenFiles, WrittenXorbs};
-
-// The size of a footer, in bytes.
-const FOOTER_SIZE: usize = 200;
 
 /// What stands before the sections of a shard and after them, and the size of the whole.
 #[derive(Drop)]
@@ -99,7 +96,7 @@ fn size_after_sections(files: &WrittenFiles, xorbs: &WrittenXorbs) -> usize {
         .len()
         .saturating_add(xorbs.table.bytes.len())
         .saturating_add(chunk_table);
-    tables.saturating_add(FOOTER_SIZE)
+    tables.saturating_add(FOOTER_SIZE as usize)
 }
 
 /// Writes a shard with its frame to the front of a slice that has room for it.

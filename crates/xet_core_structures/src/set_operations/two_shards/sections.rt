@@ -1,5 +1,5 @@
-//! Reading two sections side by side, a record of each at a time, and writing a section of the
-//! results of an operation on the records with one hash.
+//! Reading two sections side by side, a record of each at a time, and writing the section that an
+//! operation makes of them.
 
 ghost use Rattle.std.specs.Prelude.{◌≤◌, ◌⊎◌, ◌↔◌, IsTrue, IfSome, is_some, Option, MatchResult, IfErr, OnOk};
 ghost use Rattle.std.specs.Io.KnownBytes.{Appends};

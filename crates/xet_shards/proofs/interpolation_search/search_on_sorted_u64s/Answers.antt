@@ -1,5 +1,5 @@
 use Rattle.std.proofs.Common.{subst}
-use Rattle.xet_shards.specs.Search.Table.{IsSorted, Bounded}
+use Rattle.xet_shards.specs.Search.Table.{IsSorted, SearchIsBounded}
 use Rattle.xet_shards.proofs.Search.Steps.{same_table, found_at}
 use Rattle.xet_shards.proofs.Search.Collecting.{finds_none}
 use Rattle.xet_shards.proofs.interpolation_search.search_on_sorted_u64s.Goals as goal
@@ -16,5 +16,5 @@ returns-clause-found g c =
 pub returns-clause-bounds : goal.returns-clause-bounds
 returns-clause-bounds g c =
     let old = g.S.ShardSource.meaning c.args.source.now in
-    subst (λ t. IsSorted t → Bounded t c.args.key old (g.S.ShardSource.meaning c.search_rows.new.source))
+    subst (λ t. IsSorted t → SearchIsBounded t c.args.key old (g.S.ShardSource.meaning c.search_rows.new.source))
     (same_table c.in-Some.range old c.args.read_start c.args.num_entries c.args.value_width c.in-Some.ensures.some) c.in_ok-search_rows.ensures.bounds

@@ -7,6 +7,7 @@ ghost use Rattle.xet_base.specs.Errors.{IsBareShardVersion, IsDeviceError, IsWri
 ghost use Rattle.xet_shards.specs.Ends.Ends.{HasUnsupportedFooter, EndsInFooter, FitsFooter, SaysUnsupported, SaysEndOfInput};
 ghost use Rattle.xet_shards.specs.Write.Layout.{shard_footer_bytes, default_footer};
 
+use crate::shard_format::FOOTER_SIZE;
 use std::alloc::Global;
 use std::io::{Read, Write};
 use xet_base::error::{CoreError, Result};
@@ -15,9 +16,6 @@ use xet_base::merklehash::HMACKey;
 use xet_base::serialization_utils::{read_bytes, write_hash, write_u64s};
 
 const MDB_SHARD_FOOTER_VERSION: u64 = 1;
-
-/// The size of a footer, in bytes.
-pub(in crate::shard_format) const FOOTER_SIZE: u64 = 200;
 
 /// The footer of a shard: the offsets of its parts, the rows of its tables and the sizes of its
 /// contents. Offsets are in bytes from the start of the shard, timestamps in seconds.

@@ -5,9 +5,8 @@ ghost use Rattle.std.specs.Prelude.{◌≡◌, ◌≢◌, ◌↔◌, IsTrue, Non
 ghost use Rattle.xet_base.specs.Hash.{hash_eq};
 ghost use Rattle.xet_base.specs.KeyedHash.{no_key, under_key};
 
-use super::footer::FOOTER_SIZE;
-use super::header::HEADER_SIZE;
 use super::info::MDBShardInfo;
+use crate::shard_format::{FOOTER_SIZE, HEADER_SIZE};
 use xet_base::merklehash::{HMACKey, MerkleHash};
 use xet_records::rows::ROW_SIZE;
 
@@ -129,12 +128,12 @@ impl MDBShardInfo {
     pub fn keyed_chunk_hash(&self, hash: &MerkleHash) -> MerkleHash
         ensures { result ≡ under_key self.now.metadata.chunk_hash_hmac_key hash.now }
     {
-        keyed(*hash, self.metadata.chunk_hash_hmac_key)
+        keyed_hash(*hash, self.metadata.chunk_hash_hmac_key)
     }
 }
 
 // A hash under a key. The key of zeros, which is no key, leaves it as it is.
-pub(in crate::shard_format) fn keyed(hash: MerkleHash, key: HMACKey) -> MerkleHash
+pub(in crate::shard_format) fn keyed_hash(hash: MerkleHash, key: HMACKey) -> MerkleHash
     ensures { result ≡ under_key key hash }
 {
     if key == HMACKey::default() {

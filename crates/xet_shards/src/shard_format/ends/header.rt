@@ -9,7 +9,7 @@ ghost use Rattle.xet_records.specs.declared.record_reader.FormatVersion.{FormatV
 ghost use Rattle.xet_records.specs.Version.{number_of, IsVersion, version_of};
 ghost use Rattle.xet_shards.specs.Write.Layout.{header_tag, shard_header_bytes, header_value};
 
-use super::footer::FOOTER_SIZE;
+use crate::shard_format::{FOOTER_SIZE, HEADER_SIZE};
 use std::alloc::Global;
 use std::io::{Read, Write};
 use xet_base::error::{CoreError, Result};
@@ -22,9 +22,6 @@ const MDB_SHARD_HEADER_TAG: [u8; 32] = [
     b'H', b'F', b'R', b'e', b'p', b'o', b'M', b'e', b't', b'a', b'D', b'a', b't', b'a', 0, 85, 105,
     103, 69, 106, 123, 129, 87, 131, 165, 189, 217, 92, 205, 209, 74, 169,
 ];
-
-/// The size of a header, in bytes.
-pub(in crate::shard_format) const HEADER_SIZE: u64 = 48;
 
 /// The header of a shard.
 #[derive(Clone, Copy, Debug, PartialEq, Eq)]

@@ -19,9 +19,10 @@ ghost use Rattle.xet_shards.specs.Read.SectionReading.{ReadsFiles, ReadsXorbs, S
 ghost use Rattle.xet_shards.specs.Read.XorbHeaders.{xorb_headers, ReadsXorbHeaders};
 ghost use Rattle.xet_shards.specs.Ends.Ends.{HasHeaderAndFooter, HasUnsupportedHeader, EndsInHeader, HasUnsupportedFooter, EndsInFooter, FitsFooter, PartFails, Loads, LoadFails};
 
-use super::footer::{FOOTER_SIZE, MDBShardFileFooter, check_version};
+use super::footer::{MDBShardFileFooter, check_version};
 use super::header::{MDBShardFileHeader, check_tag};
 use super::options::LayoutOptions;
+use crate::shard_format::FOOTER_SIZE;
 use crate::shard_format::read::section_reader::{read_section_at, read_xorb_headers};
 use crate::shard_format::write::writer::{HoldsRecord, write_end, write_values};
 use crate::shard_format::write::written::{WrittenFiles, WrittenXorbs};

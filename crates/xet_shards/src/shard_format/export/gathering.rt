@@ -11,7 +11,7 @@ use super::section_parts::{SectionPart, add_u32};
 use std::alloc::Global;
 use xet_base::error::{CoreError, Result};
 use xet_base::merklehash::HMACKey;
-use xet_records::rows::ROW_SIZE;
+use xet_records::rows::{ROW_LIMIT, ROW_SIZE};
 
 /// Sums over parts: their records, the rows of their sections without bookends, and the sizes in
 /// bytes that their footers name.
@@ -42,7 +42,7 @@ fn to_u32(alloc: Global, n: u64) -> Result<u32>
     ensures value { MatchResult result (λ m. m ≡ n) (λ _. 2 ^ 32 ≤ n) }
     ensures causes { IfErr result IsInvalidShard }
 {
-    if n > u64::from(u32::MAX) {
+    if n > ROW_LIMIT {
         return Err(CoreError::InvalidShard(String::new(alloc)));
     }
     Ok(n as u32)

@@ -4,7 +4,7 @@ ghost use Rattle.std.specs.Prelude.{◌≡◌, ◌<◌, ◌≤◌, ◌++◌, len
 ghost use Rattle.xet_base.specs.KeyedHash.{under_key};
 ghost use Rattle.xet_shards.specs.Export.KeyedExport.{keyed_chunk, keyed_xorb};
 
-use crate::shard_format::ends::footer_facts::keyed;
+use crate::shard_format::ends::footer_facts::keyed_hash;
 use xet_base::merklehash::{HMACKey, MerkleHash};
 use xet_records::rows::Rows;
 use xet_records::xorb_structs::{MDBXorbInfo, XorbChunkSequenceEntry};
@@ -41,7 +41,7 @@ fn key_first(chunks: &mut [XorbChunkSequenceEntry], key: HMACKey) -> usize
         ≡ map (keyed_chunk key) (take result chunks.old) ++ drop result chunks.old }
 {
     if chunks.len() < 4 {
-        chunks[0].chunk_hash = keyed(chunks[0].chunk_hash, key);
+        chunks[0].chunk_hash = keyed_hash(chunks[0].chunk_hash, key);
         return 1;
     }
     let hashes = [
@@ -58,7 +58,7 @@ fn key_first(chunks: &mut [XorbChunkSequenceEntry], key: HMACKey) -> usize
     4
 }
 
-// Four hashes under a key, as `keyed` puts each.
+// Four hashes under a key, as `keyed_hash` puts each.
 fn keyed_four(hashes: &[MerkleHash; 4], key: HMACKey) -> [MerkleHash; 4]
     ensures { result ≡ map (under_key key) hashes.now }
 {

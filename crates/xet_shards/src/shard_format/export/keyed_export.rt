@@ -19,7 +19,7 @@ ghost use Rattle.xet_shards.specs.Export.ExportLaws.{file_rows, xorb_rows};
 ghost use Rattle.xet_records.specs.Limits.{MAX_ROWS};
 
 use super::keyed_chunks::with_keyed_hashes;
-use crate::shard_format::ends::footer::FOOTER_SIZE;
+use crate::shard_format::FOOTER_SIZE;
 use crate::shard_format::ends::header::MDBShardFileHeader;
 use crate::shard_format::ends::info::{MDBShardInfo, read_header};
 use crate::shard_format::ends::options::LayoutOptions;

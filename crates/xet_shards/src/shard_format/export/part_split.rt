@@ -5,10 +5,9 @@ ghost use Rattle.xet_shards.specs.Export.InARow.{ShardPart, bytes_of_part, IsPar
 ghost use Rattle.xet_shards.specs.Steps.InARow.{HasRanges, IsSplit, IsSplitOf};
 ghost use Rattle.xet_base.specs.declared.merklehash.DataHash.{DataHash};
 
-use crate::shard_format::START_ROW_SIZE;
 use crate::shard_format::ends::footer::MDBShardFileFooter;
-use crate::shard_format::ends::header::HEADER_SIZE;
 use crate::shard_format::ends::info::MDBShardInfo;
+use crate::shard_format::{HEADER_SIZE, START_ROW_SIZE};
 use std::alloc::Global;
 use xet_base::error::{CoreError, Result};
 use xet_base::source::MemorySource;

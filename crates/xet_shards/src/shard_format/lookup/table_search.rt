@@ -2,7 +2,7 @@
 
 ghost use Rattle.std.specs.Prelude.{◌≡◌, ◌⊎◌, ℕ, List, ◌+◌, ◌<◌, ◌≤◌, length, min, MatchResult, OnOk, IfOk, IfErr};
 ghost use Rattle.xet_base.specs.Source.{FillFails, next_bytes, NoFailure};
-ghost use Rattle.xet_shards.specs.Search.Table.{table_at, Finds, FitsTable, SearchRefused, hits, IsSorted, Bounded, IsEven, ReadsCount};
+ghost use Rattle.xet_shards.specs.Search.Table.{table_at, Finds, FitsTable, SearchRefused, hits, IsSorted, SearchIsBounded, IsEven, ReadsCount};
 ghost use Rattle.xet_shards.specs.Lookup.Lookup.{IsRowNumber, IsRowAndIndex, Searches, LooksUpIndex};
 
 use crate::interpolation_search::search_on_sorted_u64s;

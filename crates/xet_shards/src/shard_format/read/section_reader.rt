@@ -15,6 +15,7 @@ use xet_base::source::ShardSource;
 use xet_records::record_reader::{
     FormatVersion, MAX_ROWS_OF_RECORD, SectionRecord, read_record, read_section,
 };
+use xet_records::rows::ROW_SIZE;
 use xet_records::xorb_structs::{MDBXorbInfo, XorbChunkSequenceHeader};
 
 /// Reads the records of the section at an offset.
@@ -50,7 +51,7 @@ pub(in crate::shard_format) fn read_record_at<R: SectionRecord + Drop, S: ShardS
         (S.meaning source.new)) }
 {
     R::laws();
-    let distance = 48 * u64::from(row);
+    let distance = ROW_SIZE as u64 * u64::from(row);
     let Some(row_offset) = offset.checked_add(distance) else {
         return Err(CoreError::InvalidShard(String::new(alloc)));
     };

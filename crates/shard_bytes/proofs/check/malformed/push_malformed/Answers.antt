@@ -1,6 +1,6 @@
 use Rattle.std.proofs.Common.{◌+◌, ◌*◌, ◌≤◌, length, take, drop, sym, ◌∙◌, subst, arith}
 use Rattle.shard_bytes.specs.Steps.Checking.{HasRows}
-use Rattle.shard_bytes.proofs.Malformed.{Left, none_before, one_more_judged, all_judged, all_left_of, enough, enough_rows, has_rows, left_after, record_at, the_record}
+use Rattle.shard_bytes.proofs.Malformed.{HasLeft, none_before, one_more_judged, all_judged, all_left_of, enough, enough_rows, has_rows, left_after, record_at, the_record}
 use Rattle.shard_bytes.proofs.check.malformed.push_malformed.Goals as goal
 
 pub row-header-requires : goal.row-header-requires
@@ -49,7 +49,7 @@ loop-index-preserved g c = λ rs begins.
     let rows_are = c.split_at-in-loop-index.ensures.front ∙ (λ j. take (48 * c.rows_after.ensures.rows j) (c.split_at.ensures.back j)) in
     let after_are = c.split_at-in-loop-index.ensures.back ∙ (λ j. drop (48 * c.rows_after.ensures.rows j) (c.split_at.ensures.back j)) in
     let has_its = subst (λ rows. HasRows K c.row-header.result rows r) (sym rows_are) has in (
-      subst (Left K rs (i + 1)) (sym after_are)
+      subst (HasLeft K rs (i + 1)) (sym after_are)
           (left_after K c.laws.ensures c.args.stored.now rs c.args.count begins i low rest before.0 _ _ _ g.met.R.SectionRecord.header_row c.row-header.result c.row-header.ensures),
       one_more_judged g.R.Judged.formed rs c.args.section i r c.is_formed-formed.result c.args.findings.now.items c.loop-index.findings.items c.push_unless.new.findings.items
           (record_at K c.laws.ensures c.args.stored.now rs c.args.count begins i low rest before.0) (c.is_formed-formed.ensures r has_its) before.1 c.in_ok-push_unless.ensures.added,

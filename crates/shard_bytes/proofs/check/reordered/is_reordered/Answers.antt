@@ -1,7 +1,7 @@
 use Rattle.std.proofs.Common.{rules, sym, ◌∙◌, IsTrue, false, subst}
 use Rattle.shard_bytes.specs.Checking.{WordsAscend}
 use Rattle.shard_bytes.specs.Steps.Checking.{IsSortedOf}
-use Rattle.shard_bytes.proofs.Reordered.{same_size, reordered, found_ascends, sorted_same}
+use Rattle.shard_bytes.proofs.Reordered.{same_size, table_is_reordered, found_ascends, sorted_same}
 use Rattle.shard_bytes.proofs.check.reordered.is_reordered.Goals as goal
 
 pub returns-then-found-written : goal.returns-then-found-written
@@ -31,7 +31,7 @@ returns c =
     let rows = c.in_ok-found.found.items in
     let others = c.in_ok-written.written.items in
     let sorted = c.sort_rows-sorted.result.items in (
-      λ yes. reordered written found c.requires rows c.if-found-written.false reads others sorted reads_written sorts ascends
+      λ yes. table_is_reordered written found c.requires rows c.if-found-written.false reads others sorted reads_written sorts ascends
           (sym c.as_slice-2.ensures.value ∙ c.are_equal.ensures.0 yes ∙ c.as_slice-3.ensures.value),
       λ is. c.are_equal.ensures.1 (c.as_slice-2.ensures.value ∙ sorted_same written found c.requires rows c.if-found-written.false reads others sorted reads_written sorts is ∙ sym c.as_slice-3.ensures.value),
     )

@@ -21,5 +21,5 @@ returns-clause-seen c = λ files xorbs seen.
     record {
       segments = seen.segments;
       hashes = subst (Collects range (λ h. h) (HasXorb (xorbs ++ xorb ∷ []))) (sym c.in_ok-push.ensures.items) (hashes_with range files xorbs xorb c.args.self.now.xorbs.items seen.hashes);
-      found = found_with range files xorbs xorb c.args.self.now.found.items seen.found c.args.self.now.segments.items.items c.naming_hash.result.now seen.segments inside c.naming_hash.ensures _ c.in_ok-add_xorb_faults.ensures;
+      found = found_with range files xorbs xorb c.args.self.now.found.items seen.found c.args.self.now.segments.items.items c.naming_hash.result.now seen.segments inside c.naming_hash.ensures _ c.in_ok-add_xorb_misfits.ensures;
     }

@@ -2,7 +2,7 @@ use Rattle.std.proofs.Common.{inr, ◌+◌, drop, refl, subst}
 use Rattle.xet_shards.specs.Write.Section.{total_rows}
 use Rattle.xet_core_structures.specs.Steps.Placed.{IsMergeStep}
 use Rattle.xet_core_structures.specs.Steps.Placed.{CountsRows}
-use Rattle.xet_core_structures.proofs.Trees.PlacedUnions.{uniting_start, uniting_on, united, no_record}
+use Rattle.xet_core_structures.proofs.Trees.PlacedUnions.{uniting_start, uniting_on, after_all, no_record}
 use Rattle.xet_core_structures.proofs.set_operations.trees.placed.unite_placed.Goals as goal
 
 pub loop-made-init : goal.loop-made-init
@@ -11,7 +11,7 @@ loop-made-init g c = λ xs ys first second. rw c.new-made.ensures.items (uniting
 pub returns-in-End : goal.returns-in-End
 returns-in-End g c = λ xs ys first second.
     let turn = subst (IsMergeStep g.R.SectionRecord.kind g.U.PlacedUnion.makes c.args.first.now c.loop-made.at_1 c.args.second.now c.loop-made.at_2) c.in-End.is c.in_ok-next_turn.ensures in
-    united g.R.SectionRecord.kind c.laws.ensures g.U.PlacedUnion.makes xs ys (drop c.loop-made.at_1 c.args.first.now) (drop c.loop-made.at_2 c.args.second.now) c.loop-made.made.items c.loop-made.count (c.loop-made.invariant xs ys first second)
+    after_all g.R.SectionRecord.kind c.laws.ensures g.U.PlacedUnion.makes xs ys (drop c.loop-made.at_1 c.args.first.now) (drop c.loop-made.at_2 c.args.second.now) c.loop-made.made.items c.loop-made.count (c.loop-made.invariant xs ys first second)
     turn.0 turn.1 (λ made. made.items) c.loop-made.made refl c.if_rows_fit.result c.if_rows_fit.ensures
 
 pub loop-made-preserved : goal.loop-made-preserved

@@ -3,7 +3,7 @@ use Rattle.xet_base.specs.declared.error.CoreError.TheVariants.{OutOfMemory}
 use Rattle.xet_records.specs.RecordKind.{in_version}
 use Rattle.xet_core_structures.specs.Steps.Placed.{PlacesAll}
 use Rattle.xet_core_structures.specs.Steps.Rows.{RowsFollow}
-use Rattle.xet_core_structures.proofs.Trees.RowSpans.{no_start, no_end, walked, not_walked}
+use Rattle.xet_core_structures.proofs.Trees.RowSpans.{no_start, no_end, has_rows_found, not_walked}
 use Rattle.xet_core_structures.proofs.set_operations.trees.rows.place_rows.Goals as goal
 
 pub returns-then-not-may_start : goal.returns-then-not-may_start
@@ -26,7 +26,7 @@ pub returns-in-Ok : goal.returns-in-Ok
 returns-in-Ok g c =
     let starts = c.may_start.ensures.0 c.if-not-may_start.false in
     let there : c.bytes_from-rows.result.now ≡ drop (48 * c.args.span.first) c.args.section.now = c.bytes_from-rows.ensures ∙ ap (λ n. drop n c.args.section.now) c.offset_of.ensures in
-    walked g.R.SectionRecord.kind c.laws.ensures c.args.version c.args.range.now c.args.section.now c.args.span.first c.args.span.end starts (c.may_end.ensures.0 c.if-not-may_end.false) (omega arith) c.from-count.result
+    has_rows_found g.R.SectionRecord.kind c.laws.ensures c.args.version c.args.range.now c.args.section.now c.args.span.first c.args.span.end starts (c.may_end.ensures.0 c.if-not-may_end.false) (omega arith) c.from-count.result
     (omega (arith, starts.0, c.from-count.ensures)) c.in-Ok.placed.items
     (subst (λ rows. (found : List _) × RowsFollow (in_version g.R.SectionRecord.kind c.args.version) c.args.range.now None c.from-count.result rows found × PlacesAll g.R.SectionRecord.kind c.in-Ok.placed.items found) there c.in-Ok.ensures)
 

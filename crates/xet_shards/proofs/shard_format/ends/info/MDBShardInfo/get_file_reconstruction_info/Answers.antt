@@ -17,11 +17,11 @@ use Rattle.xet_shards.proofs.Lookup.TableLookups.{IsLookedUp, lookup_bounded, co
 use Rattle.xet_shards.proofs.shard_format.ends.info.MDBShardInfo.get_file_reconstruction_info.Goals as goal
 
 -- files with layout options with their table are looked up
-looked : (g : _) (c : goal.After-look_up g) (files : List MDBFileInfo) (xorbs : List MDBXorbInfo) (options : LayoutOptions)
+read_in_table : (g : _) (c : goal.After-look_up g) (files : List MDBFileInfo) (xorbs : List MDBXorbInfo) (options : LayoutOptions)
     → IsBytesWithFileTable files xorbs options (g.S.ShardSource.meaning c.args.source.now).bytes c.args.self.now
     → let footer = c.args.self.now.metadata in
     IsLookedUp (files_of c.args.self.now) no_file files footer.file_info_offset footer.file_lookup_offset footer.file_lookup_num_entry (g.S.ShardSource.meaning c.args.source.now)
-looked g c files xorbs options is =
+read_in_table g c files xorbs options is =
     let footer = c.args.self.now.metadata in
     let source = g.S.ShardSource.meaning c.args.source.now in
     subst (λ v. IsLookedUp (file_records_in v) no_file files footer.file_info_offset footer.file_lookup_offset footer.file_lookup_num_entry source) (sym is.version)
@@ -40,18 +40,18 @@ costs_with_options : (g : _) (c : goal.After-look_up g) (files : List MDBFileInf
     → WithinBounds file_records files c.args.hash.now.word0 (g.S.ShardSource.meaning c.args.source.now) (g.S.ShardSource.meaning c.look_up.new.source)
 costs_with_options g c files xorbs options is =
     bounds_ever file_records (version_of c.args.self.now.header.version) files _ _ _
-    (lookup_bounded (files_of c.args.self.now) (files_laws (version_of c.args.self.now.header.version)) no_file files _ _ _ (g.S.ShardSource.meaning c.args.source.now) (looked g c files xorbs options is) (g.S.ShardSource.meaning c.look_up.new.source) c.args.hash.now c.look_up.result (returns-clause-looks g c))
+    (lookup_bounded (files_of c.args.self.now) (files_laws (version_of c.args.self.now.header.version)) no_file files _ _ _ (g.S.ShardSource.meaning c.args.source.now) (read_in_table g c files xorbs options is) (g.S.ShardSource.meaning c.look_up.new.source) c.args.hash.now c.look_up.result (returns-clause-looks g c))
 
 collision_with_options : (g : _) (c : goal.After-look_up g) (files : List MDBFileInfo) (xorbs : List MDBXorbInfo) (options : LayoutOptions)
     → IsBytesWithFileTable files xorbs options (g.S.ShardSource.meaning c.args.source.now).bytes c.args.self.now
     → IfErr c.look_up.result (λ e. e ≡ TruncatedHashCollision c.args.hash.now.word0
     → SearchWithinBounds file_records files c.args.hash.now.word0 (g.S.ShardSource.meaning c.args.source.now) (g.S.ShardSource.meaning c.look_up.new.source))
 collision_with_options g c files xorbs options is =
-    collision_bounded (files_of c.args.self.now) (files_laws (version_of c.args.self.now.header.version)) no_file files _ _ _ (g.S.ShardSource.meaning c.args.source.now) (looked g c files xorbs options is) (g.S.ShardSource.meaning c.look_up.new.source) c.args.hash.now c.look_up.result (returns-clause-looks g c)
+    collision_bounded (files_of c.args.self.now) (files_laws (version_of c.args.self.now.header.version)) no_file files _ _ _ (g.S.ShardSource.meaning c.args.source.now) (read_in_table g c files xorbs options is) (g.S.ShardSource.meaning c.look_up.new.source) c.args.hash.now c.look_up.result (returns-clause-looks g c)
 
 pub returns-clause-with_options : goal.returns-clause-with_options
 returns-clause-with_options g c files xorbs options is = record {
-  answer = lookup_with_options (files_of c.args.self.now) (files_laws (version_of c.args.self.now.header.version)) no_file files _ _ _ (g.S.ShardSource.meaning c.args.source.now) (looked g c files xorbs options is) (g.S.ShardSource.meaning c.look_up.new.source) c.args.hash.now c.look_up.result (returns-clause-looks g c);
+  answer = lookup_with_options (files_of c.args.self.now) (files_laws (version_of c.args.self.now.header.version)) no_file files _ _ _ (g.S.ShardSource.meaning c.args.source.now) (read_in_table g c files xorbs options is) (g.S.ShardSource.meaning c.look_up.new.source) c.args.hash.now c.look_up.result (returns-clause-looks g c);
   costs = costs_with_options g c files xorbs options is;
   collision = collision_with_options g c files xorbs options is;
 }
@@ -61,7 +61,7 @@ returns-clause-written g c s is =
     let options = plain_options_in is.is_bytes.version is.is_bytes.expiry in
     let has_table = files_of_shard is in
     record {
-      answer = lookup_written s is.is_bytes.shard (version_of c.args.self.now.header.version) _ _ _ (g.S.ShardSource.meaning c.args.source.now) (looked g c (values s.files) (values s.xorbs) options has_table)
+      answer = lookup_written s is.is_bytes.shard (version_of c.args.self.now.header.version) _ _ _ (g.S.ShardSource.meaning c.args.source.now) (read_in_table g c (values s.files) (values s.xorbs) options has_table)
           (g.S.ShardSource.meaning c.look_up.new.source) c.args.hash.now c.look_up.result (returns-clause-looks g c);
       costs = costs_with_options g c (values s.files) (values s.xorbs) options has_table;
       collision = collision_with_options g c (values s.files) (values s.xorbs) options has_table;

@@ -1,17 +1,17 @@
-//! The faults of a xorb, and of a segment beside its xorb.
+//! The misfits of a xorb, and of a segment beside its xorb.
 
 ghost use Rattle.std.specs.Prelude.{◌≡◌, ◌↔◌, ◌<◌, Some, length};
 ghost use Rattle.xet_records.specs.XorbRecord.{HasItsChunks, total_bytes};
-ghost use Rattle.shard_garbage.specs.declared.finding.Fault.{Fault};
+ghost use Rattle.shard_garbage.specs.declared.finding.Misfit.{Misfit};
 ghost use Rattle.shard_garbage.specs.Garbage.{IsTotal, IsStart, IsOfSegment};
 
-use crate::finding::{Fault, Segment};
+use crate::finding::{Misfit, Segment};
 use xet_records::xorb_structs::{MDBXorbInfo, XorbChunkSequenceEntry};
 
 /// That a xorb's own number of bytes is not the sum of its chunks'.
-pub fn total_fault(xorb: &MDBXorbInfo) -> Option<Fault>
+pub fn total_misfit(xorb: &MDBXorbInfo) -> Option<Misfit>
     requires { HasItsChunks xorb.now }
-    ensures { (fault : Fault) → (result ≡ Some fault) ↔ IsTotal xorb.now fault }
+    ensures { (misfit : Misfit) → (result ≡ Some misfit) ↔ IsTotal xorb.now misfit }
 {
     prove!(xorb.chunks.len() as u64 == u64::from(xorb.metadata.num_entries));
     let said = xorb.metadata.num_bytes_in_xorb;
@@ -19,14 +19,14 @@ pub fn total_fault(xorb: &MDBXorbInfo) -> Option<Fault>
     if u64::from(said) == sum {
         None
     } else {
-        Some(Fault::Total { said, sum })
+        Some(Misfit::Total { said, sum })
     }
 }
 
 /// The first chunk of a xorb whose start is not the sum of the bytes before it.
-pub fn start_fault(xorb: &MDBXorbInfo) -> Option<Fault>
+pub fn start_misfit(xorb: &MDBXorbInfo) -> Option<Misfit>
     requires { HasItsChunks xorb.now }
-    ensures { (fault : Fault) → (result ≡ Some fault) ↔ IsStart xorb.now fault }
+    ensures { (misfit : Misfit) → (result ≡ Some misfit) ↔ IsStart xorb.now misfit }
 {
     prove!(xorb.chunks.len() as u64 == u64::from(xorb.metadata.num_entries));
     let chunks = xorb.chunks.as_slice();
@@ -35,7 +35,7 @@ pub fn start_fault(xorb: &MDBXorbInfo) -> Option<Fault>
     while index < chunks.len() {
         let said = chunks[index].chunk_byte_range_start;
         if u64::from(said) != sum {
-            return Some(Fault::Start { index, said, sum });
+            return Some(Misfit::Start { index, said, sum });
         }
         sum += u64::from(chunks[index].unpacked_segment_bytes);
         index += 1;
@@ -44,21 +44,21 @@ pub fn start_fault(xorb: &MDBXorbInfo) -> Option<Fault>
 }
 
 /// What is wrong with a segment beside a xorb with the hash that it names.
-pub fn segment_fault(segment: &Segment, xorb: &MDBXorbInfo) -> Option<Fault>
+pub fn segment_misfit(segment: &Segment, xorb: &MDBXorbInfo) -> Option<Misfit>
     requires { HasItsChunks xorb.now }
-    ensures { (fault : Fault) → (result ≡ Some fault) ↔ IsOfSegment segment.now xorb.now fault }
+    ensures { (misfit : Misfit) → (result ≡ Some misfit) ↔ IsOfSegment segment.now xorb.now misfit }
 {
     prove!(xorb.chunks.len() as u64 == u64::from(xorb.metadata.num_entries));
     let chunks = xorb.chunks.as_slice();
     let (start, end) = (segment.start as usize, segment.end as usize);
     if start >= end || end > chunks.len() {
-        return Some(Fault::Outside(*segment, chunks.len()));
+        return Some(Misfit::Outside(*segment, chunks.len()));
     }
     let sum = sum_of_bytes(&chunks[start..end]);
     if sum == u64::from(segment.bytes) {
         None
     } else {
-        Some(Fault::Bytes(*segment, sum))
+        Some(Misfit::Bytes(*segment, sum))
     }
 }
 

@@ -1,6 +1,6 @@
 use Rattle.std.proofs.Common.{◌≡◌, ◌*◌, ◌≤◌, take}
 use Rattle.xet_records.specs.XorbRecord.{total_bytes}
-use Rattle.shard_garbage.proofs.fault.sum_of_bytes.Given as goal
+use Rattle.shard_garbage.proofs.misfit.sum_of_bytes.Given as goal
 
 abbrev pub invariant-loop-chunk : goal.invariant-loop-chunk
 invariant-loop-chunk l = record {

@@ -1,7 +1,7 @@
 use Rattle.std.proofs.Common.{length, ◌-◌, ◌≡◌, ◌*◌, ◌≤◌, take}
 use Rattle.xet_records.specs.XorbRecord.{total_bytes}
 use Rattle.shard_garbage.specs.Garbage.{StartsAdd}
-use Rattle.shard_garbage.proofs.fault.start_fault.Given as goal
+use Rattle.shard_garbage.proofs.misfit.start_misfit.Given as goal
 
 abbrev pub invariant-loop-index : goal.invariant-loop-index
 invariant-loop-index l = record {

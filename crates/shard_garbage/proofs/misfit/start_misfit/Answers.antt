@@ -4,7 +4,7 @@ use Rattle.std.proofs.lemmas.List.Sums.{sum_by_more}
 use Rattle.std.proofs.lemmas.Option.{none-some}
 use Rattle.shard_garbage.specs.Garbage.{StartsAdd}
 use Rattle.shard_garbage.proofs.Starts.{starts_on, none_starts}
-use Rattle.shard_garbage.proofs.fault.start_fault.Goals as goal
+use Rattle.shard_garbage.proofs.misfit.start_misfit.Goals as goal
 
 pub loop-index-preserved : goal.loop-index-preserved
 loop-index-preserved c =
@@ -16,10 +16,10 @@ loop-index-preserved c =
     }
 
 pub returns : goal.returns
-returns c = λ fault. (
-  λ none. absurd (none-some fault none),
+returns c = λ misfit. (
+  λ none. absurd (none-some misfit none),
   λ is.
       let past : length c.as_slice-chunks.result.now ≤ c.loop-index.index = search rules in
       absurd (none_starts c.args.xorb.now c.loop-index.index (subst (λ l. StartsAdd l c.loop-index.index) c.as_slice-chunks.ensures c.loop-index.invariant.starts)
-      (subst (λ l. length l ≤ c.loop-index.index) c.as_slice-chunks.ensures past) fault is),
+      (subst (λ l. length l ≤ c.loop-index.index) c.as_slice-chunks.ensures past) misfit is),
 )

@@ -2,7 +2,7 @@ use Rattle.std.proofs.Common.{length, ◌-◌}
 use Rattle.shard_garbage.specs.Garbage.{IsOfSegment}
 use Rattle.shard_garbage.specs.Steps.{Adds}
 use Rattle.shard_garbage.proofs.Additions.{IsUpTo}
-use Rattle.shard_garbage.proofs.adding.add_segment_faults.Given as goal
+use Rattle.shard_garbage.proofs.adding.add_segment_misfits.Given as goal
 
 abbrev pub invariant-loop-index : goal.invariant-loop-index
 invariant-loop-index l =
