@@ -78,11 +78,11 @@ distinct_more (k ∷ keys) key =
     others : DataHash → Bool
     others other = not (hash_eq other k)
 
-    filtered : (b m : Bool) → hash_eq key k ≡ b → filter others (cond m [] (key ∷ [])) ≡ cond (b || m) [] (key ∷ [])
-    filtered true true e = refl
-    filtered false true e = refl
-    filtered true false e = ap (λ b. cond (not b) (key ∷ []) []) e
-    filtered false false e = ap (λ b. cond (not b) (key ∷ []) []) e
+    filter_without : (b m : Bool) → hash_eq key k ≡ b → filter others (cond m [] (key ∷ [])) ≡ cond (b || m) [] (key ∷ [])
+    filter_without true true e = refl
+    filter_without false true e = refl
+    filter_without true false e = ap (λ b. cond (not b) (key ∷ []) []) e
+    filter_without false false e = ap (λ b. cond (not b) (key ∷ []) []) e
 
     stays : hash_eq key k ≡ false → (other : DataHash) → hash_eq key other ≡ true → others other ≡ true
     stays e other same = subst (λ o. not (hash_eq o k) ≡ true) ((same_hash key other).0 same) (ap not e)
@@ -90,8 +90,8 @@ distinct_more (k ∷ keys) key =
     by : (b : Bool) → hash_eq key k ≡ b
         → filter others (cond (is_member hash_eq (distinct keys) key) [] (key ∷ []))
         ≡ cond (b || is_member hash_eq (filter others (distinct keys)) key) [] (key ∷ [])
-    by true e = filtered true (is_member hash_eq (distinct keys) key) e
+    by true e = filter_without true (is_member hash_eq (distinct keys) key) e
     by false e =
-        filtered false (is_member hash_eq (distinct keys) key) e
+        filter_without false (is_member hash_eq (distinct keys) key) e
         ∙ ap (λ b. cond b [] (key ∷ []))
         (sym (any-filter_same (hash_eq key) others true (stays e) (distinct keys)))

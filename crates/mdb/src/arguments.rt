@@ -1,25 +1,25 @@
 //! Reading a request from the arguments of a command line.
 
-use crate::files::STANDARD_STREAM;
 use crate::gc::DEFAULT_MEMORY;
 use crate::request::{
     Collection, Compaction, HashList, MakeCommand, Merge, NewExpiry, OverviewOptions, PrintOptions,
     Removal, Request, Sort, Sources, Strictness, Target,
 };
-use crate::{command_line, id};
 use clap::error::ErrorKind;
 use clap::{ArgMatches, Error};
+use mdb_command_line::{command_line, command_named, id};
 use mdb_report::inquiry::{Checks, Inquiry};
-use mdb_report::line::Style;
-use mdb_report::moment::seconds_of;
-use mdb_report::size::parse_size;
+use record_report::line::Style;
+use record_report::moment::seconds_of;
+use record_report::size::parse_size;
 use shard_bytes::combine::Operation;
 use shard_bytes::export::{Export, ExportParts};
 use shard_bytes::minimal::{KeptXorbs, Subset};
+use shard_files::files::STANDARD_STREAM;
 use std::alloc::{AllocError, AllocFailed, Global};
 use xet_core_structures::file_structs::KeptParts;
 use xet_core_structures::merklehash::MerkleHash;
-use xet_records::record_reader::FormatVersion;
+use xet_core_structures::record_reader::FormatVersion;
 
 /// Why words are no request.
 #[derive(Drop)]
@@ -59,7 +59,7 @@ pub fn request_of<'a>(
     words: &'a [String],
     now: Option<u64>,
 ) -> Result<Request<'a>, Error> {
-    let matches = command_line::command_line(alloc)?.try_get_matches_from(words)?;
+    let matches = command_line(alloc)?.try_get_matches_from(words)?;
     match request_in(alloc, &matches, now) {
         Ok(request) => Ok(request),
         Err(fault) => Err(error_of(alloc, &matches, &fault)?),
@@ -77,7 +77,7 @@ fn error_of(
         Some((name, _)) => name,
         None => "",
     };
-    let mut command = command_line::command_named(alloc, name)?;
+    let mut command = command_named(alloc, name)?;
     Ok(command.error(ErrorKind::ValueValidation, message.as_str())?)
 }
 

@@ -1,9 +1,7 @@
 //! Merging shards into fewer ones, in groups up to a size. The name of each merge is the hash of its
 //! bytes.
 
-use crate::beside::remove_leftovers;
 use crate::failure::Failure;
-use crate::files::{Contents, read_to_end, sync_folder};
 use crate::input_failure::in_memory;
 use crate::input_removal::{HashedFile, ReadInput, remove_inputs};
 use crate::inputs::path_in;
@@ -12,9 +10,11 @@ use crate::merge::{contents_of_all, merge_with_expiry};
 use crate::progress::{Progress, Stage};
 use crate::request::{Compaction, Merge};
 use crate::rounds::shard_file::ShardFile;
-use crate::stamp::FileId;
 use mdb_report::fault::Fault;
-use mdb_report::shown::ShownText;
+use record_report::shown::ShownText;
+use shard_files::beside::remove_leftovers;
+use shard_files::files::{Contents, read_to_end, sync_folder};
+use shard_files::stamp::FileId;
 use std::alloc::{AllocError, Global};
 use std::fs::OpenFile;
 use std::random::RandomSource;

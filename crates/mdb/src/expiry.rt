@@ -8,16 +8,16 @@ ghost use Rattle.mdb.specs.Expiries.{shard_expiry, earlier_of, IsEarliest, IsNew
 ghost use Rattle.mdb.specs.Writing.{HasExpiry, RefusesExpiry};
 
 use crate::failure::Failure;
-use crate::files::{STANDARD_STREAM, read_ends};
 use crate::infos::infos_of;
 use crate::input_failure::in_memory;
 use crate::progress::Progress;
 use crate::request::NewExpiry;
 use mdb_report::expiry::{expiry_of, has_come};
-use mdb_report::moment::Moment;
-use mdb_report::shown::ShownText;
+use record_report::moment::Moment;
+use record_report::shown::ShownText;
 use shard_bytes::expiry::with_expiry;
 use shard_bytes::load::load_bytes;
+use shard_files::files::{STANDARD_STREAM, read_ends};
 use std::alloc::Global;
 use std::fs;
 use std::rt::Files;

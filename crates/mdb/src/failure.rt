@@ -2,9 +2,9 @@
 
 ghost use Rattle.std.specs.Prelude.{◌≡◌};
 
-use crate::files::STANDARD_STREAM;
 use mdb_report::fault::Fault;
-use mdb_report::shown::ShownText;
+use record_report::shown::ShownText;
+use shard_files::files::STANDARD_STREAM;
 use std::fmt;
 use std::io::ErrorKind;
 

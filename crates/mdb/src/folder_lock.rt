@@ -4,10 +4,10 @@
 //! ends, so the file that a killed run left keeps nobody out. What others may have put there under
 //! that name is not written to: a link, or a file that has another name or more than a number.
 
-use crate::beside::folder_and_name;
 use crate::inputs::path_in;
-use crate::stamp::FileId;
-use mdb_report::shown::ShownText;
+use record_report::shown::ShownText;
+use shard_files::beside::folder_and_name;
+use shard_files::stamp::FileId;
 use std::alloc::{AllocError, AllocFailed};
 use std::fs::{File, Metadata, OpenFile, OpenOptions, TryLockError};
 use std::io::{ErrorKind, Read, Write};

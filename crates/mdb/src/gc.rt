@@ -23,7 +23,7 @@ use std::io;
 use std::io::{BufReader, BufWriter, ErrorKind, Write};
 use std::rt::{Clock, Files};
 use xet_core_structures::merklehash::MerkleHash;
-use xet_records::record_reader::FormatVersion;
+use xet_core_structures::record_reader::FormatVersion;
 
 /// The memory that is taken if none is given, in bytes.
 pub const DEFAULT_MEMORY: u64 = 256 << 20;

@@ -1,12 +1,12 @@
 //! Hashes that a file or standard input lists.
 
 use crate::failure::Failure;
-use crate::files::read;
 use crate::request::{HashList, MakeCommand, Request};
 use crate::words::is_among;
 use mdb_report::fault::Fault;
 use mdb_report::inquiry::Inquiry;
 use shard_bytes::minimal::KeptXorbs;
+use shard_files::files::read;
 use std::rt::Files;
 use xet_core_structures::merklehash::MerkleHash;
 

@@ -5,20 +5,20 @@ ghost use Rattle.xet_core_structures.specs.Agreement.Agreement.{HoldShards, HasA
 ghost use Rattle.mdb.specs.Merging.{SaysMalformed, SaysDisagree, SaysCause};
 
 use crate::failure::{Failure, Subject};
-use crate::files::read_shard;
 use crate::request::Target;
 use mdb_report::fault::{Fault, first_blocking_finding, has_wrong_footer};
 use shard_bytes::check::{Finding, Part};
 use shard_bytes::combine::{Operation, combine_bytes};
 use shard_bytes::load::load_bytes;
+use shard_files::files::read_shard;
 use std::alloc::Global;
 use std::rt::Files;
 use xet_core_structures::error::CoreError;
 use xet_core_structures::merklehash::MerkleHash;
+use xet_core_structures::record_reader::FormatVersion;
 use xet_core_structures::set_operations::{
     Disagreement, MalformedRecord, find_disagreements, find_malformed,
 };
-use xet_records::record_reader::FormatVersion;
 
 /// Why a union or a difference failed: the first input that cannot be read, else what is wrong with
 /// the inputs together.

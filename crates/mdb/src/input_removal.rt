@@ -4,9 +4,9 @@ ghost use Rattle.std.specs.Prelude.{◌≡◌, ◌↔◌, IsTrue};
 ghost use Rattle.mdb.specs.Removal.{MayRemove};
 
 use crate::failure::Failure;
-use crate::files::read_to_end;
-use crate::stamp::{FileId, Stamp};
 use mdb_report::fault::Fault;
+use shard_files::files::read_to_end;
+use shard_files::stamp::{FileId, Stamp};
 use std::fs::OpenFile;
 use std::io::ErrorKind;
 use std::rt::Files;

@@ -1,11 +1,11 @@
 //! The list of shards that a command reads: those of its words, of folders and of lists.
 
 use crate::failure::Failure;
-use crate::files::{STANDARD_STREAM, read};
 use crate::request::Sources;
 use crate::run::report_failure;
 use crate::words::{escape_word, is_among};
 use mdb_report::fault::Fault;
+use shard_files::files::{STANDARD_STREAM, read};
 use std::alloc::{AllocError, Global};
 use std::io::Read;
 use std::rt::Files;

@@ -2,7 +2,6 @@
 
 use crate::expiry::report_expired_in;
 use crate::failure::Failure;
-use crate::files::{Contents, open_sized, read_ends, read_shard};
 use crate::inputs::Inputs;
 use crate::make::contents_of;
 use crate::progress::{Progress, Stage};
@@ -11,10 +10,11 @@ use crate::run::{Status, report_failure};
 use crate::terminals::Terminals;
 use mdb_report::fault::{Fault, fault_of, section_fault};
 use mdb_report::inquiry::{Answer, Checks, Inquiry, InquiryFault, print_answer, print_end};
-use mdb_report::line::{Layout, Origin};
 use mdb_report::paged_inquiry::print_paged_answer;
 use mdb_report::tally::Tally;
+use record_report::line::{Layout, Origin};
 use shard_bytes::load::load_bytes;
+use shard_files::files::{Contents, open_sized, read_ends, read_shard};
 use std::alloc::Global;
 use std::io;
 use std::io::{BufWriter, ErrorKind, Write};

@@ -3,20 +3,13 @@
 #![tactic(auto)]
 
 mod arguments;
-mod beside;
 mod by_key;
-mod command_line;
-mod command_table;
 mod compaction;
 mod expiry;
 mod failure;
-mod files;
 mod folder_lock;
-mod free_memory;
 mod gc;
 mod hash_list;
-mod help;
-mod id;
 mod infos;
 mod input_failure;
 mod input_removal;
@@ -32,7 +25,6 @@ mod report;
 mod request;
 mod rounds;
 mod run;
-mod stamp;
 mod terminals;
 mod words;
 

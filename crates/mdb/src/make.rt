@@ -7,21 +7,21 @@ ghost use Rattle.shard_bytes.specs.Minimal.{MinimalBytes, RefusesMinimalBytes};
 ghost use Rattle.shard_bytes.specs.Versions.{LaidOutIn, NotLaidOutIn};
 ghost use Rattle.mdb_report.specs.Faults.{IsExportFault, IsMinimalFault};
 
-use crate::beside::leftovers;
 use crate::expiry::{new_expiry, with_expiry_if_any};
 use crate::failure::Failure;
-use crate::files::{Contents, STANDARD_STREAM, read_shard, write};
 use crate::input_failure::combine_failure_in;
 use crate::record_lines::shard_of_lines;
 use crate::record_removal::remove_records;
 use crate::request::{MakeCommand, NewExpiry, Target};
 use mdb_report::fault::{Fault, export_fault, fault_of, minimal_fault};
-use mdb_report::shown::ShownText;
+use record_report::shown::ShownText;
 use shard_bytes::combine::{Operation, combine_bytes_in};
 use shard_bytes::export::{Export, export_bytes_in};
 use shard_bytes::minimal::{
     KeptXorbs, Subset, hashes_without_xorb, minimal_bytes_in, subset_bytes_in,
 };
+use shard_files::beside::leftovers;
+use shard_files::files::{Contents, STANDARD_STREAM, read_shard, write};
 use std::alloc::Global;
 use std::fs;
 use std::random::RandomSource;
@@ -127,11 +127,11 @@ fn export_file<'a, R: Files + Input + AllocGlobal>(
     target: Target<'a>,
 ) -> Result<Vec<u8>, Failure<'a>> {
     let bytes = bytes_in_file(rt, file)?;
-    exported(rt.alloc(), file, bytes.as_slice(), export, target)
+    export_of_bytes(rt.alloc(), file, bytes.as_slice(), export, target)
 }
 
 // The bytes of an export, in the version of a target, of the shard of which a file has these bytes.
-fn exported<'a>(
+fn export_of_bytes<'a>(
     alloc: Global,
     file: &'a str,
     bytes: &[u8],

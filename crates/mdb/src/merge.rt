@@ -11,8 +11,6 @@ use crate::by_key::{distinct_keys, path_under, values_under};
 use crate::compaction::merge_groups;
 use crate::expiry::{new_expiry, report_expired_in, with_expiry_if_any, without_expired};
 use crate::failure::Failure;
-use crate::files::{Contents, STANDARD_STREAM, is_worth_reading, open_sized, read_ends};
-use crate::free_memory::free_memory;
 use crate::infos::{infos_of, keys_in};
 use crate::input_failure::{
     combine_failure_in, disagreement, disagreement_under, failure_on_all, failure_on_malformed,
@@ -24,9 +22,11 @@ use crate::request::{Merge, Strictness, Target};
 use crate::rounds::merge_in_rounds;
 use crate::terminals::Terminals;
 use mdb_report::fault::Fault;
-use mdb_report::shown::ShownText;
+use record_report::shown::ShownText;
 use shard_bytes::agree::{AgreeingMerge, merge_agreeing_bytes};
 use shard_bytes::merge::merge_bytes;
+use shard_files::files::{Contents, STANDARD_STREAM, is_worth_reading, open_sized, read_ends};
+use shard_files::free_memory::free_memory;
 use std::alloc::{AllocError, Global};
 use std::fs;
 use std::random::RandomSource;
@@ -319,16 +319,16 @@ fn unite_leniently<'a, R: Eprint + AllocGlobal>(
         (SaysNotMerged target.entry.version (map (λ x. x.now) inputs.now)) }
 {
     let alloc = rt.alloc();
-    let oddity = malformed_failure(alloc, files, inputs)?;
+    let malformed = malformed_failure(alloc, files, inputs)?;
     let choice = disagreement(alloc, files, inputs)?;
     match merge_bytes(alloc, inputs, target.version) {
         Ok(bytes) => {
-            report_findings(rt, &oddity, &choice, progress);
+            report_findings(rt, &malformed, &choice, progress);
             Ok(bytes)
         }
         Err(error) => {
             if lacks_files(alloc, inputs, target.version, &error) {
-                report_findings(rt, &oddity, &choice, progress);
+                report_findings(rt, &malformed, &choice, progress);
             }
             Err(combine_failure_in(alloc, files, inputs, target, error))
         }
@@ -344,7 +344,7 @@ pub fn report_findings<R: Eprint>(
 ) {
     progress.clear(rt);
     if let Some(malformed) = malformed {
-        report_oddity(rt, malformed);
+        report_malformed(rt, malformed);
     }
     if let Some(disagreement) = disagreement {
         report_choice(rt, disagreement);
@@ -358,7 +358,7 @@ pub fn report_size<R: Eprint>(rt: &R, file: &str, bytes: u64) {
 }
 
 // Says of a record that no shard may have what it means for a merge.
-fn report_oddity<R: Eprint>(rt: &R, malformed: &Failure<'_>) {
+fn report_malformed<R: Eprint>(rt: &R, malformed: &Failure<'_>) {
     let _ = rt.eprintln(format_args!(
         "{malformed}; what the merge writes may depend on the order of the files"
     ));

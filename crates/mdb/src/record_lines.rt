@@ -1,16 +1,16 @@
 //! The command that makes a shard of records that are listed as JSON, one a line.
 
 use crate::failure::Failure;
-use crate::files::read;
 use crate::request::Target;
 use mdb_report::fault::Fault;
-use mdb_report::record_line::{LineFault, Record, record_of};
+use record_report::record_line::{LineFault, Record, record_of};
 use shard_bytes::records::{Records, write_records};
+use shard_files::files::read;
 use std::alloc::Global;
 use std::rt::Files;
 use xet_core_structures::error::CoreError;
+use xet_core_structures::record_reader::FormatVersion;
 use xet_core_structures::shard_in_memory::MDBInMemoryShard;
-use xet_records::record_reader::FormatVersion;
 
 /// The bytes of the shard that has the records in a file, in the version of a target, with an expiry
 /// in seconds or none. Of two files, or two xorbs, with one hash the later one counts.

@@ -5,9 +5,9 @@ use crate::failure::Failure;
 use crate::input_failure::{combine_failure, combine_failure_in};
 use crate::make::bytes_in_file;
 use crate::request::{Removal, Target};
-use crate::rounds::block::{put_bookend, put_footer};
 use mdb_report::fault::{Fault, fault_of};
 use mdb_report::section::SectionReader;
+use shard_assembly::block::{put_bookend, put_footer};
 use shard_bytes::combine::{Operation, combine_bytes_in};
 use shard_bytes::load::load_bytes;
 use std::alloc::Global;
@@ -15,9 +15,9 @@ use std::rt::Files;
 use xet_core_structures::error::Result as ShardResult;
 use xet_core_structures::file_structs::FileDataSequenceHeader;
 use xet_core_structures::merklehash::{HMACKey, MerkleHash};
+use xet_core_structures::record_reader::FormatVersion;
 use xet_core_structures::shard_format::{MDBShardFileHeader, MDBShardInfo};
 use xet_core_structures::xorb_structs::XorbChunkSequenceHeader;
-use xet_records::record_reader::FormatVersion;
 
 /// The bytes of a shard without the files and xorbs that have some hashes, in the version of a
 /// target: its difference from a shard of records with these hashes. A hash that no record has is

@@ -19,9 +19,9 @@ use std::alloc::AllocError;
 use std::random::RandomSource;
 use std::rt::{Clock, Files};
 use xet_core_structures::merklehash::MerkleHash;
+use xet_core_structures::record_reader::FormatVersion;
 use xet_core_structures::rows::ROW_SIZE;
 use xet_core_structures::xorb_structs::MDBXorbInfo;
-use xet_records::record_reader::FormatVersion;
 
 /// About the memory for what is kept of a chunk, in bytes.
 const ITEM_SIZE: u64 = 192;

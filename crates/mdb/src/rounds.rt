@@ -6,33 +6,27 @@
 //! rows are written at once. The rows of the tables wait in a second file, which is removed from its
 //! folder as soon as it is made.
 
-ghost use Rattle.std.specs.Prelude.{◌≡◌, ◌/◌, ◌<◌, map, IfOk};
+ghost use Rattle.std.specs.Prelude.{◌≡◌, map, IfOk};
 
-mod assembly;
-pub mod block;
-mod counts;
 mod findings;
-mod part_ranges;
 mod parts;
-mod row_numbers;
-mod runs;
 pub mod shard_file;
 
-use crate::beside::{NewFile, create_beside, create_private};
 use crate::by_key::{distinct_keys, path_under, values_under};
 use crate::expiry::report_expired;
 use crate::failure::Failure;
-use crate::files::{Place, STANDARD_STREAM, is_worth_reading, place_at, rename_over};
 use crate::input_failure::{failure_in_files, in_memory};
 use crate::make::report_leftovers;
 use crate::merge::report_size;
 use crate::progress::{Progress, Stage};
 use crate::request::Merge;
-use assembly::Assembly;
 use mdb_report::fault::{Fault, fault_of};
 use parts::merge_parts;
+use shard_assembly::assembly::Assembly;
 use shard_bytes::load::load_bytes;
 use shard_file::{ShardFile, ends_of};
+use shard_files::beside::{NewFile, create_beside, create_private};
+use shard_files::files::{Place, STANDARD_STREAM, is_worth_reading, place_at, rename_over};
 use std::alloc::{AllocError, AllocFailed, Global};
 use std::fs::OpenFile;
 use std::random::RandomSource;
@@ -249,15 +243,4 @@ fn unlinked_file<R: Files + RandomSource + AllocGlobal>(
     let NewFile { file, path } = create_private(rt, rt.alloc(), target)?;
     fs::remove_file(rt, path.as_str())?;
     Ok(file)
-}
-
-// The quotient of a number by a number of parts; the number itself if there is no part.
-fn share_of(number: u64, parts: u64) -> u64
-    ensures none { parts ≡ 0 → result ≡ number }
-    ensures some { 0 < parts → result ≡ number / parts }
-{
-    match number.checked_div(parts) {
-        Some(share) => share,
-        None => number,
-    }
 }

@@ -18,7 +18,7 @@ use crate::request::{Merge, Request, Sources};
 use crate::terminals::Terminals;
 use crate::words::{Words, is_among, read_words};
 use mdb_report::fault::Fault;
-use mdb_report::moment::seconds_now;
+use record_report::moment::seconds_now;
 use std::alloc::AllocError;
 use std::random::RandomSource;
 use std::rt::{Clock, Env, Files};

@@ -5,7 +5,7 @@ ghost use Rattle.std.specs.List.{flat_map};
 ghost use Rattle.std.specs.Str.{chars};
 ghost use Rattle.mdb_overview.specs.Escapes.{escape};
 
-use mdb_report::shown::ShownText;
+use record_report::shown::ShownText;
 use std::alloc::{AllocError, Global};
 
 /// The most characters of a label.

@@ -6,7 +6,7 @@ use crate::overview::{Overview, total_of};
 use crate::plots::{print_expiries, print_sharing, print_sizes};
 use crate::style::HEAD;
 use crate::table::print_table;
-use mdb_report::moment::Moment;
+use record_report::moment::Moment;
 use std::alloc::{AllocError, Global};
 
 /// The most sources and failures that are named.

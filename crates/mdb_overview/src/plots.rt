@@ -6,7 +6,7 @@ use crate::expiries::{day_of, expiries_of};
 use crate::numbers::{GroupedNumber, grouped_length};
 use crate::overview::{Overview, total_of};
 use crate::plot::{PlotRow, print_plot};
-use mdb_report::moment::Moment;
+use record_report::moment::Moment;
 use std::alloc::{AllocError, Global};
 
 /// The most shards, spans of days and spans of numbers that have a row each.

@@ -8,7 +8,7 @@ ghost use Rattle.mdb_overview.specs.Counts.{count_in};
 use crate::counts::{Counts, count_one};
 use std::alloc::{AllocError, Global};
 use std::collections::{BTreeMap, HashMap, HashSet};
-use xet_base::merklehash::MerkleHash;
+use xet_core_structures::merklehash::MerkleHash;
 
 /// The hashes of the chunks of some shards, each with the number of shards that have it; one that
 /// would pass the greatest number stays there.

@@ -2,5 +2,4 @@ pub mod Bar
 pub mod PageBytes
 pub mod FileFindings
 pub mod Reading
-pub mod RecordLines
 pub mod Fitting

@@ -22,7 +22,7 @@ use Rattle.xet_records.specs.Reading.{ReadsNextRecord}
 use Rattle.xet_records.specs.RecordKind.{RecordKind, in_version}
 use Rattle.shard_bytes.specs.Outcomes.{HasOutcome}
 use Rattle.shard_bytes.proofs.Combining.{in_memory}
-use Rattle.mdb_report.specs.Records.{HoldsFiles, FilesNotRead}
+use Rattle.mdb_report.specs.FileReports.{HoldsFiles, FilesNotRead}
 use Rattle.mdb_report.specs.Unfit.{HoldsXorbs, XorbsNotRead}
 use Rattle.xet_records.proofs.RecordKinds.{file_laws, xorb_laws, laws_in, stored_ever}
 use Rattle.xet_core_structures.proofs.Records.RecordsAsRead.{all_handed}

@@ -31,8 +31,8 @@ IsFaultOf bytes error (Collision word) = error ≡ TruncatedHashCollision word
 IsFaultOf bytes error OutOfMemory = ⊤
 IsFaultOf bytes error _ = ⊥
 
--- a finding keeps a shard from being combined: it is more than a part or a size that differs, a
--- record that no shard may have, or another order of rows
+-- the findings that keep a shard from being combined: all but a part or a size that differs, a record
+-- that no shard may have, and another order of rows
 abbrev pub KeepsFrom : Finding → Type 0
 KeepsFrom (Differs _) = ⊥
 KeepsFrom (Size _) = ⊥

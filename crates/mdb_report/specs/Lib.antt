@@ -6,8 +6,7 @@ pub mod Lookups
 pub mod Pages
 pub mod Parts
 pub mod FileFindings
-pub mod RecordLines
-pub mod Records
+pub mod FileReports
 pub mod Sections
 pub mod Summary
 pub mod Tables

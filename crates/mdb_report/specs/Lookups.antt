@@ -9,7 +9,7 @@ use Rattle.xet_core_structures.specs.Lookup.{FindsRecord, FindRecordFails, file_
 use Rattle.xet_core_structures.specs.SectionReading.{files_of}
 use Rattle.xet_core_structures.specs.declared.shard_format.MDBShardInfo.{MDBShardInfo}
 use Rattle.xet_core_structures.specs.RunReading.{QueryAnswer}
-use Rattle.xet_core_structures.specs.Source.{Source}
+use Rattle.xet_core_structures.specs.Source.{Source, NoFailure}
 use Rattle.shard_bytes.specs.Finding.{RefusesFile}
 use Rattle.shard_bytes.specs.Outcomes.{HasOutcome}
 use Rattle.shard_bytes.specs.Query.{AnswersQuery}
@@ -17,8 +17,8 @@ use Rattle.mdb_report.specs.declared.lookup.Costs.{Costs}
 use Rattle.mdb_report.specs.declared.lookup.FoundReport.{FoundReport}
 use Rattle.mdb_report.specs.declared.lookup.Run.{Run}
 use Rattle.mdb_report.specs.declared.lookup.RunReport.{RunReport}
-use Rattle.mdb_report.specs.declared.records.FileReport.{FileReport}
-use Rattle.mdb_report.specs.Records.{ReportsFile, segment_report}
+use Rattle.record_report.specs.declared.records.FileReport.{FileReport}
+use Rattle.record_report.specs.Records.{ReportsFile, segment_report}
 
 -- the seeks made between two states of a source, and the bytes read, as far as they are counted
 pub record AreCosts (before after : Source) (costs : Costs) : Type 0 where
@@ -31,30 +31,6 @@ ReportsFound None None = ⊤
 ReportsFound (Some file) (Some report) = ReportsFile file true report
 ReportsFound _ _ = ⊥
 
--- what a lookup of the hash in the bytes finds, and what it costs
-abbrev pub FindsAt : List ℕ → DataHash → Option MDBFileInfo → Costs → Type 0
-FindsAt bytes hash found costs =
-    HasOutcome bytes
-    (λ info before after. FindsRecord (files_of info) (file_table info.metadata before)
-    info.metadata.file_info_offset hash before after found
-    × AreCosts before after costs)
-
--- the report of a lookup of the hash in the bytes, with its costs if they are wanted, and else
--- without
-pub record ReportsLookup (bytes : List ℕ) (hash : DataHash) (with_costs : Bool)
-    (report : FoundReport) : Type 0 where
-  -- what the lookup finds
-  pub file : Option MDBFileInfo
-  -- what the lookup costs
-  pub costs : Costs
-  pub finds : FindsAt bytes hash file costs
-  pub looked_up : report.hash.0 ≡ hash
-  pub found : ReportsFound file report.found
-  -- the report has costs exactly if they are wanted
-  pub has_costs : is_some report.costs ≡ with_costs
-  -- the costs in the report are those of the lookup
-  pub costs_are : IfSome report.costs (λ c. c ≡ costs)
-
 -- what a lookup of the hash finds between two states of a source, and what it costs
 abbrev pub FindsIn : MDBShardInfo → DataHash → Source → Source → Option MDBFileInfo → Costs → Type 0
 FindsIn info hash before after found costs =
@@ -62,8 +38,8 @@ FindsIn info hash before after found costs =
     before after found
     × AreCosts before after costs
 
--- the report of a lookup of the hash between two states of a source, with its costs if they are
--- wanted, and else without
+-- the report of a lookup of the hash between two states of a source, where no read failed, with its
+-- costs if they are wanted, and else without
 pub record ReportsFinding (info : MDBShardInfo) (hash : DataHash) (with_costs : Bool)
     (before after : Source) (report : FoundReport) : Type 0 where
   -- what the lookup finds
@@ -71,12 +47,18 @@ pub record ReportsFinding (info : MDBShardInfo) (hash : DataHash) (with_costs : 
   -- what the lookup costs
   pub costs : Costs
   pub finds : FindsIn info hash before after file costs
+  pub no_failure : NoFailure before after
   pub looked_up : report.hash.0 ≡ hash
   pub found : ReportsFound file report.found
   -- the report has costs exactly if they are wanted
   pub has_costs : is_some report.costs ≡ with_costs
   -- the costs in the report are those of the lookup
   pub costs_are : IfSome report.costs (λ c. c ≡ costs)
+
+-- the report of a lookup of the hash in the bytes
+abbrev pub ReportsLookup : List ℕ → DataHash → Bool → FoundReport → Type 0
+ReportsLookup bytes hash with_costs report =
+    HasOutcome bytes (λ info before after. ReportsFinding info hash with_costs before after report)
 
 -- why there is no report of a lookup between two states of a source: the lookup is refused, or
 -- memory is lacking
@@ -97,11 +79,13 @@ pub record ReportsQuery (bytes : List ℕ) (hashes : List DataHash) (report : Ru
   pub answers : AnswersQuery bytes hashes answer
   pub run : report.run ≡ option_map run_of answer
 
--- the report of what a query of the chunks answers between two states of a source
+-- the report of what a query of the chunks answers between two states of a source, where no read
+-- failed
 pub record ReportsRun (info : MDBShardInfo) (hashes : List DataHash) (before after : Source)
     (report : RunReport) : Type 0 where
   pub answer : Option (ℕ × FileDataSequenceEntry)
   pub answers : QueryAnswer info.metadata hashes before after answer
+  pub no_failure : NoFailure before after
   pub run : report.run ≡ option_map run_of answer
 
 -- why there is no report of a lookup: header and footer are not read, the lookup is refused, or

@@ -10,7 +10,7 @@ use Rattle.xet_core_structures.specs.TwoShards.ByteResults.{LoadRefusal}
 use Rattle.xet_shards.specs.Read.XorbHeaders.{ReadsXorbHeaders}
 use Rattle.xet_core_structures.specs.XorbRecord.{xorb_records}
 use Rattle.shard_bytes.specs.Outcomes.{HasOutcome}
-use Rattle.mdb_report.specs.Records.{HoldsFiles}
+use Rattle.mdb_report.specs.FileReports.{HoldsFiles}
 
 -- the bytes hold a file, and the footer says that the file table has no rows
 pub record LacksFileTable (bytes : List ℕ) : Type 0 where

@@ -11,7 +11,7 @@ use Rattle.shard_bytes.specs.Outcomes.{HasOutcome}
 use Rattle.shard_garbage.specs.declared.finding.Finding.{Finding}
 use Rattle.shard_garbage.specs.Garbage.{IsGarbage}
 use Rattle.shard_garbage.specs.Reports.{ReportsAll}
-use Rattle.mdb_report.specs.Records.{HoldsFiles}
+use Rattle.mdb_report.specs.FileReports.{HoldsFiles}
 
 -- these are the xorbs of the shard with these bytes
 abbrev pub HoldsXorbs : List ℕ → List MDBXorbInfo → Type 0

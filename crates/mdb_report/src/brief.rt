@@ -7,11 +7,11 @@ ghost use Rattle.xet_core_structures.specs.Ends.{HasHeaderAndFooter};
 ghost use Rattle.xet_core_structures.specs.TwoShards.ByteResults.{LoadRefusal};
 ghost use Rattle.mdb_report.specs.Brief.{SaysBriefly, IsCount, AddsTo, sum_if_known};
 
-use crate::hex::Hex;
-use crate::moment::Moment;
 use crate::parts::Parts;
-use crate::shown::ShownText;
 use crate::summary::key_of;
+use record_report::hex::Hex;
+use record_report::moment::Moment;
+use record_report::shown::ShownText;
 use serde::Serialize;
 use shard_bytes::load::load_bytes;
 use std::alloc::{AllocError, Global};

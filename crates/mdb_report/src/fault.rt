@@ -6,8 +6,8 @@ ghost use Rattle.shard_bytes.specs.Checking.{IsFinding};
 ghost use Rattle.mdb_report.specs.Faults.{IsFaultOf, MayBeCause, KeepsFrom, IsBlocking, IsUnderKey, IsUnderNoKey, IsExportFault, IsMinimalFault};
 
 use crate::file_finding::InWords;
-use crate::record_line::LineFault;
 use crate::tables::Table;
+use record_report::record_line::LineFault;
 use shard_bytes::check::{Finding, Part, Section, check_bytes};
 use shard_bytes::export::Export;
 use shard_bytes::load::load_bytes;

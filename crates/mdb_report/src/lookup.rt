@@ -1,15 +1,15 @@
 //! What lookups and queries find.
 
-ghost use Rattle.std.specs.Prelude.{◌≡◌, None, IfOk, IfSome, IsNone, MatchResult, option_map};
+ghost use Rattle.std.specs.Prelude.{◌≡◌, None, IfOk, IfSome, IsNone, MatchResult, OnOk, option_map};
 ghost use Rattle.xet_core_structures.specs.FileRecord.{FitsItsHeader};
 ghost use Rattle.xet_core_structures.specs.RunReading.{QueryRefused};
-ghost use Rattle.shard_bytes.specs.Finding.{RefusesFile};
+ghost use Rattle.xet_core_structures.specs.Source.{NoFailure};
 ghost use Rattle.shard_bytes.specs.Query.{RefusesQuery};
-ghost use Rattle.mdb_report.specs.Lookups.{FindsAt, FindsIn, FindFileFails, ReportsLookup, ReportsFinding, ReportsQuery, ReportsRun, LookupFails, run_of};
+ghost use Rattle.mdb_report.specs.Lookups.{FindsIn, FindFileFails, ReportsLookup, ReportsFinding, ReportsQuery, ReportsRun, LookupFails, run_of};
 
 use crate::counting::CountingSource;
-use crate::hex::Hex;
-use crate::records::{FileReport, SegmentReport};
+use record_report::hex::Hex;
+use record_report::records::{FileReport, SegmentReport};
 use serde::Serialize;
 use shard_bytes::query::query_chunks;
 use std::alloc::Global;
@@ -64,20 +64,11 @@ impl FoundReport {
         ensures { MatchResult result (ReportsLookup bytes.now hash with_costs)
             (LookupFails bytes.now hash) }
     {
-        let (file, costs) = find_counted(alloc, bytes, &hash)?;
-        let found = match file {
-            Some(file) => Some(FileReport::of_file(alloc, &file, true)?),
-            None => None,
-        };
-        Ok(FoundReport {
-            hash: Hex(hash),
-            found,
-            costs: if with_costs { Some(costs) } else { None },
-        })
+        let mut source = CountingSource::new(MemorySource::new(bytes));
+        let info = MDBShardInfo::load_from_reader(alloc, &mut source)?;
+        FoundReport::in_source(alloc, &info, &mut source, hash, with_costs)
     }
-}
 
-impl FoundReport {
     /// Looks up a file in a source of a shard that has this header and footer.
     ///
     /// The errors are those of [`MDBShardInfo::get_file_reconstruction_info`], and `OutOfMemory`.
@@ -118,32 +109,12 @@ fn find_in<S: ShardSource>(
         (FindFileFails info.now hash.now (S.meaning source.old.source)
         (S.meaning source.new.source)) }
     ensures fits { IfOk result (λ found. IfSome found.0 FitsItsHeader) }
+    ensures no_failure { OnOk result (NoFailure (S.meaning source.old.source)
+        (S.meaning source.new.source)) }
 {
     let seeks = source.seeks();
     let read = source.bytes_read();
     let found = info.get_file_reconstruction_info(alloc, source, hash)?;
-    let costs = Costs {
-        seeks: source.seeks().saturating_sub(seeks),
-        bytes_read: source.bytes_read().saturating_sub(read),
-    };
-    Ok((found, costs))
-}
-
-// Looks up a file in the bytes of a shard, and counts the seeks and the bytes read.
-fn find_counted(
-    alloc: Global,
-    bytes: &[u8],
-    hash: &MerkleHash,
-) -> Result<(Option<MDBFileInfo>, Costs)>
-    ensures any_bytes { MatchResult result
-        (λ found. FindsAt bytes.now hash.now found.0 found.1) (RefusesFile bytes.now hash.now) }
-    ensures fits { IfOk result (λ found. IfSome found.0 FitsItsHeader) }
-{
-    let mut source = CountingSource::new(MemorySource::new(bytes));
-    let info = MDBShardInfo::load_from_reader(alloc, &mut source)?;
-    let seeks = source.seeks();
-    let read = source.bytes_read();
-    let found = info.get_file_reconstruction_info(alloc, &mut source, hash)?;
     let costs = Costs {
         seeks: source.seeks().saturating_sub(seeks),
         bytes_read: source.bytes_read().saturating_sub(read),
@@ -168,13 +139,13 @@ impl fmt::Display for FoundReport {
 }
 
 /// The run that a query found.
-#[derive(Clone, Copy, Serialize)]
+#[derive(Drop, Serialize)]
 pub struct RunReport {
     pub run: Option<Run>,
 }
 
 /// So many of the queried chunks, from the first on, that a xorb has one after another.
-#[derive(Clone, Copy, Serialize)]
+#[derive(Drop, Serialize)]
 pub struct Run {
     pub chunks: usize,
     pub segment: SegmentReport,
@@ -226,7 +197,7 @@ impl RunReport {
 
 impl fmt::Display for RunReport {
     fn fmt<W: fmt::Write>(&self, f: &mut fmt::Formatter<W>) -> fmt::Result {
-        match self.run {
+        match &self.run {
             Some(Run { chunks, segment }) => write!(f, "run {chunks} {segment}"),
             None => f.write_str("none"),
         }

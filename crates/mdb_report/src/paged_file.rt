@@ -82,9 +82,10 @@ impl<F: Read + Seek + Drop> PagedFile<F> {
         Err(InquiryFault::TooManyRounds)
     }
 
-    /// Looks up a file in the shard, which has this header and footer. `InquiryFault::Shard` with an
-    /// error of the lookup, of the pages that are in memory then; `InquiryFault::Input` if the file is
-    /// not read, `InquiryFault::TooManyRounds` if a page is still lacking after all the rounds.
+    /// Looks up a file in the shard, which has this header and footer. It reports what was found only
+    /// where no read failed. `InquiryFault::Shard` with an error of the lookup, of the pages that are
+    /// in memory then; `InquiryFault::Input` if the file is not read, `InquiryFault::TooManyRounds` if
+    /// a page is still lacking after all the rounds.
     pub fn find(
         &mut self,
         alloc: Global,

@@ -7,19 +7,19 @@ use crate::brief::Brief;
 use crate::inquiry::{
     Answer, Inquiry, InquiryFault, print_brief, print_lookup, print_run, print_summary, print_xorb,
 };
-use crate::line::{Layout, print};
 use crate::paged_file::PagedFile;
-use crate::records::FileReport;
 use crate::section::SectionReader;
 use crate::summary::Summary;
 use crate::tally::Tally;
 use crate::xorb_printing::print_xorb_lookup;
+use record_report::line::{Layout, print};
+use record_report::records::FileReport;
 use shard_bytes::check::Section;
 use std::alloc::Global;
 use std::io::{BufReader, Read, Seek, Write};
 use xet_core_structures::merklehash::MerkleHash;
+use xet_core_structures::record_reader::FormatVersion;
 use xet_core_structures::shard_format::MDBShardInfo;
-use xet_records::record_reader::FormatVersion;
 
 /// Prints the answer of the shard in a file of so many bytes, as `print_answer` does. Lookups read
 /// the pages that they need, and records are printed as they are read, also those before one that

@@ -18,6 +18,7 @@ pub trait Unread {
     ghost bytes: { ℕ → ℕ };
 }
 
+// A placeholder: the contract of each call holds for any bytes in its place.
 impl Unread for Brand {
     ghost bytes = { λ _. 0 };
 }

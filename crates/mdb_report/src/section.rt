@@ -8,11 +8,11 @@ ghost use Rattle.mdb_report.specs.Sections.{ReadsNext, NextFails};
 
 use std::alloc::Global;
 use std::io::Read;
-use xet_base::input::OfReader;
 use xet_core_structures::error::Result;
 use xet_core_structures::file_structs::MDBFileInfo;
+use xet_core_structures::input::OfReader;
+use xet_core_structures::record_reader::{FormatVersion, SectionRecord, read_record};
 use xet_core_structures::xorb_structs::MDBXorbInfo;
-use xet_records::record_reader::{FormatVersion, SectionRecord, read_record};
 
 /// A section of a shard, of which no more than a record is in memory.
 #[derive(Drop)]

@@ -7,10 +7,10 @@ ghost use Rattle.xet_core_structures.specs.Ends.{HasHeaderAndFooter};
 ghost use Rattle.xet_core_structures.specs.TwoShards.ByteResults.{LoadRefusal};
 ghost use Rattle.mdb_report.specs.Summary.{Summarizes, key_in};
 
-use crate::hex::Hex;
-use crate::moment::Moment;
 use crate::parts::{LEGEND, Parts, bar_of};
-use crate::shown::ShownText;
+use record_report::hex::Hex;
+use record_report::moment::Moment;
+use record_report::shown::ShownText;
 use serde::Serialize;
 use shard_bytes::load::load_bytes;
 use std::alloc::{AllocError, Global};

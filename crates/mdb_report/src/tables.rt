@@ -1,10 +1,10 @@
 //! Whether a shard has the tables by which lookups find its records.
 
 ghost use Rattle.std.specs.Prelude.{◌≡◌, true, false, All, IfOk, IfErr};
-ghost use Rattle.mdb_report.specs.Records.{FilesNotRead};
+ghost use Rattle.mdb_report.specs.FileReports.{FilesNotRead};
 ghost use Rattle.mdb_report.specs.Tables.{LacksFileTable, HasFileTable, LacksChunkTable, HasChunkTable, XorbsNotRead, HaveChunks, HasNoChunks};
 
-use crate::records::read_files;
+use crate::files::read_files;
 use shard_bytes::load::load_bytes;
 use std::alloc::Global;
 use std::fmt;

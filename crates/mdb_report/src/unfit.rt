@@ -2,16 +2,16 @@
 
 ghost use Rattle.std.specs.Prelude.{◌≡◌, ◌⊎◌, [], All, IfOk, IfErr, IsTrue, MatchResult};
 ghost use Rattle.xet_core_structures.specs.XorbRecord.{HasItsChunks};
-ghost use Rattle.mdb_report.specs.Records.{FilesNotRead};
+ghost use Rattle.mdb_report.specs.FileReports.{FilesNotRead};
 ghost use Rattle.mdb_report.specs.Unfit.{HoldsXorbs, XorbsNotRead, HoldsUnfit, IsFit};
 
-use crate::hex::Hex;
+use crate::files::read_files;
 use crate::inquiry::InquiryFault;
-use crate::line::{Layout, Style, print};
-use crate::records::read_files;
-use crate::shown::ShownText;
+use record_report::hex::Hex;
+use record_report::line::{Layout, Style, print};
+use record_report::shown::ShownText;
 use serde::{Described, Serialize, Serializer};
-use shard_garbage::finding::{Fault, Finding, Segment};
+use shard_garbage::finding::{Finding, Misfit, Segment};
 use shard_garbage::garbage::find_garbage;
 use std::alloc::Global;
 use std::io::Write;
@@ -48,10 +48,10 @@ impl<'a> UnfitReport<'a> {
         ensures shard { result.shard ≡ shard.entry }
         ensures finding { result.finding.0 ≡ finding }
     {
-        let segment = segment_of(finding.fault);
+        let segment = segment_of(finding.misfit);
         UnfitReport {
             shard,
-            code: code_of(finding.fault),
+            code: code_of(finding.misfit),
             xorb: Hex(finding.xorb),
             file: segment.map(|segment| Hex(segment.file)),
             segment: segment.map(|segment| segment.index),
@@ -61,21 +61,21 @@ impl<'a> UnfitReport<'a> {
 }
 
 // The word for a kind of finding.
-fn code_of(fault: Fault) -> &'static str {
-    match fault {
-        Fault::Unnamed => "xorb_unnamed",
-        Fault::Total { .. } => "xorb_bytes_differ",
-        Fault::Start { .. } => "chunk_start_differs",
-        Fault::Lacking(_) => "xorb_missing",
-        Fault::Outside(_, _) => "segment_outside",
-        Fault::Bytes(_, _) => "segment_bytes_differ",
+fn code_of(misfit: Misfit) -> &'static str {
+    match misfit {
+        Misfit::Unnamed => "xorb_unnamed",
+        Misfit::Total { .. } => "xorb_bytes_differ",
+        Misfit::Start { .. } => "chunk_start_differs",
+        Misfit::Lacking(_) => "xorb_missing",
+        Misfit::Outside(_, _) => "segment_outside",
+        Misfit::Bytes(_, _) => "segment_bytes_differ",
     }
 }
 
-// The segment that a fault is about, if it is about one.
-fn segment_of(fault: Fault) -> Option<Segment> {
-    match fault {
-        Fault::Lacking(segment) | Fault::Outside(segment, _) | Fault::Bytes(segment, _) => {
+// The segment that a misfit is about, if it is about one.
+fn segment_of(misfit: Misfit) -> Option<Segment> {
+    match misfit {
+        Misfit::Lacking(segment) | Misfit::Outside(segment, _) | Misfit::Bytes(segment, _) => {
             Some(segment)
         }
         _ => None,
@@ -166,26 +166,26 @@ impl fmt::Display for Unfit {
     fn fmt<W: fmt::Write>(&self, f: &mut fmt::Formatter<W>) -> fmt::Result {
         let xorb = self.0.xorb;
         write!(f, "xorb {xorb}: ")?;
-        match self.0.fault {
-            Fault::Unnamed => f.write_str("no file names it"),
-            Fault::Total { said, sum } => {
+        match self.0.misfit {
+            Misfit::Unnamed => f.write_str("no file names it"),
+            Misfit::Total { said, sum } => {
                 write!(f, "it says {said} bytes, and its chunks have {sum}")
             }
-            Fault::Start { index, said, sum } => {
+            Misfit::Start { index, said, sum } => {
                 write!(
                     f,
                     "chunk {index} says to start at {said}, and those before it have {sum} bytes"
                 )
             }
-            Fault::Lacking(segment) => {
+            Misfit::Lacking(segment) => {
                 write!(f, "it is missing, and {} names it", SegmentName(segment))
             }
-            Fault::Outside(segment, chunks) => {
+            Misfit::Outside(segment, chunks) => {
                 let name = SegmentName(segment);
                 let (start, end) = (segment.start, segment.end);
                 write!(f, "it has {chunks} chunks, and {name} names {start}..{end}")
             }
-            Fault::Bytes(segment, sum) => {
+            Misfit::Bytes(segment, sum) => {
                 let name = SegmentName(segment);
                 let (start, end) = (segment.start, segment.end);
                 let bytes = segment.bytes;

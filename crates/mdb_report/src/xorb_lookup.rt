@@ -2,8 +2,8 @@
 
 ghost use Rattle.std.specs.Prelude.{◌≡◌, IfOk, IfSome, IsNone};
 
-use crate::hex::Hex;
-use crate::records::XorbReport;
+use record_report::hex::Hex;
+use record_report::records::XorbReport;
 use serde::Serialize;
 use std::alloc::Global;
 use std::fmt;

@@ -3,10 +3,10 @@
 ghost use Rattle.std.specs.Prelude.{◌≡◌, ◌≢◌, IfOk, is_some};
 
 use crate::inquiry::{Answer, InquiryFault};
-use crate::line::{Layout, print};
 use crate::tables::Table;
 use crate::tally::Tally;
 use crate::xorb_lookup::{FoundXorb, lacks_xorb_table};
+use record_report::line::{Layout, print};
 use std::alloc::Global;
 use std::io;
 use std::io::Write;

@@ -7,7 +7,7 @@ use Rattle.shard_bytes.specs.declared.export.Export.{Export as Export'}
 use Rattle.script_lines.specs.Commands.{texts, verb_of, parts_word, SpellsKey, AreArguments}
 use Rattle.script_lines.specs.declared.command.Command.{Command}
 use Rattle.script_lines.specs.declared.command.Command.TheVariants.{Shard, Xorb, File, Write, Combine, Merge, Export, Minimal, Subset, Eligible, Find, Query, Size, Hex}
-use Rattle.script_lines.specs.declared.command.Version.TheVariants.{V2, V3}
+use Rattle.xet_core_structures.specs.declared.record_reader.FormatVersion.TheVariants.{V2, V3}
 use Rattle.script_lines.specs.declared.verb.Verb.{Verb}
 use Rattle.script_lines.specs.declared.verb.Verb.TheVariants.{Export as to_export, Drop as to_drop, Minimal as to_minimal, DropMin as to_drop_min}
 

@@ -15,8 +15,8 @@ use Rattle.script_lines.specs.Trees.{words_of_line, IsTree}
 use Rattle.script_lines.specs.Words.{IsName, IsNumber, SpellsHash}
 use Rattle.script_lines.specs.declared.command.Command.{Command}
 use Rattle.script_lines.specs.declared.command.Command.TheVariants.{Shard, Xorb, File, Write, Combine, Merge, Export, Minimal, Subset, Eligible, Find, Query, Size, Hex}
-use Rattle.script_lines.specs.declared.command.Version.{Version}
-use Rattle.script_lines.specs.declared.command.Version.TheVariants.{V2, V3}
+use Rattle.xet_core_structures.specs.declared.record_reader.FormatVersion.{FormatVersion}
+use Rattle.xet_core_structures.specs.declared.record_reader.FormatVersion.TheVariants.{V2, V3}
 use Rattle.script_lines.specs.declared.ranges.ByteRange.{ByteRange}
 use Rattle.script_lines.specs.declared.verb.Verb.{Verb}
 use Rattle.script_lines.specs.declared.verb.Verb.TheVariants.{Shard as to_shard, Xorb as to_xorb, File as to_file, Write as to_write, Write2 as to_write2, Union as to_union, Diff as to_diff, Merge as to_merge, Export as to_export, Drop as to_drop, Minimal as to_minimal, DropMin as to_drop_min, Subset as to_subset, Eligible as to_eligible, Find as to_find, Query as to_query, Size as to_size, Hex as to_hex}
@@ -47,7 +47,7 @@ word_of to_size = codes "size"
 word_of to_hex = codes "hex"
 
 -- the verb that writes a version
-abbrev pub write_verb : Version → Verb
+abbrev pub write_verb : FormatVersion → Verb
 write_verb V3 = to_write
 write_verb V2 = to_write2
 

@@ -24,15 +24,8 @@ use shard_bytes::minimal::{KeptXorbs, Subset};
 use std::alloc::Global;
 use xet_core_structures::file_structs::{KeptParts, MDBFileInfo};
 use xet_core_structures::merklehash::MerkleHash;
+use xet_core_structures::record_reader::FormatVersion;
 use xet_core_structures::xorb_structs::MDBXorbInfo;
-
-/// The version of the format that a shard is written in.
-#[derive(Clone, Copy)]
-pub enum Version {
-    /// It has no auxiliary rows.
-    V2,
-    V3,
-}
 
 /// A command. Its names are those in the line; whether they exist is not checked here.
 #[derive(Drop)]
@@ -54,7 +47,7 @@ pub enum Command<'a> {
     },
     /// `write S B [EXPIRY]`, or `write2 S B [EXPIRY]` for version 2: a shard's bytes into a buffer.
     Write {
-        version: Version,
+        version: FormatVersion,
         shard: &'a str,
         buffer: &'a str,
         expiry: Option<u64>,
@@ -179,8 +172,8 @@ fn parse_arguments<'a>(
         Verb::Shard => parse_shard(arguments),
         Verb::Xorb => parse_xorb_line(alloc, arguments, form),
         Verb::File => parse_file_line(alloc, arguments, form),
-        Verb::Write => parse_write(Version::V3, arguments),
-        Verb::Write2 => parse_write(Version::V2, arguments),
+        Verb::Write => parse_write(FormatVersion::V3, arguments),
+        Verb::Write2 => parse_write(FormatVersion::V2, arguments),
         Verb::Union => parse_combine(Operation::Union, arguments),
         Verb::Diff => parse_combine(Operation::Difference, arguments),
         Verb::Merge => parse_merge(alloc, arguments),
@@ -243,7 +236,7 @@ fn parse_file_line<'a>(
     Ok(Command::File { shard, file })
 }
 
-fn parse_write<'a>(version: Version, arguments: &[&'a str]) -> Result<Command<'a>, ParseError>
+fn parse_write<'a>(version: FormatVersion, arguments: &[&'a str]) -> Result<Command<'a>, ParseError>
     ensures found { IfOk result
         (λ command. (verb_of command ≡ (write_verb version)) × AreArguments (texts arguments.now) command) }
     ensures every { (command : AnyCommand) → verb_of command ≡ (write_verb version)

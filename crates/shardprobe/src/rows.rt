@@ -4,7 +4,7 @@ use crate::numbers::{show_number, write_number};
 use crate::probe::Probe;
 use crate::runs::Run;
 use crate::stop::Stop;
-use script_lines::command::{Command, Version, parse_words};
+use script_lines::command::{Command, parse_words};
 use script_lines::files_and_xorbs::{parse_file, parse_xorb};
 use script_lines::records::{
     Form, parse_aux, parse_full_chunk, parse_full_segment, parse_metadata, parse_verification_row,
@@ -18,6 +18,7 @@ use xet_core_structures::file_structs::{
     FileAuxExt, FileDataSequenceEntry, FileDataSequenceHeader, FileMetadataExt,
     FileVerificationEntry, MDBFileInfo,
 };
+use xet_core_structures::record_reader::FormatVersion;
 use xet_core_structures::rows::{Rows, read_optional, read_rows};
 use xet_core_structures::shard_format::{MDBShardFileFooter, MDBShardFileHeader, MDBShardInfo};
 use xet_core_structures::source::ShardSource;
@@ -53,8 +54,8 @@ impl Run<'_> {
         let shard = probe.shard(shard)?;
         let output = &mut self.output;
         match version {
-            Version::V2 => MDBShardInfo::serialize_from_v2(alloc, output, shard, expiry)?,
-            Version::V3 => MDBShardInfo::serialize_from(alloc, output, shard, expiry)?,
+            FormatVersion::V2 => MDBShardInfo::serialize_from_v2(alloc, output, shard, expiry)?,
+            FormatVersion::V3 => MDBShardInfo::serialize_from(alloc, output, shard, expiry)?,
         };
         Ok(())
     }

@@ -2,11 +2,12 @@
 
 ghost use Rattle.std.specs.Prelude.{◌≡◌, ◌⊎◌, IfOk, IfErr, IsErrOf};
 ghost use Rattle.xet_core_structures.specs.Errors.{IsWriteError};
-ghost use Rattle.shardtool.specs.Writing.{layout_for, HasNoLayout};
+ghost use Rattle.xet_core_structures.specs.Layout.{layout_in};
+ghost use Rattle.shardtool.specs.Writing.{HasNoLayout};
 
-use script_lines::command::Version;
 use std::alloc::Global;
 use xet_core_structures::error::{CoreError, Result};
+use xet_core_structures::record_reader::FormatVersion;
 use xet_core_structures::shard_format::MDBShardInfo;
 use xet_core_structures::shard_in_memory::MDBInMemoryShard;
 
@@ -16,12 +17,12 @@ use xet_core_structures::shard_in_memory::MDBInMemoryShard;
 /// those of [`MDBShardInfo::serialize_from`].
 pub fn written_bytes(
     alloc: Global,
-    version: Version,
+    version: FormatVersion,
     shard: &MDBInMemoryShard,
     expiry: Option<u64>,
 ) -> Result<Vec<u8>>
     ensures bytes { IfOk result
-        (λ bytes. bytes.items ≡ layout_for version shard.now.content expiry) }
+        (λ bytes. bytes.items ≡ layout_in version shard.now.content expiry) }
     ensures refused { HasNoLayout version shard.now.content
         → IsErrOf result CoreError.InvalidArguments }
     ensures causes { IfErr result
@@ -30,8 +31,8 @@ pub fn written_bytes(
 {
     let mut bytes = Vec::new(alloc);
     match version {
-        Version::V2 => MDBShardInfo::serialize_from_v2(alloc, &mut bytes, shard, expiry)?,
-        Version::V3 => MDBShardInfo::serialize_from(alloc, &mut bytes, shard, expiry)?,
+        FormatVersion::V2 => MDBShardInfo::serialize_from_v2(alloc, &mut bytes, shard, expiry)?,
+        FormatVersion::V3 => MDBShardInfo::serialize_from(alloc, &mut bytes, shard, expiry)?,
     };
     Ok(bytes)
 }

@@ -3,11 +3,9 @@
 ghost use Rattle.std.specs.Prelude.{map};
 ghost use Rattle.mdb.specs.Expiries.{shard_expiry, IsEarliest};
 
-use super::assembly::Assembly;
-use super::block::{Block, Mark};
+use super::RoundFault;
 use super::findings::Findings;
 use super::shard_file::{Cursor, ShardFile};
-use super::{RoundFault, share_of};
 use crate::expiry::{earlier, shard_expiry};
 use crate::failure::Failure;
 use crate::input_failure::{
@@ -18,6 +16,9 @@ use crate::merge::report_findings;
 use crate::progress::{Progress, Stage};
 use crate::request::{Merge, NewExpiry, Strictness};
 use mdb_report::fault::Fault;
+use shard_assembly::assembly::Assembly;
+use shard_assembly::block::{Block, Mark};
+use shard_assembly::share::share_of;
 use shard_bytes::check::Section;
 use shard_bytes::merge::merge_bytes;
 use std::alloc::{AllocError, Global};

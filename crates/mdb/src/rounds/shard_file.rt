@@ -3,21 +3,21 @@
 ghost use Rattle.std.specs.Prelude.{◌≡◌};
 
 use super::RoundFault;
-use super::block::{Block, Mark};
 use crate::failure::Failure;
-use crate::files::{STANDARD_STREAM, read_ends};
-use crate::stamp::Stamp;
 use mdb_report::fault::{Fault, fault_of};
+use shard_assembly::block::{Block, Mark};
 use shard_bytes::check::Section;
 use shard_bytes::load::load_bytes;
+use shard_files::files::{STANDARD_STREAM, read_ends};
+use shard_files::stamp::Stamp;
 use std::fs::OpenFile;
 use std::io::{ErrorKind, Read, Seek, SeekFrom};
 use std::rt::Files;
 use std::{fs, io};
 use xet_core_structures::error::CoreError;
 use xet_core_structures::merklehash::{HMACKey, MerkleHash};
+use xet_core_structures::record_reader::FormatVersion;
 use xet_core_structures::shard_format::MDBShardInfo;
-use xet_records::record_reader::FormatVersion;
 
 /// How often more of a section is read because a record is longer than what was read of it.
 const DOUBLINGS: u32 = 40;

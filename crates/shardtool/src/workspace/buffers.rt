@@ -11,20 +11,20 @@ use super::Workspace;
 use crate::merge::merge_buffers;
 use crate::stop::Stop;
 use crate::write::written_bytes;
-use script_lines::command::Version;
 use script_lines::tree::NameTree;
 use shard_bytes::combine::{Operation, combine_bytes};
 use shard_bytes::export::{Export, export_bytes};
 use shard_bytes::minimal::{Subset, minimal_bytes, subset_bytes};
 use std::alloc::Global;
 use xet_core_structures::file_structs::KeptParts;
+use xet_core_structures::record_reader::FormatVersion;
 
 impl Workspace {
     // The buffer is replaced only after the shard is written, so an error leaves it unchanged.
     pub(super) fn write_shard(
         &mut self,
         alloc: Global,
-        version: Version,
+        version: FormatVersion,
         shard: &str,
         buffer: &str,
         expiry: Option<u64>,

@@ -30,9 +30,9 @@ returns-in-Err c =
     subst (IsFaultOf c.in-Some.bytes.now.now c.in-Err.error) (sym c.on_file.ensures.fault) c.fault_of.ensures.is in
     inr (c.in-Some.file.now, c.in-Some.bytes.now, found, c.on_file.ensures.subject, (c.in-Err.error, refusal, fault))
 
-pushed : (c : goal.Else-is_err)
+is_pushed : (c : goal.Else-is_err)
     → c.push.new.self.items ≡ c.loop-file.infos.items ++ c.in-Ok.info ∷ []
-pushed c = search rules
+is_pushed c = search rules
 
 -- one more header and footer, of the shard of this turn
 pub loop-file-preserved : goal.loop-file-preserved
@@ -53,7 +53,7 @@ loop-file-preserved c =
     all_zipped_more HasInfo (take (length yielded) (zip files inputs)) c.loop-file.infos.items pair
     c.in-Ok.info c.loop-file.invariant c.in-Ok.ensures in
     subst (λ l. AllZip HasInfo l c.push.new.self.items) (sym more ∙ ap (λ n. take n (zip files inputs)) (sym count)) (
-    subst (AllZip HasInfo (take (length yielded) (zip files inputs) ++ pair ∷ [])) (sym (pushed c)) longer
+    subst (AllZip HasInfo (take (length yielded) (zip files inputs) ++ pair ∷ [])) (sym (is_pushed c)) longer
     )
 
 -- all shards were met

@@ -1,8 +1,0 @@
-use Rattle.std.proofs.Common.{take}
-use Rattle.std.specs.List.{AllZip}
-use Rattle.mdb_report.specs.Records.{ReportsFile}
-use Rattle.mdb_report.proofs.records.file_reports.Given as goal
-
--- the files so far have their reports
-abbrev pub invariant-loop-file : goal.invariant-loop-file
-invariant-loop-file l = AllZip (λ file report. ReportsFile file l.with_rows report) (take l.file-index l.file-items) l.reports.items

@@ -1,0 +1,2 @@
+pub mod RecordLines
+pub mod Records

@@ -1,0 +1,3 @@
+pub mod AddedParts
+pub mod Parts
+pub mod RowNumbers

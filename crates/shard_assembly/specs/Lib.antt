@@ -1,0 +1,2 @@
+pub mod Assembly
+pub mod Runs

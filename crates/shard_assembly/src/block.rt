@@ -1,0 +1,203 @@
+//! A block: the next records of a section, as a shard that has only these.
+
+use shard_bytes::check::Section;
+use std::alloc::Global;
+use xet_core_structures::error::{CoreError, Result};
+use xet_core_structures::file_structs::MDBFileInfo;
+use xet_core_structures::input::OfReader;
+use xet_core_structures::merklehash::{HMACKey, MerkleHash};
+use xet_core_structures::record_reader::{FormatVersion, SectionRecord, read_header};
+use xet_core_structures::rows::{ROW_LIMIT, ROW_SIZE};
+use xet_core_structures::shard_format::{
+    FOOTER_SIZE, HEADER_SIZE, MDBShardFileFooter, MDBShardFileHeader,
+};
+use xet_core_structures::xorb_structs::{MDBXorbInfo, XorbChunkSequenceHeader};
+
+/// The size of a shard without records and tables, in bytes: header, two bookends and footer.
+const EMPTY_SHARD_SIZE: usize = (HEADER_SIZE + FOOTER_SIZE) as usize + 2 * ROW_SIZE;
+
+/// How far a section is read.
+#[derive(Clone, Copy)]
+pub struct Mark {
+    /// The bytes of the records that were read.
+    pub bytes: usize,
+    /// The hash of the last of them, or of the record before them if there is none.
+    pub last: Option<MerkleHash>,
+    /// The rows that the section may still have.
+    pub rows_left: u64,
+    /// Whether the bookend comes next.
+    pub ended: bool,
+}
+
+impl Mark {
+    /// Where a section begins.
+    pub fn start() -> Mark {
+        Mark {
+            bytes: 0,
+            last: None,
+            rows_left: ROW_LIMIT,
+            ended: false,
+        }
+    }
+}
+
+/// The bytes of a shard up to a section, and then the rows of the section that were read.
+#[derive(Drop)]
+pub struct Block {
+    pub bytes: Vec<u8>,
+    section: Section,
+    version: FormatVersion,
+}
+
+impl Block {
+    /// A block without rows, with room for so many bytes of them.
+    pub fn new(
+        alloc: Global,
+        section: Section,
+        version: FormatVersion,
+        room: usize,
+    ) -> Result<Block> {
+        let mut bytes = Vec::with_capacity(alloc, room.saturating_add(EMPTY_SHARD_SIZE))?;
+        MDBShardFileHeader::of_version(version).serialize(&mut bytes)?;
+        if section == Section::Xorbs {
+            put_bookend(&mut bytes)?;
+        }
+        Ok(Block {
+            bytes,
+            section,
+            version,
+        })
+    }
+
+    /// The mark behind the last whole record of the rows, after a mark and up to a hash.
+    ///
+    /// `InvalidShard` if the version does not have the header of a record, the rows pass 4294967295
+    /// or the hashes do not strictly ascend.
+    pub fn read(&self, alloc: Global, after: Mark, limit: Option<MerkleHash>) -> Result<Mark> {
+        let rows = rows_of(self.bytes.as_slice(), self.section);
+        match self.section {
+            Section::Files => read_records::<MDBFileInfo>(alloc, rows, self.version, after, limit),
+            Section::Xorbs => read_records::<MDBXorbInfo>(alloc, rows, self.version, after, limit),
+        }
+    }
+
+    /// The bytes of the shard that has the records in the first bytes of the rows, and no tables.
+    pub fn shard_of(self, rows: usize, key: HMACKey) -> Result<Vec<u8>> {
+        let Block {
+            mut bytes,
+            section,
+            ..
+        } = self;
+        bytes.truncate(rows_start(section).saturating_add(rows));
+        put_bookend(&mut bytes)?;
+        match section {
+            Section::Files => {
+                let xorb_info_offset = bytes.len() as u64;
+                put_bookend(&mut bytes)?;
+                put_footer(&mut bytes, xorb_info_offset, key)?;
+            }
+            Section::Xorbs => put_footer(&mut bytes, HEADER_SIZE + ROW_SIZE as u64, key)?,
+        }
+        Ok(bytes)
+    }
+}
+
+/// Puts the footer of a shard without tables behind its sections.
+pub fn put_footer(bytes: &mut Vec<u8>, xorb_info_offset: u64, key: HMACKey) -> Result<()> {
+    let end = bytes.len() as u64;
+    let footer = MDBShardFileFooter {
+        file_info_offset: HEADER_SIZE,
+        xorb_info_offset,
+        file_lookup_offset: end,
+        xorb_lookup_offset: end,
+        chunk_lookup_offset: end,
+        chunk_hash_hmac_key: key,
+        footer_offset: end,
+        ..MDBShardFileFooter::default()
+    };
+    footer.serialize(bytes)?;
+    Ok(())
+}
+
+fn rows_of(bytes: &[u8], section: Section) -> &[u8] {
+    match bytes.get(rows_start(section)..) {
+        Some(rows) => rows,
+        None => &[],
+    }
+}
+
+// Where the rows of a section start in a block: behind the header, and those of xorbs behind the
+// bookend of the files.
+fn rows_start(section: Section) -> usize {
+    match section {
+        Section::Files => HEADER_SIZE as usize,
+        Section::Xorbs => HEADER_SIZE as usize + ROW_SIZE,
+    }
+}
+
+/// Puts the bookend of a section behind its rows.
+pub fn put_bookend(bytes: &mut Vec<u8>) -> Result<()> {
+    XorbChunkSequenceHeader::bookend().serialize(bytes)?;
+    Ok(())
+}
+
+// The mark behind the last record that is whole in some bytes, after a mark and up to a hash.
+fn read_records<S: SectionRecord>(
+    alloc: Global,
+    rows: &[u8],
+    version: FormatVersion,
+    after: Mark,
+    limit: Option<MerkleHash>,
+) -> Result<Mark> {
+    let mut mark = Mark { bytes: 0, ..after };
+    for _ in 0..rows.len() {
+        let Some(rest) = rows.get(mark.bytes..) else {
+            break;
+        };
+        if rest.len() < ROW_SIZE {
+            break;
+        }
+        let mut input = rest;
+        let mut rows_left = mark.rows_left;
+        let header = read_header::<S, OfReader, &[u8]>(alloc, &mut input, version, &mut rows_left)?;
+        let Some(header) = header else {
+            mark.ended = true;
+            break;
+        };
+        let hash = S::hash(&header);
+        let size = record_size(S::rows_after(&header));
+        if is_past(&hash, limit) || size > rest.len() {
+            break;
+        }
+        if !is_above(&hash, mark.last) {
+            return Err(CoreError::InvalidShard(String::new(alloc)));
+        }
+        mark = Mark {
+            bytes: mark.bytes.saturating_add(size),
+            last: Some(hash),
+            rows_left,
+            ended: false,
+        };
+    }
+    Ok(mark)
+}
+
+// The size in bytes of a record with so many rows after its header; `usize::MAX` if it is larger.
+fn record_size(rows_after: u64) -> usize {
+    let size = rows_after.saturating_add(1).saturating_mul(ROW_SIZE as u64);
+    usize::try_from(size).unwrap_or(usize::MAX)
+}
+
+fn is_past(hash: &MerkleHash, limit: Option<MerkleHash>) -> bool {
+    match limit {
+        Some(limit) => *hash > limit,
+        None => false,
+    }
+}
+
+fn is_above(hash: &MerkleHash, last: Option<MerkleHash>) -> bool {
+    match last {
+        Some(last) => *hash > last,
+        None => true,
+    }
+}
