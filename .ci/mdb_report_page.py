@@ -1,8 +1,8 @@
 #!/usr/bin/env python3
 """Opens pages of `mdb report` in headless Chromium, and looks for their texts, plots and what they load. Used by .ci/mdb.
 
-Chromium is Debian's package `chromium`; `.ci/mdb` says so if it is missing. Alone: .ci/mdb_report_page.py PROGRAM
-FOLDER SCREENSHOT, which prints the page of a folder as Chromium has it, and writes a picture of it.
+Chromium is Debian's package `chromium`; `.ci/mdb` says so if it is missing. Alone: python3 .ci/mdb_report_page.py
+PROGRAM FOLDER SCREENSHOT, which prints the page of a folder as Chromium has it, and writes a picture of it.
 """
 import html.parser
 import os

@@ -29,8 +29,8 @@ fi
 
 # The library's heap, over malloc, realloc and free, is a file of the toolchain.
 kit=$(dirname "$(dirname "$(readlink -f "$(command -v rt)")")")
-room=$(mktemp -d)
-trap 'rm -rf "$room"' EXIT
+room=$(mktemp -d) beside=
+trap 'rm -rf "$room" "$beside"' EXIT
 cd "$room"
 mkdir parts
 (cd parts && "$kit/toolchain/bin/llvm-ar" x "$archive" && "$kit/toolchain/bin/llvm-ar" x "$kit/c/liblibc_c.a")
@@ -47,10 +47,19 @@ echo '{ global: xet_*; local: *; };' >exports
 ${CC:-cc} -shared -o "libxet.so.$version" -Wl,-soname,"$soname" -Wl,--whole-archive libxet.a -Wl,--no-whole-archive \
     -Wl,--version-script=exports -Wl,-z,defs -Wl,-z,noexecstack -Wl,-z,relro -Wl,-z,now
 
+# Puts a file at a path, in place of one that is there: a process that has mapped that one keeps it, and if the copy
+# fails, as on a full disk, it stays.
+put() {
+    beside=$(mktemp -d "${2%/*}/.new.XXXXXX")
+    cp "$1" "$beside/new"
+    mv -f "$beside/new" "$2"
+    rmdir "$beside"
+}
+
 if [ -z "$prefix" ]; then
     mkdir -p "$top/bindings/out"
-    cp libxet.a "$top/bindings/out/"
-    cp "libxet.so.$version" "$top/bindings/python/xet_shards/$soname"
+    put libxet.a "$top/bindings/out/libxet.a"
+    put "libxet.so.$version" "$top/bindings/python/xet_shards/$soname"
     exit
 fi
 # pkg-config takes a space for the end of a path, unless it is escaped.
@@ -67,8 +76,9 @@ Libs: -L\${libdir} -lxet
 END
 to=$DESTDIR$prefix
 mkdir -p "$to/include" "$to/lib/pkgconfig"
-cp "$top/bindings/c/xet.h" "$to/include/"
-cp libxet.a "libxet.so.$version" "$to/lib/"
+put "$top/bindings/c/xet.h" "$to/include/xet.h"
+put libxet.a "$to/lib/libxet.a"
+put "libxet.so.$version" "$to/lib/libxet.so.$version"
 ln -sf "libxet.so.$version" "$to/lib/$soname"
 ln -sf "$soname" "$to/lib/libxet.so"
-cp xet.pc "$to/lib/pkgconfig/"
+put xet.pc "$to/lib/pkgconfig/xet.pc"

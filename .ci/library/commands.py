@@ -3,13 +3,15 @@
 Words in capitals, as FIRST, and `FILE..` are names of files here, so that no command has to be changed.
 """
 import os
+import pathlib
 import re
 import shutil
 import sys
+from contextlib import ExitStack
 
 from .c import CC, WARNINGS
 from .common import BINDINGS, TOP, Skip, ran, read
-from .python import builder, python_for
+from .python import SONAME, builder, python_for
 from .rust import names, write_program
 
 # The pages whose commands use what the repository builds, the one that builds it first, and the page of a release.
@@ -39,6 +41,13 @@ NOT_RUN = {
 RECORDS = {"FIRST": ["xorb 10 21:5", "file 100 10:0:1:5"], "SECOND": ["xorb 11 22:6 23:7", "file 101 11:0:2:13"]}
 COPIES = {"one.mdb": "FIRST", "other.mdb": "SECOND", "large.mdb": "FIRST", "FILE..": "FIRST", "FILE.mdb": "FIRST"}
 HASH = f"{100:016x}{1:016x}{0:032x}"
+# A cp as on a full disk: it writes the beginning of a file, and fails.
+FULL = """#!/bin/sh
+for to; do :; done
+[ ! -d "$to" ] || to=$to/${1##*/}
+echo half >"$to"
+exit 1
+"""
 # What stands before a block of Python, and around one of Rust or C.
 PYTHON = f"""
 import pathlib, xet_shards
@@ -114,12 +123,17 @@ class Tree:
         # The pages leave it unset.
         del self.variables["XET_LIB_DIR"]
 
+    def give(self, path, script):
+        """Writes a program to a path in the tree."""
+        path = f"{self.folder}/{path}"
+        os.makedirs(os.path.dirname(path), exist_ok=True)
+        with open(path, "w", encoding="utf-8") as file:
+            file.write(script)
+        os.chmod(path, 0o755)
+
     def give_pip(self):
         """Puts a pip on the path whose Python can build wheels without a network."""
-        os.makedirs(f"{self.folder}/bin", exist_ok=True)
-        with open(f"{self.folder}/bin/pip", "w", encoding="utf-8") as file:
-            file.write(f'#!/bin/sh\nexec {builder()} -m pip "$@"\n')
-        os.chmod(f"{self.folder}/bin/pip", 0o755)
+        self.give("bin/pip", f'#!/bin/sh\nexec {builder()} -m pip "$@"\n')
 
     def run(self, page, *words, **variables):
         """Runs a command. Returns what is wrong with it, or None."""
@@ -137,6 +151,37 @@ def check_command(tree, page, command):
     if command.startswith("pip "):
         tree.give_pip()
     return tree.run(page, "sh", "-ec", command)
+
+
+def installed():
+    """Returns the paths in a tree of the files that build.sh makes, without a folder and with the folder PREFIX."""
+    library = f"PREFIX/lib/libxet.so.{read(f'{TOP}/VERSION').strip()}"
+    return [
+        "bindings/out/libxet.a", f"bindings/python/xet_shards/{SONAME}", "PREFIX/include/xet.h", "PREFIX/lib/libxet.a",
+        library, "PREFIX/lib/pkgconfig/xet.pc",
+    ]
+
+
+def check_replaced(tree):
+    """build.sh puts new files in place of those that are there. Where a copy fails these stay, with nothing beside."""
+    paths = [pathlib.Path(tree.folder, it) for it in installed()]
+    tree.give("full/cp", FULL)
+
+    def build(path):
+        runs = [tree.run("bindings", "bindings/build.sh", *words, PATH=path) for words in ([], ["PREFIX"])]
+        return [it for it in runs if it]
+
+    def found():
+        return [(sorted(os.listdir(it.parent)), it.read_bytes()) for it in paths]
+
+    before = found()
+    if len(build(f"{tree.folder}/full:{tree.variables['PATH']}")) < 2 or found() != before:
+        return "bindings/build.sh changes files where a copy fails, or ends well"
+    with ExitStack() as opened:
+        files = [opened.enter_context(it.open("rb")) for it in paths]
+        why = build(tree.variables["PATH"])
+        same = [it.name for it in files if os.path.samestat(os.fstat(it.fileno()), os.stat(it.name))]
+    return why[0] if why else f"bindings/build.sh writes over {same}" if same else None
 
 
 def check_python(tree, page, block):
@@ -182,6 +227,7 @@ def run_pages(checks, room, shard):
         for block in blocks(page, "python"):
             checks.run(check_python, tree, page, block)
     checks.run(check_rust, tree)
+    checks.run(check_replaced, tree)
 
 
 def check_release(release):

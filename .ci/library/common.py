@@ -23,6 +23,12 @@ def read(path):
         return file.read()
 
 
+def read_output(path):
+    """Returns what a command printed to a file so far, which may end within a character."""
+    with open(path, encoding="utf-8", errors="replace") as file:
+        return file.read()
+
+
 def ran(*words, **named):
     """Runs a command. Returns its output, and what is wrong with it, or None."""
     named["env"] = {**os.environ, "PYTHONDONTWRITEBYTECODE": "1", **named.get("env", {})}

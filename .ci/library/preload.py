@@ -1,14 +1,15 @@
 """Shared libraries in C that are preloaded into a program, built by the toolchain's compiler."""
 import os
-import shutil
 import subprocess
+
+from .crates import kit
 
 CI = os.path.dirname(os.path.dirname(os.path.realpath(__file__)))
 
 
 def build(name, folder):
     """Builds .ci/NAME.c in a folder, and returns the name of the shared library."""
-    tools = f"{os.path.dirname(os.path.dirname(os.path.realpath(shutil.which('rt'))))}/toolchain/bin"
+    tools = f"{kit()}/toolchain/bin"
     compiled, linked = f"{folder}/{name}.o", f"{folder}/{name}.so"
     compiler = [f"{tools}/clang", "--target=x86_64-unknown-linux-gnu", "-O1", "-fPIC"]
     subprocess.run([*compiler, "-c", f"{CI}/{name}.c", "-o", compiled], check=True)

@@ -14,6 +14,8 @@ MODULE = f"{BINDINGS}/python"
 SONAME = f"libxet.so.{read(f'{TOP}/VERSION').split('.')[0]}"
 # Programs in the folder of the module's tests that need nothing else.
 TESTS = ("test_vectors.py", "test_index.py", "test_ranges.py", "test_shard.py", "test_range_reads.py")
+# Those that need numpy, and a cluster.
+TABLES, CLUSTER = "test_tables.py", "test_cluster.py"
 
 # The types of fields, in Rattle and in the Python module.
 TYPES = {
@@ -164,16 +166,23 @@ def check_wheel(room, library):
     return f"the wheel lacks {sorted(missing)}" if missing else None
 
 
+def check_tests():
+    """The files of tests are those that are run."""
+    there = {it for it in os.listdir(f"{MODULE}/tests") if it.startswith("test_") and it.endswith(".py")}
+    differ = there ^ {*TESTS, TABLES, CLUSTER}
+    return f"these tests of bindings/python are not run, or not there: {sorted(differ)}" if differ else None
+
+
 def run_table_tests(named):
     """Runs the tests of tables, as `run_tests` does."""
     why = "no Python here has the package numpy, so no tables were tested"
-    return run_tests("test_tables.py", named, python_for("import numpy", why))
+    return run_tests(TABLES, named, python_for("import numpy", why))
 
 
 def run_cluster_tests(named):
     """Runs the tests of merges on a cluster, as `run_tests` does."""
     why = "no Python here has the package distributed, so no merge on a cluster was tested"
-    return run_tests("test_cluster.py", named, python_for("import distributed", why))
+    return run_tests(CLUSTER, named, python_for("import distributed", why))
 
 
 def run_tests(file, named, python=sys.executable):

@@ -3,6 +3,7 @@ import hashlib
 import json
 import os
 import re
+import shlex
 import shutil
 import sys
 import tarfile
@@ -11,6 +12,7 @@ import zipfile
 from . import commands
 from .c import CC, WARNINGS
 from .common import BINDINGS, TOP, Skip, ran, read
+from .crates import kit
 from .python import SONAME, TESTS
 from .rust import PROGRAM, write_program
 
@@ -61,10 +63,6 @@ def parts():
 def stated(release):
     """Returns the lines that name the commit and what the gate ran, for release/make --gate."""
     return parts().manifest.stated(release.manifest["sources"], release.built())
-
-
-def kit():
-    return os.path.dirname(os.path.dirname(os.path.realpath(shutil.which("rt"))))
 
 
 def hiding():
@@ -154,6 +152,7 @@ def check_gate(release):
     taken = []
     for changed, output in (
         ([], [*lines, last]), ([], [*lines, "9 passed, 1 failed"]), ([], lines), ([], []), ([], [*lines[1:], last]),
+        ([], [*lines, f"quick: {last}"]),
         ([], [lines[0], *lines[2:], last]), ([], [*lines[:-1], last]), (["VERSION"], [*lines, last]),
         ([], [lines[0], *manifest.stated({**of, "changed": ["VERSION"]}, built), last]),
     ):
@@ -164,7 +163,7 @@ def check_gate(release):
             taken.append(manifest.gate(log, {**of, "changed": changed}, built)["sha256"] == digest(log))
         except fault:
             taken.append(False)
-    return None if taken == [True] + [False] * 8 else f"outputs of a gate are taken or not: {taken}"
+    return None if taken == [True] + [False] * 9 else f"outputs of a gate are taken or not: {taken}"
 
 
 def check_made_of_log(release):
@@ -231,7 +230,7 @@ def check_c(release):
     flags, why = release.ran("pkg-config", "--cflags", "--libs", f"xet = {VERSION}", env=named)
     source = f"{release.top}/share/doc/xet-shards/example.c"
     alone = [f"-I{release.top}/include", f"{release.top}/lib/libxet.a"]
-    for name, words in (("shared", flags.split()), ("static", alone)):
+    for name, words in (("shared", shlex.split(flags)), ("static", alone)):
         why = why or release.ran(CC, *WARNINGS, source, *words, "-o", f"{release.room}/{name}")[1]
         found = {"LD_LIBRARY_PATH": f"{release.top}/lib"} if name == "shared" else {}
         inputs = ("first.mdb", "second.mdb", f"{name}.mdb")

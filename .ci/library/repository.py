@@ -13,7 +13,7 @@ VERSIONS = {
     "bindings/python/xet_shards/__init__.py": r'^__version__ = "(.*)"$',
     "bindings/rust/Cargo.toml": r'^version = "(.*)"$',
     "bindings/rust-compat/Cargo.toml": r'^version = "(.*)"$',
-    "crates/mdb/src/command_line.rt": r'^const VERSION: &str = "(\S+), ',
+    "crates/mdb_command_line/src/lib.rt": r'^const VERSION: &str = "(\S+), ',
     "diff/Cargo.toml": r'^version = "(.*)"$',
 }
 

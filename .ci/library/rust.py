@@ -1,6 +1,7 @@
 """Checks of bindings/rust and of bindings/rust-compat."""
 import os
 import re
+import shutil
 
 from .common import BINDINGS, Skip, error_constants, error_numbers, ran, read, sources, structs
 
@@ -137,6 +138,21 @@ def check_renamed(room, libraries):
     words = ["run", "--quiet", f"{CRATE}/examples/a.mdb"]
     printed, why = ran("cargo", *words, cwd=f"{room}/count", env=names(room, libraries))
     return why or (None if printed == "1\n" else f"a program over bindings/rust-compat prints {printed!r}, not 1")
+
+
+def check_found(room, libraries):
+    """Outside of the repository the crate is linked with what pkg-config finds, also below a path with a space."""
+    if not shutil.which("pkg-config"):
+        raise Skip("pkg-config is not there, so bindings/rust was not built over what it finds")
+    # Where cargo is missing this is skipped.
+    cargo("rust", room, libraries, "--version")
+    prefix, crate = f"{room}/found by cargo", f"{room}/outside/rust"
+    shutil.copytree(CRATE, crate, ignore=shutil.ignore_patterns("target"))
+    variables = {**names(room, ""), "PKG_CONFIG_PATH": f"{prefix}/lib/pkgconfig"}
+    # An empty name would be that of a folder.
+    del variables["XET_LIB_DIR"]
+    why = ran(f"{BINDINGS}/build.sh", prefix)[1]
+    return why or ran("cargo", "build", "--quiet", "--example", "merge", cwd=crate, env=variables)[1]
 
 
 def run_tests(crate, room, libraries):

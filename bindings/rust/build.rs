@@ -51,7 +51,8 @@ fn by_pkg_config() -> Option<PathBuf> {
     let wanted = [format!("xet >= {least}"), format!("xet < {}", first + 1)];
     let has_version = Command::new(&program).arg("--exists").args(&wanted).status().ok()?;
     let printed = Command::new(&program).args(["--variable=libdir", "xet"]).output().ok()?;
-    let folder = PathBuf::from(String::from_utf8(printed.stdout).ok()?.trim());
+    // A space in the path is escaped there.
+    let folder = PathBuf::from(String::from_utf8(printed.stdout).ok()?.trim().replace("\\ ", " "));
     (has_version.success() && printed.status.success() && folder.is_dir()).then_some(folder)
 }
 

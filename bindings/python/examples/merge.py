@@ -7,6 +7,7 @@ stays.
 import argparse
 import os
 import pathlib
+import secrets
 import sys
 
 import xet_shards
@@ -14,16 +15,17 @@ import xet_shards
 
 def write(path: pathlib.Path, content: bytes) -> None:
     """Writes a file that is whole or not there."""
-    new = path.with_name(f".{path.name}.{os.getpid()}.new")
-    try:
-        with open(new, "xb") as file:
+    # Runs in two containers may have the same number.
+    new = path.with_name(f".{path.name}.{secrets.token_hex(8)}.new")
+    with open(new, "xb") as file:
+        try:
             file.write(content)
             file.flush()
             os.fsync(file.fileno())
-        os.replace(new, path)
-    except BaseException:
-        new.unlink(missing_ok=True)
-        raise
+            os.replace(new, path)
+        except BaseException:
+            new.unlink(missing_ok=True)
+            raise
 
 
 def main() -> None:

@@ -15,7 +15,7 @@ import pathlib
 import struct
 import tempfile
 from contextlib import ExitStack
-from typing import List, Sequence
+from typing import IO, List, Sequence
 
 import xet_shards
 from distributed import Client, LocalCluster
@@ -61,15 +61,24 @@ def cut(path: pathlib.Path, first: int, last: int) -> bytes:
     return header + b"".join(sections) + struct.pack(FOOTER, *words)
 
 
+def reserve(file: IO[bytes], size: int) -> None:
+    """Gives a file so many bytes of the disk: if it had holes, a full disk would end the process that fills its map."""
+    os.posix_fallocate(file.fileno(), 0, size)
+
+
 def merge_range(paths: Sequence[pathlib.Path], first: int, last: int, to: pathlib.Path) -> int:
     """Writes the merge of a range to a file, and returns its size. The file is whole or not there."""
     shards = [cut(path, first, last) for path in paths]
     with tempfile.NamedTemporaryFile(dir=to.parent, delete=False) as file:
-        file.truncate(xet_shards.merge_room(shards))
-        with mmap.mmap(file.fileno(), 0) as out:
-            size = xet_shards.merge_into(shards, out)
-        file.truncate(size)
-    os.replace(file.name, to)
+        try:
+            reserve(file, xet_shards.merge_room(shards))
+            with mmap.mmap(file.fileno(), 0) as out:
+                size = xet_shards.merge_into(shards, out)
+            file.truncate(size)
+            os.replace(file.name, to)
+        except BaseException:
+            os.unlink(file.name)
+            raise
     return size
 
 
@@ -81,7 +90,7 @@ def concatenate(parts: Sequence[pathlib.Path], to: pathlib.Path) -> int:
             for path in parts:
                 part = opened.enter_context(path.open("rb"))
                 maps.append(opened.enter_context(mmap.mmap(part.fileno(), 0, access=mmap.ACCESS_READ)))
-            file.truncate(sum(map(len, maps)))
+            reserve(file, sum(map(len, maps)))
             out = opened.enter_context(mmap.mmap(file.fileno(), 0))
             size: int = xet_shards.concatenate_into(maps, out)
         file.truncate(size)

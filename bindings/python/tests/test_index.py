@@ -7,6 +7,7 @@ import contextlib
 import os
 import pathlib
 import random
+import stat
 import struct
 import sys
 import tempfile
@@ -180,6 +181,17 @@ def test_index():
     assert index.add(shard_of("xorb 13 21:5")) == 3 and ask("21") == (3, 1, f"{13:016x}", 0)
 
 
+def test_index_that_changes_in_a_walk():
+    index = index_of(*[ONE_FILE] * 3)
+    numbers = iter(index)
+    assert next(numbers) == 0
+    index.remove(2)
+    assert index.add(ONE_FILE) == 3 and list(numbers) == [1, 2] and list(index) == [0, 1, 3]
+    for it in index:
+        index.remove(it)
+    assert list(index) == []
+
+
 def test_in_place():
     shard = shard_of("xorb 10 21:5 22:6", "xorb 11 22:7")
     for it in (shard, keyed(shard), bytearray(shard), memoryview(shard)):
@@ -279,6 +291,58 @@ def test_saved_with_errors():
             path.write_bytes(content)
             refused(name, xet_shards.Index.open, path)
         raises(FileNotFoundError, xet_shards.Index.open, f"{folder}/none")
+
+
+def mode_of(path):
+    return stat.S_IMODE(path.stat().st_mode)
+
+
+def test_mode_of_a_saved_file():
+    index, modes = index_of(XORB_AND_FILE), []
+    groups, mask = index._groups, os.umask(0o022)
+    with tempfile.TemporaryDirectory() as folder:
+        path = pathlib.Path(folder, "chunks")
+
+        def seen(*arguments):
+            modes.extend(map(mode_of, pathlib.Path(folder).glob("*.new")))
+            return groups(*arguments)
+
+        index._groups = seen
+        try:
+            index.save(path)
+            assert mode_of(path) == 0o644 and modes == [0o644]
+            for mode in (0o600, 0o640, 0o444):
+                path.chmod(mode)
+                index.save(path)
+                assert mode_of(path) == mode and modes.pop() == 0o600
+        finally:
+            os.umask(mask)
+        if os.geteuid() == 0:
+            os.chown(path, 12345, 12346)
+            index.save(path)
+            assert (path.stat().st_uid, path.stat().st_gid, mode_of(path)) == (12345, 12346, 0o444)
+
+
+def test_saved_by_a_link():
+    index = index_of(XORB_AND_FILE)
+    with tempfile.TemporaryDirectory() as folder:
+        link, path = pathlib.Path(folder, "link"), pathlib.Path(folder, "elsewhere", "chunks")
+        path.parent.mkdir()
+        link.symlink_to("elsewhere/chunks")
+        # At first it leads nowhere.
+        for _ in range(2):
+            index.save(link)
+            assert link.is_symlink() and len(xet_shards.Index.open(path)) == 1
+            assert os.listdir(path.parent) == ["chunks"] and sorted(os.listdir(folder)) == ["elsewhere", "link"]
+            path.chmod(0o600)
+        assert mode_of(path) == 0o600
+        pipe, loop = pathlib.Path(folder, "pipe"), pathlib.Path(folder, "loop")
+        os.mkfifo(pipe)
+        loop.symlink_to("loop")
+        for it in (path.parent, pipe, loop):
+            raises(OSError, index.save, it)
+        assert stat.S_ISFIFO(pipe.stat().st_mode) and loop.is_symlink()
+        assert sorted(os.listdir(folder)) == ["elsewhere", "link", "loop", "pipe"]
 
 
 def test_expiry():

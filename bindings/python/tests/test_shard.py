@@ -1,4 +1,4 @@
-"""Tests of shards in files that are mapped, and of `python -m xet_shards`.
+"""Tests of shards in files that are mapped, of examples/merge.py, and of `python -m xet_shards`.
 
 Runs with pytest, or as a program, which ends with the line 'N passed, M failed'.
 """
@@ -11,6 +11,7 @@ import subprocess
 import sys
 import tempfile
 import threading
+from unittest import mock
 
 sys.dont_write_bytecode = True
 sys.path.insert(0, os.path.dirname(os.path.realpath(__file__)))
@@ -18,6 +19,8 @@ sys.path.insert(0, os.path.dirname(os.path.realpath(__file__)))
 import scripts  # noqa: E402
 from scripts import hash_text, xet_shards  # noqa: E402
 from test_vectors import ONE_FILE, XORB_AND_FILE, main, numpy, raises, refused, shard_of  # noqa: E402
+
+import merge  # noqa: E402
 
 BYTES = shard_of("file 100 s=365 200:0:5:5 201:1:2:7", "file 101", "xorb 10 21:5 22:6", "xorb 11 22:6 23:7")
 
@@ -214,6 +217,25 @@ def test_closed_in_calls_of_other_threads():
             for it in threads:
                 it.join()
         assert found.count("closed") == 3 and set(found) == {7, "closed"} and not is_mapped(shard)
+
+
+def test_new_files_of_merges():
+    with tempfile.TemporaryDirectory() as folder:
+        path = pathlib.Path(folder, "out")
+
+        def taken(new, mode):
+            pathlib.Path(new).write_bytes(b"of another run")
+            return open(new, mode)
+
+        with mock.patch.object(merge, "open", taken, create=True):
+            raises(FileExistsError, merge.write, path, ONE_FILE)
+        (other,) = pathlib.Path(folder).iterdir()
+        assert other != path and other.read_bytes() == b"of another run"
+        with mock.patch.object(os, "fsync", side_effect=OSError):
+            raises(OSError, merge.write, path, ONE_FILE)
+        assert list(pathlib.Path(folder).iterdir()) == [other]
+        merge.write(path, ONE_FILE)
+        assert path.read_bytes() == ONE_FILE and set(pathlib.Path(folder).iterdir()) == {path, other}
 
 
 def test_names():

@@ -7,8 +7,10 @@ import dataclasses
 import itertools
 import mmap
 import os
+import pathlib
 import pickle
 import re
+import shutil
 import struct
 import subprocess
 import sys
@@ -289,6 +291,19 @@ def test_library_of_another_version():
         xet_shards._calls._compare_versions("libxet.so", number)
     for number in (own - 1, end):
         raises(ImportError, xet_shards._calls._compare_versions, "libxet.so", number)
+
+
+def test_import_over_an_older_library():
+    newer = f"{xet_shards.__version__.split('.')[0]}.99.0"
+    env = {**os.environ, "XET_LIBRARY": os.path.abspath(LIBRARY._name)}
+    with tempfile.TemporaryDirectory() as folder:
+        shutil.copytree(os.path.dirname(xet_shards.__file__), f"{folder}/xet_shards")
+        head = pathlib.Path(folder, "xet_shards", "__init__.py")
+        head.write_text(head.read_text().replace(f'"{xet_shards.__version__}"', f'"{newer}"'))
+        words = [sys.executable, "-c", "import xet_shards"]
+        run = subprocess.run(words, cwd=folder, env=env, capture_output=True, text=True, check=False)
+    said = f"ImportError: {env['XET_LIBRARY']} has the version {xet_shards.__version__}, so it is no library for"
+    assert run.returncode == 1 and f"{said} xet_shards {newer}" in run.stderr
 
 
 def test_forms_without_a_file_table():
@@ -785,6 +800,17 @@ def test_check():
     with_row = shard_of("file 100 x=777 200:0:5:5")
     as_version_2 = with_row[:32] + b"\2" + with_row[33:]
     assert xet_shards.check(as_version_2) == [Finding("refused", "file_section", None)]
+
+
+def test_findings_of_a_newer_library():
+    # xet.h has 11 kinds and 7 parts.
+    for (kind, part, number), wanted in (
+        ((11, 6, 0), ("reordered", "chunk_table", None)), ((2, 1, 9), ("other_version", "header", 9)),
+        ((12, 7, 9), ("unknown", "footer", 12)), ((12, 0, 0), ("unknown", None, 12)),
+        ((8, 8, 0), ("differs", "unknown", None)),
+    ):
+        found = xet_shards._checking._finding(structs._Finding(kind, part, number))
+        assert found == xet_shards.Finding(*wanted) and found.is_note == (kind == 11)
 
 
 def test_check_of_records_and_order():

@@ -10,10 +10,10 @@ from ._memory import Buffer, _Addresses, _filled
 from ._structs import _Finding
 
 # What enum xet_finding_kind and enum xet_part of xet.h name, and the kinds that have a number.
-_KINDS = (
+_KINDS = dict(enumerate((
     "no_tag other_version no_footer too_short cut refused out_of_order differs other_size malformed_record reordered"
-).split()
-_PARTS = "header file_section xorb_section file_table xorb_table chunk_table footer".split()
+).split(), 1))
+_PARTS = dict(enumerate("header file_section xorb_section file_table xorb_table chunk_table footer".split(), 1))
 _NUMBERED = (2, 7, 9, 10)
 
 
@@ -22,7 +22,8 @@ class Finding:
     """What is wrong with the bytes of a shard: `kind` is that of enum xet_finding_kind in xet.h, as `out_of_order`.
 
     `part` is the part of the shard, as `file_section`, and `number` what belongs to the kind, where it has them.
-    `reordered` is a note, and no fault: nothing is lost.
+    `reordered` is a note, and no fault: nothing is lost. A library that is newer than this module may know more: then
+    `kind` is `unknown`, and `number` that of the kind in xet.h, or `part` is `unknown`.
     """
 
     kind: str
@@ -52,5 +53,7 @@ def check(shard: Buffer) -> List[Finding]:
 
 
 def _finding(found: _Finding) -> Finding:
-    part = _PARTS[found.part - 1] if found.part else None
-    return Finding(_KINDS[found.kind - 1], part, found.number if found.kind in _NUMBERED else None)
+    part = _PARTS.get(found.part, "unknown") if found.part else None
+    if found.kind not in _KINDS:
+        return Finding("unknown", part, found.kind)
+    return Finding(_KINDS[found.kind], part, found.number if found.kind in _NUMBERED else None)

@@ -90,7 +90,8 @@ def merge_into(
 
     If the buffer is too small it stays as it is: then the number is greater than its length. With inputs and output in
     files that are mapped, a merge needs memory of its own only for tables and for where records lie, and with `threads`
-    as much as the output has.
+    as much as the output has. On a full disk the process ends where the output's file has a hole, as `truncate` makes
+    them; `os.posix_fallocate` makes none, and raises an `OSError` there.
 
     The buffer shares no memory with a shard: that is a `ValueError`. Two maps of one file are not found out.
     """
@@ -243,7 +244,8 @@ def concatenate_into(shards: Iterable[Buffer], out: WritableBuffer, version: int
     """Writes what `concatenate` returns to the front of a buffer that can be written, and returns its number of bytes.
 
     If the buffer is too small, and after any error, it stays as it is: if it is too small, the number is greater than
-    its length. With inputs and output in files that are mapped, this needs some hundred bytes a shard of its own.
+    its length. With inputs and output in files that are mapped, this needs some hundred bytes a shard of its own; the
+    output's file should have no holes, as for `merge_into`.
 
     The buffer shares no memory with a shard: that is a `ValueError`.
     """

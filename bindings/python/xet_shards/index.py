@@ -3,9 +3,11 @@ from __future__ import annotations
 
 import builtins
 import contextlib
+import errno
 import mmap
 import os
 import secrets
+import stat
 import struct
 import threading
 from array import array
@@ -198,6 +200,10 @@ class Index:
     def save(self, path: Path, now: Optional[int] = None, resolution: int = 1) -> None:
         """Writes the index to a file for `open`, which takes its name when it is whole.
 
+        A link stays, and the file that it leads to is replaced. A file that is replaced keeps its mode, and its owner
+        and group where the system lets them be given; until then only its owner may read the new one. It is an
+        `OSError` if what is there is no regular file.
+
         The file has a shard for each key and expiry, one after another: the merge of the shards of the index that have
         them, as `export` gives it without files. So of shards without a key and without expiry it is one shard, which
         can be read by itself. Expiries are rounded down to a multiple of `resolution`, in seconds, so that shards which
@@ -206,16 +212,19 @@ class Index:
         It takes as much memory as `merge`, which returns the shard. The errors are those of writing a file, and those
         of `merge`, where `index` is the number of the shard.
         """
+        target, replaced = _place_at(os.fsdecode(path))
         # Other threads and processes may save to the same path.
-        new = f"{os.fsdecode(path)}.{secrets.token_hex(8)}.new"
-        with builtins.open(new, "xb") as file:
+        new = f"{target}.{secrets.token_hex(8)}.new"
+        with builtins.open(new, "xb", opener=_open_private if replaced else None) as file:
             try:
                 for expiry, shards in self._groups(now, resolution):
                     for part in _without_files(_merged(shards), expiry):
                         file.write(part)
                 file.flush()
+                if replaced:
+                    _take_place(file.fileno(), replaced)
                 os.fsync(file.fileno())
-                os.replace(new, path)
+                os.replace(new, target)
             except BaseException:
                 with contextlib.suppress(FileNotFoundError):
                     os.unlink(new)
@@ -313,10 +322,33 @@ class Index:
         return number in self._shards
 
     def __iter__(self) -> Iterator[int]:
-        return iter(self._shards)
+        """Returns the numbers of the shards that there are now, whatever is added and removed meanwhile."""
+        return iter(list(self._shards))
 
     def __len__(self) -> int:
         return len(self._shards)
+
+
+def _place_at(path: str) -> Tuple[str, Optional[os.stat_result]]:
+    """Returns the path of the file that a path leads to, also by links, and what is there."""
+    try:
+        there: Optional[os.stat_result] = os.stat(path)
+    except FileNotFoundError:
+        there = None
+    if there and not stat.S_ISREG(there.st_mode):
+        raise OSError(errno.EINVAL, "it is no regular file", path)
+    return os.path.realpath(path) if os.path.islink(path) else path, there
+
+
+def _open_private(path: str, flags: int) -> int:
+    return os.open(path, flags, 0o600)
+
+
+def _take_place(file: int, replaced: os.stat_result) -> None:
+    """Gives a file the mode of the one that it replaces, and its owner and group where the system lets it."""
+    with contextlib.suppress(OSError):
+        os.fchown(file, replaced.st_uid, replaced.st_gid)
+    os.fchmod(file, stat.S_IMODE(replaced.st_mode))
 
 
 def _merged(shards: Dict[int, Buffer]) -> bytes:

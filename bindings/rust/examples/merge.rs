@@ -3,27 +3,29 @@
 //! The output is written to a new file beside OUT, which takes its name at the end: if anything fails, what was there
 //! stays.
 
+use std::collections::hash_map::RandomState;
 use std::error::Error;
 use std::fs::OpenOptions;
+use std::hash::{BuildHasher, Hasher};
 use std::io::Write;
-use std::process::{self, ExitCode};
+use std::process::ExitCode;
 use std::{env, fs, io};
 
 /// Writes a file that is whole or not there.
 fn write(path: &str, bytes: &[u8]) -> Result<(), Box<dyn Error>> {
-    let new = format!("{path}.{}.new", process::id());
-    if let Err(error) = write_new(&new, bytes).and_then(|()| fs::rename(&new, path)) {
-        // It may not be there.
-        let _ = fs::remove_file(&new);
-        return Err(format!("{path}: {error}").into());
-    }
-    Ok(())
+    // Runs in two containers may have the same number.
+    let random = RandomState::new().build_hasher().finish();
+    Ok(write_as(&format!("{path}.{random:016x}.new"), path, bytes).map_err(|error| format!("{path}: {error}"))?)
 }
 
-fn write_new(path: &str, bytes: &[u8]) -> io::Result<()> {
-    let mut file = OpenOptions::new().write(true).create_new(true).open(path)?;
-    file.write_all(bytes)?;
-    file.sync_all()
+/// Writes a file that is whole or not there, under a new name first.
+pub fn write_as(new: &str, path: &str, bytes: &[u8]) -> io::Result<()> {
+    let mut file = OpenOptions::new().write(true).create_new(true).open(new)?;
+    let done = file.write_all(bytes).and_then(|()| file.sync_all()).and_then(|()| fs::rename(new, path));
+    if done.is_err() {
+        let _ = fs::remove_file(new);
+    }
+    done
 }
 
 fn merge(names: &[String], output: &str) -> Result<(), Box<dyn Error>> {

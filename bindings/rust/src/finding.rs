@@ -21,6 +21,8 @@ pub enum Part {
     ChunkTable,
     /// The last 200 bytes.
     Footer,
+    /// A part with this number, of a library that is newer than this crate.
+    Unknown(u32),
 }
 
 /// What is wrong with the bytes of a shard.
@@ -118,18 +120,25 @@ fn part_of(found: &calls::Finding) -> Part {
         4 => Part::FileTable,
         5 => Part::XorbTable,
         6 => Part::ChunkTable,
-        _ => Part::Footer,
+        7 => Part::Footer,
+        other => Part::Unknown(other),
     }
 }
 
 #[cfg(test)]
 mod tests {
-    use super::{calls, finding_of, Finding};
+    use super::{calls, finding_of, Finding, Part};
 
     #[test]
     fn an_unknown_kind_is_no_note() {
         let found = finding_of(&calls::Finding { kind: 12, ..Default::default() });
         assert_eq!(found, Finding::Unknown(12));
         assert!(!found.is_note());
+    }
+
+    #[test]
+    fn an_unknown_part_is_no_other() {
+        let part = |part| finding_of(&calls::Finding { kind: 8, part, ..Default::default() });
+        assert_eq!([7, 8].map(part), [Part::Footer, Part::Unknown(8)].map(Finding::Differs));
     }
 }
