@@ -43,7 +43,7 @@ def check_crates():
 
 
 def check_tree():
-    """The tree of modules in docs/ARCHITECTURE.md names each module of the library."""
+    """The tree of modules in docs/ARCHITECTURE.md has a word for each name of a module of the library."""
     page = read(f"{TOP}/docs/ARCHITECTURE.md")
     tree = page[page.index("## The modules") : page.index("Worked examples are lines")]
     files = [it for name in IN_TREE for it in glob.glob(f"{TOP}/crates/{name}/src/**/*.rt", recursive=True)]
