@@ -1,7 +1,7 @@
 """Builds the archive of crates/xet_c over the libraries that `rt ci` has proved.
 
 `rt lib`, which bindings/build.sh calls where there is no archive, takes nothing from `rt ci`: it would prove all
-libraries below once more, which takes 24 minutes of processor time, and more where a proof has several processors.
+libraries below once more, which takes 50 minutes of processor time, and more where a proof has several processors.
 
 Beside the archive a file has the hash of what it was built of. As a program this prints that hash of the sources that
 are here. Times would not do: a copy of old sources is new, and a file that is moved into place may be old. `rt ci`

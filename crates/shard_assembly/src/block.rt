@@ -9,12 +9,9 @@ use xet_core_structures::merklehash::{HMACKey, MerkleHash};
 use xet_core_structures::record_reader::{FormatVersion, SectionRecord, read_header};
 use xet_core_structures::rows::{ROW_LIMIT, ROW_SIZE};
 use xet_core_structures::shard_format::{
-    FOOTER_SIZE, HEADER_SIZE, MDBShardFileFooter, MDBShardFileHeader,
+    HEADER_SIZE, MDBShardFileFooter, MDBShardFileHeader, MDBShardInfo,
 };
 use xet_core_structures::xorb_structs::{MDBXorbInfo, XorbChunkSequenceHeader};
-
-/// The size of a shard without records and tables, in bytes: header, two bookends and footer.
-const EMPTY_SHARD_SIZE: usize = (HEADER_SIZE + FOOTER_SIZE) as usize + 2 * ROW_SIZE;
 
 /// How far a section is read.
 #[derive(Clone, Copy)]
@@ -57,7 +54,8 @@ impl Block {
         version: FormatVersion,
         room: usize,
     ) -> Result<Block> {
-        let mut bytes = Vec::with_capacity(alloc, room.saturating_add(EMPTY_SHARD_SIZE))?;
+        let empty = MDBShardInfo::non_content_byte_size() as usize;
+        let mut bytes = Vec::with_capacity(alloc, room.saturating_add(empty))?;
         MDBShardFileHeader::of_version(version).serialize(&mut bytes)?;
         if section == Section::Xorbs {
             put_bookend(&mut bytes)?;
