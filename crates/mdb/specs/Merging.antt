@@ -10,7 +10,7 @@ use Rattle.xet_core_structures.specs.Agreement.Agreement.{HoldShards, IsFirstMal
 use Rattle.xet_core_structures.specs.Agreement.Agreement.{HasAllDisagreements}
 use Rattle.xet_core_structures.specs.Trees.InVersions.{MadeIn, RefusedIn}
 use Rattle.xet_records.specs.declared.record_reader.FormatVersion.{FormatVersion}
-use Rattle.shard_bytes.specs.Agreeing.{IsMergeOfAgreeing}
+use Rattle.shard_bytes.specs.Agreeing.{IsMergeOfAgreeing, RefusesAgreeing}
 use Rattle.shard_bytes.specs.Merging.{MergesBytes, RefusesMerge}
 use Rattle.mdb_report.specs.declared.fault.Fault.TheVariants.{OutOfMemory, Disagree, Malformed}
 use Rattle.mdb.specs.declared.failure.Failure.{Failure}
@@ -44,7 +44,7 @@ abbrev pub SaysCause : (CoreError → Type 0) → Failure → Type 0
 SaysCause IsCause failure =
     (e : CoreError) × IsCause e × (e ≡ no_memory → failure.fault ≡ OutOfMemory)
 
--- an input is not read, or there is another cause why the inputs have no merge in a version
+-- an input is not read, or the inputs have no merge in a version
 abbrev pub SaysNotMerged : FormatVersion → List (List ℕ) → Failure → Type 0
 SaysNotMerged version inputs = SaysCause
     (λ e. InputsRefusal inputs e ⊎ RefusedIn version (MergesBytes inputs) (RefusesMerge inputs) e)
@@ -55,4 +55,4 @@ abbrev pub UnionFails : Strictness → FormatVersion → List (Bor (List ℕ)) �
 UnionFails Lenient version files inputs failure = SaysNotMerged version inputs failure
 UnionFails Strict version files inputs failure =
     SaysMalformed files inputs failure ⊎ SaysDisagree inputs failure
-    ⊎ SaysNotMerged version inputs failure
+    ⊎ SaysCause (RefusesAgreeing version inputs) failure

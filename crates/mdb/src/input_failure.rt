@@ -1,7 +1,7 @@
 //! Why inputs cannot be combined, and which of them is at fault.
 
 ghost use Rattle.std.specs.Prelude.{◌≡◌, [], map, slice_get, IsTrue, MatchOption, MatchResult};
-ghost use Rattle.xet_core_structures.specs.Agreement.Agreement.{HoldShards, HasAllDisagreements, InputsRefusal};
+ghost use Rattle.xet_core_structures.specs.Agreement.Agreement.{HoldShards, HasAllDisagreements, InputsRefusal, WellFormedRefusal};
 ghost use Rattle.mdb.specs.Merging.{SaysMalformed, SaysDisagree, SaysCause};
 
 use crate::failure::{Failure, Subject};
@@ -214,7 +214,7 @@ pub fn malformed_failure<'a>(
     ensures { MatchResult result
         (λ found. MatchOption found (HoldShards (map (λ x. x.now) inputs.now))
         (SaysMalformed files.now (map (λ x. x.now) inputs.now)))
-        (SaysCause (InputsRefusal (map (λ x. x.now) inputs.now))) }
+        (SaysCause (WellFormedRefusal (map (λ x. x.now) inputs.now))) }
 {
     let found = match find_malformed(alloc, inputs) {
         Ok(found) => found,

@@ -1,5 +1,5 @@
 -- A merge of inputs that agree gives the bytes of the join of the shards that they hold.
-use Rattle.std.proofs.Common.{◌≡◌, ◌⊎◌, inl, inr, ℕ, suc, ◌<◌, List, [], ◌∷◌, length, Some, Ok, Err, refl, sym, ◌∙◌, subst, arith}
+use Rattle.std.proofs.Common.{◌≡◌, inl, inr, ℕ, suc, ◌<◌, List, [], ◌∷◌, length, Some, Ok, Err, refl, sym, ◌∙◌, subst, arith}
 use Rattle.std.specs.Prelude.{Contains, IfOk, MatchResult, slice_get}
 use Rattle.std.specs.List.{AllZip}
 use Rattle.std.proofs.lemmas.Option.{same_Some, slice_get_within}
@@ -15,14 +15,14 @@ use Rattle.xet_core_structures.specs.declared.set_operations.agreement.Disagreem
 use Rattle.xet_core_structures.specs.declared.set_operations.agreement.MalformedRecord.{MalformedRecord}
 use Rattle.xet_core_structures.specs.declared.set_operations.agreement.RecordHash.{RecordHash}
 use Rattle.xet_core_structures.specs.declared.set_operations.agreement.RecordHash.TheVariants.{File, Xorb}
-use Rattle.xet_core_structures.specs.Agreement.Agreement.{HoldsAt, IsHeld, HasKey, HasMalformed, HoldShards, IsFirstMalformed, InputsAgree, InputsDisagree, HasAllDisagreements, InputsRefusal, MergesOrFinds, FillsOrFinds}
+use Rattle.xet_core_structures.specs.Agreement.Agreement.{HoldsAt, IsHeld, HasKey, HasMalformed, HoldShards, IsFirstMalformed, InputsAgree, InputsDisagree, HasAllDisagreements, AgreeingRefusal, MergesOrFinds, FillsOrFinds}
 use Rattle.xet_core_structures.specs.FileRecord.{IsWellFormed}
 use Rattle.xet_core_structures.specs.XorbRecord.{IsXorb}
 use Rattle.xet_core_structures.specs.Records.ShardContents.{HasShard, HoldsShard}
 use Rattle.xet_core_structures.specs.Joins.{AgreePairwise}
 use Rattle.xet_core_structures.specs.Shard.{Shard, IsShard}
 use Rattle.xet_core_structures.specs.Errors.{CoreResult}
-use Rattle.xet_core_structures.specs.Trees.InVersions.{MadeIn, TreeRefusalIn}
+use Rattle.xet_core_structures.specs.Trees.InVersions.{MadeIn}
 use Rattle.xet_core_structures.specs.Trees.MergeTrees.{leaves}
 use Rattle.xet_core_structures.specs.declared.set_operations.FormatVersion.{FormatVersion}
 use Rattle.xet_core_structures.proofs.Agreement.AgreeingTrees.{of_hash, held_agree, agreeing_tree}
@@ -127,13 +127,13 @@ module _ (inputs : List (List ℕ)) (out : List ℕ) (hold : HoldShards inputs) 
 
 -- a merge by the plan of the list is one of the list
 module _ (version : FormatVersion) (inputs : List (List ℕ)) where
-  pub merges_agreeing : (plan : MergePlan) → IsMergePlan (length inputs) plan → (r : CoreResult AgreeingMerge) → MatchResult r (MergesOrFinds version inputs plan) (λ e. InputsRefusal inputs e ⊎ TreeRefusalIn version inputs plan e)
+  pub merges_agreeing : (plan : MergePlan) → IsMergePlan (length inputs) plan → (r : CoreResult AgreeingMerge) → MatchResult r (MergesOrFinds version inputs plan) (AgreeingRefusal version inputs plan)
       → MatchResult r (MergesAgreeing version inputs) (RefusesAgreeing version inputs)
   merges_agreeing plan is (Ok (Bytes bytes)) (hold, agree, writes) = (hold, agree, merge_made inputs plan is version bytes.items writes)
   merges_agreeing plan is (Ok (Disagreements found)) holds = holds
   merges_agreeing plan is (Ok (Malformed m)) holds = holds
   merges_agreeing plan is (Err e) (inl refused) = inl refused
-  merges_agreeing plan is (Err e) (inr refused) = inr (merge_refused inputs plan is version e refused)
+  merges_agreeing plan is (Err e) (inr (hold, agree, refused)) = inr (hold, agree, merge_refused inputs plan is version e refused)
 
   -- what is made is the join, or there is none
   pub join_made : (out : List ℕ) → HoldShards inputs → InputsAgree inputs → MadeIn version (MergesBytes inputs) out → MadeIn version (IsMergeOfAgreeing inputs) out
@@ -157,13 +157,13 @@ module _ (version : FormatVersion) (inputs : List (List ℕ)) where
 
   -- the same of a merge whose bytes are put to the front of a slice
   module _ (old new : List ℕ) where
-    pub fills_agreeing : (plan : MergePlan) → IsMergePlan (length inputs) plan → (r : CoreResult AgreeingFill) → MatchResult r (FillsOrFinds version inputs plan old new) (λ e. (InputsRefusal inputs e ⊎ TreeRefusalIn version inputs plan e) × (new ≡ old))
+    pub fills_agreeing : (plan : MergePlan) → IsMergePlan (length inputs) plan → (r : CoreResult AgreeingFill) → MatchResult r (FillsOrFinds version inputs plan old new) (λ e. AgreeingRefusal version inputs plan e × (new ≡ old))
         → MatchResult r (FillsAgreeing version inputs old new) (λ e. RefusesAgreeing version inputs e × (new ≡ old))
     fills_agreeing plan is (Ok (FilledBytes size)) (hold, agree, (bytes, writes, fills)) = (hold, agree, (bytes, merge_made inputs plan is version bytes writes, fills))
     fills_agreeing plan is (Ok (Disagreeing found)) holds = holds
     fills_agreeing plan is (Ok (Misformed m)) holds = holds
     fills_agreeing plan is (Err e) (inl refused, stays) = (inl refused, stays)
-    fills_agreeing plan is (Err e) (inr refused, stays) = (inr (merge_refused inputs plan is version e refused), stays)
+    fills_agreeing plan is (Err e) (inr (hold, agree, refused), stays) = (inr (hold, agree, merge_refused inputs plan is version e refused), stays)
 
     pub fills_join : (r : CoreResult AgreeingFill) → MatchResult r (FillsAgreeing version inputs old new) (λ e. RefusesAgreeing version inputs e × (new ≡ old)) → IfOk r (FillsJoin version inputs old new)
     fills_join (Ok (FilledBytes size)) (hold, agree, (bytes, merges, fills)) = (bytes, join_made bytes hold agree merges, fills)

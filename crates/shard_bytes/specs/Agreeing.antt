@@ -2,7 +2,7 @@
 use Rattle.std.specs.Prelude.{◌≡◌, ◌⊎◌, ℕ, ◌<◌, List, length, Contains}
 use Rattle.std.specs.List.{AllZip}
 use Rattle.xet_core_structures.specs.declared.merklehash.DataHash.{DataHash}
-use Rattle.xet_core_structures.specs.Agreement.Agreement.{HoldShards, IsFirstMalformed, InputsAgree, HasAllDisagreements, InputsRefusal}
+use Rattle.xet_core_structures.specs.Agreement.Agreement.{HoldShards, IsFirstMalformed, InputsAgree, HasAllDisagreements, WellFormedRefusal}
 use Rattle.xet_core_structures.specs.Joins.{IsJoinOf, AgreePairwise}
 use Rattle.xet_core_structures.specs.Records.ShardContents.{HasShard, HoldsShard}
 use Rattle.xet_core_structures.specs.Shard.{Shard}
@@ -26,10 +26,13 @@ MergesAgreeing version inputs (Disagreements found) =
     HoldShards inputs × (0 < length found.items) × HasAllDisagreements inputs found.items
 MergesAgreeing version inputs (Malformed m) = IsFirstMalformed inputs m
 
--- why the merge gives nothing in a version: an input is not read, or there is another cause
+-- why the merge gives nothing in a version: an allocation failed; or an input is not read, and each
+-- before it holds a well-formed shard; or all hold such shards, which agree, and have no merge
 abbrev pub RefusesAgreeing : FormatVersion → List (List ℕ) → CoreError → Type 0
 RefusesAgreeing version inputs e =
-    InputsRefusal inputs e ⊎ RefusedIn version (MergesBytes inputs) (RefusesMerge inputs) e
+    WellFormedRefusal inputs e
+    ⊎ (HoldShards inputs × InputsAgree inputs
+    × RefusedIn version (MergesBytes inputs) (RefusesMerge inputs) e)
 
 -- the byte strings hold well-formed shards under one key that agree pairwise, and `out` are the
 -- bytes of their join under the key, with all tables, creation 0 and no expiry

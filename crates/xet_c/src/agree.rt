@@ -5,7 +5,7 @@ ghost use Rattle.xet_core_structures.specs.declared.error.CoreError.{CoreError};
 ghost use Rattle.xet_core_structures.specs.declared.set_operations.FormatVersion.TheVariants.{V3};
 ghost use Rattle.xet_core_structures.specs.declared.set_operations.agreement.Disagreement.{Disagreement};
 ghost use Rattle.xet_core_structures.specs.declared.set_operations.agreement.MalformedRecord.{MalformedRecord};
-ghost use Rattle.xet_core_structures.specs.Agreement.Agreement.{HasAllDisagreements, HoldShards, IsFirstMalformed, InputsRefusal};
+ghost use Rattle.xet_core_structures.specs.Agreement.Agreement.{HasAllDisagreements, HoldShards, IsFirstMalformed, InputsRefusal, WellFormedRefusal};
 ghost use Rattle.xet_core_structures.specs.Errors.{variant_number};
 ghost use Rattle.shard_bytes.specs.Sizes.{IsResultSize};
 ghost use Rattle.xet_c.specs.Agreeing.{c_record, c_disagreement, c_malformed, AreAllDisagreements, ShowsFirst, ShowsMalformed, MergesIfAgreeing, MergesIfAgreeingIn, ShowsFill};
@@ -105,7 +105,7 @@ pub extern "C" fn xet_find_malformed(
         × MatchOption one (HoldShards (map (λ x. x.now) shards.now))
         (IsFirstMalformed (map (λ x. x.now) shards.now))
         × ShowsMalformed one found.old found.new malformed.new × (result ≡ 0))
-        ⊎ ((e : CoreError) × InputsRefusal (map (λ x. x.now) shards.now) e
+        ⊎ ((e : CoreError) × WellFormedRefusal (map (λ x. x.now) shards.now) e
         × (found.new ≡ found.old) × (malformed.new ≡ false) × (result ≡ variant_number e)) }
 {
     *malformed = false;

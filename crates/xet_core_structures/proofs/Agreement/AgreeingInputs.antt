@@ -1,5 +1,5 @@
 -- Inputs in memory hold shards, and which of these disagree.
-use Rattle.std.proofs.Common.{◌≡◌, ◌⊎◌, inl, inr, ℕ, zero, suc, ◌<◌, List, [], ◌∷◌, ◌++◌, length, map, Some, Ok, Err, refl, sym, ap, ◌∙◌, subst, cond, arith, Bool, true, false}
+use Rattle.std.proofs.Common.{◌≡◌, ◌⊎◌, inl, inr, ℕ, zero, suc, ◌<◌, List, [], ◌∷◌, ◌++◌, length, map, take, Some, Ok, Err, refl, sym, ap, ◌∙◌, subst, cond, arith, Bool, true, false}
 use Rattle.std.specs.Prelude.{Contains, IfOk, IfErr, MatchResult, slice_get}
 use Rattle.std.specs.declared.result.Result.{Result}
 use Rattle.std.specs.List.{AllZip}
@@ -13,18 +13,20 @@ use Rattle.xet_base.specs.declared.merklehash.DataHash.{DataHash}
 use Rattle.xet_base.specs.Hash.{hash_cmp}
 use Rattle.xet_base.proofs.HashOrder.{same_key}
 use Rattle.xet_records.specs.RecordKind.{RecordKind}
+use Rattle.xet_records.specs.declared.record_reader.FormatVersion.{FormatVersion}
 use Rattle.xet_records.specs.FileRecord.{file_records}
 use Rattle.xet_records.specs.XorbRecord.{xorb_records}
 use Rattle.xet_records.specs.Merging.{Agree}
 use Rattle.xet_shards.specs.Write.WithOptions.{Ascends}
 use Rattle.xet_shards.specs.Content.Shard.{Shard}
+use Rattle.xet_core_structures.specs.declared.set_operations.MergePlan.{MergePlan}
 use Rattle.xet_core_structures.specs.declared.set_operations.agreement.Disagreement.{Disagreement}
 use Rattle.xet_core_structures.specs.declared.set_operations.agreement.RecordHash.{RecordHash}
 use Rattle.xet_core_structures.specs.declared.set_operations.agreement.RecordHash.TheVariants.{File, Xorb}
 use Rattle.xet_core_structures.specs.declared.set_operations.agreement.differing.Differing.{Differing}
 use Rattle.xet_core_structures.specs.declared.set_operations.trees.inputs.OpenShard.{OpenShard}
-use Rattle.xet_core_structures.specs.Agreement.Agreement.{HoldsAt, InputsAgree, InputsDisagree, AgreeOn, HasAllDisagreements, InputsRefusal, disagreement_of}
-use Rattle.xet_core_structures.specs.Steps.Agreement.{AreEqual}
+use Rattle.xet_core_structures.specs.Agreement.Agreement.{HoldsAt, InputsAgree, InputsDisagree, AgreeOn, HasAllDisagreements, InputsRefusal, WellFormedRefusal, HoldShards, AgreeingRefusal, disagreement_of}
+use Rattle.xet_core_structures.specs.Steps.Agreement.{AreEqual, AgreedRefusal}
 use Rattle.xet_core_structures.specs.Steps.ByteResults.{Records}
 use Rattle.xet_core_structures.specs.Records.RecordPairs.{key_of_record, with_hash}
 use Rattle.xet_core_structures.specs.Steps.Differing.{Differ, AgreeUnder, FindsDiffering}
@@ -35,6 +37,7 @@ use Rattle.xet_core_structures.specs.Steps.Placed.{MayUnite}
 use Rattle.xet_core_structures.proofs.Records.Items.{has_mapped, mapped_back}
 use Rattle.xet_core_structures.proofs.Records.ShardContents.{only_shard}
 use Rattle.xet_core_structures.proofs.Records.ListMaps.{list_map, get-list_map, with_hash_of, shard_of, lists_hold}
+use Rattle.xet_core_structures.proofs.Trees.InVersions.{refused_early}
 use Rattle.xet_core_structures.proofs.Trees.Parts.{may_be_united}
 
 module _ {H R : Type 0} (K : RecordKind H R) where
@@ -66,6 +69,14 @@ zip_held shards [] all i low = absurd (omega (arith, low))
 zip_held [] (x ∷ inputs) all i low = absurd all
 zip_held (p ∷ shards) (x ∷ inputs) all zero low = (shard_of (records_in p x all.0), (x, refl, has_shard p x all.0))
 zip_held (p ∷ shards) (x ∷ inputs) all (suc i) low = zip_held shards inputs all.1 i (omega (arith, low))
+
+-- each of the first inputs, which are opened, holds a shard
+pub held_before : (shards : List OpenShard) (inputs : List (List ℕ)) (at : ℕ) → AreOpened (take at inputs) shards → (i : ℕ) → i < at → i < length inputs → (s : Shard) × HoldsAt inputs i s
+held_before shards inputs zero all i low within = absurd (omega (arith, low))
+held_before shards [] (suc at) all i low within = absurd (omega (arith, within))
+held_before [] (x ∷ inputs) (suc at) all i low within = absurd all
+held_before (p ∷ shards) (x ∷ inputs) (suc at) all zero low within = (shard_of (records_in p x all.0), (x, refl, has_shard p x all.0))
+held_before (p ∷ shards) (x ∷ inputs) (suc at) all (suc i) low within = held_before shards inputs at all.1 i (omega (arith, low)) (omega (arith, within))
 
 module _ {R : Type 0} (listed : Records → List R) where
   -- the lists of records that inputs have
@@ -209,6 +220,16 @@ none_found inputs found all none = record {
 } where
   nothing : (h : RecordHash) → ¬ Contains (map (λ d. d.record_hash) found) h
   nothing h has = absurd (omega (arith, (subst (λ l. Contains (map (λ (d : Disagreement). d.record_hash) l) h) none has).1))
+
+-- why inputs that hold well-formed shards are not merged if they agree
+pub refused_agreeing : (inputs : List (List ℕ)) (version : FormatVersion) (plan : MergePlan) (e : CoreError) → HoldShards inputs → AgreedRefusal inputs plan e → AgreeingRefusal version inputs plan e
+refused_agreeing inputs version plan e hold (inl lacks) = inl (inl lacks)
+refused_agreeing inputs version plan e hold (inr (agree, refused)) = inr (hold, agree, refused_early inputs version plan e refused)
+
+-- inputs that hold well-formed shards hold shards
+pub refused_as_inputs : (inputs : List (List ℕ)) (e : CoreError) → WellFormedRefusal inputs e → InputsRefusal inputs e
+refused_as_inputs inputs e (inl lacks) = inl lacks
+refused_as_inputs inputs e (inr (i, bytes, at, refused, before)) = inr (i, bytes, at, refused, λ j low. ((before j low).0, (before j low).1))
 
 -- of inputs that are placed, only memory can be lacking
 pub or_no_memory : {A : Type 0} (Is : A → Type 0) (inputs : List (List ℕ)) (r : Result A CoreError) → IfOk r Is → IfErr r (λ e. e ≡ OutOfMemory) → MatchResult r Is (InputsRefusal inputs)

@@ -1,5 +1,5 @@
 -- What is made in a version: the number in the header is all that differs, unless a file has an auxiliary row.
-use Rattle.std.proofs.Common.{◌≡◌, inl, inr, ℕ, ◌+◌, ◌≤◌, Bool, true, false, List, [], ◌∷◌, ◌++◌, length, take, drop, Ok, Err, refl, sym, ap, ◌∙◌, ◌||◌, ◌⊎◌, subst, arith, append_assoc, true≢false}
+use Rattle.std.proofs.Common.{◌≡◌, inl, inr, ℕ, ◌+◌, ◌≤◌, Bool, true, false, List, [], ◌∷◌, ◌++◌, length, take, drop, Ok, Err, refl, sym, ap, ◌∙◌, ◌||◌, subst, arith, append_assoc, true≢false}
 use Rattle.std.specs.Prelude.{◌↔◌, ◌&&◌, MatchResult}
 use Rattle.std.specs.FinMap.{values}
 use Rattle.std.specs.List.{list_any}
@@ -208,10 +208,6 @@ module _ (inputs : List (List ℕ)) where
   refused_early V3 plan e refused = refused
   refused_early V2 (Leaf i) e refused = refused
   refused_early V2 (Both' p left q right) e refused = inl refused
-
-  pub refused_first : (version : FormatVersion) (plan : MergePlan) (Other : CoreError → Type 0) (e : CoreError) → Other e ⊎ TreeRefusal inputs plan e → Other e ⊎ TreeRefusalIn version inputs plan e
-  refused_first version plan Other e (inl cause) = inl cause
-  refused_first version plan Other e (inr refused) = inr (refused_early version plan e refused)
 
 -- what holds of all that is made and of all refusals
 module _ (Makes As : List ℕ → Type 0) (Refuses For : CoreError → Type 0) (made : (bytes : List ℕ) → Makes bytes → As bytes) (refused : (e : CoreError) → Refuses e → For e) where

@@ -31,7 +31,7 @@ use Rattle.xet_core_structures.specs.declared.set_operations.agreement.MergeOutc
 use Rattle.xet_core_structures.specs.TwoShards.ByteResults.{key_of, LoadRefusal}
 use Rattle.xet_core_structures.specs.Records.ShardContents.{HasShard}
 use Rattle.xet_core_structures.specs.Trees.Filling.{Fills}
-use Rattle.xet_core_structures.specs.Trees.InVersions.{TreeWritesIn}
+use Rattle.xet_core_structures.specs.Trees.InVersions.{TreeWritesIn, TreeRefusalIn}
 use Rattle.xet_core_structures.specs.Trees.MergeTrees.{leaves, TreeWrites, InputIs}
 use Rattle.xet_core_structures.specs.Trees.Parts.{SectionsRefusal}
 
@@ -123,11 +123,21 @@ pub record HasAllDisagreements (inputs : List (List ℕ)) (found : List Disagree
   pub in_order : AreInOrder found
   pub others : (h : RecordHash) → ¬ Contains (map (λ d. d.record_hash) found) h → AgreeOn inputs h
 
--- an allocation failed, or no shard is read from an input
-abbrev pub InputsRefusal : List (List ℕ) → CoreError → Type 0
-InputsRefusal inputs e =
+-- an allocation failed; or no shard is read from an input, and each before it is as it should be
+abbrev pub FirstRefusal : List (List ℕ) → (ℕ → Type 0) → CoreError → Type 0
+FirstRefusal inputs IsRead e =
     (e ≡ OutOfMemory)
-    ⊎ ((i : ℕ) × (bytes : List ℕ) × (slice_get inputs i ≡ Some bytes) × ShardRefusal bytes e)
+    ⊎ ((i : ℕ) × (bytes : List ℕ) × (slice_get inputs i ≡ Some bytes) × ShardRefusal bytes e
+    × ((j : ℕ) → j < i → IsRead j))
+
+-- an allocation failed; or no shard is read from an input, and each before it holds one
+abbrev pub InputsRefusal : List (List ℕ) → CoreError → Type 0
+InputsRefusal inputs = FirstRefusal inputs (λ i. (s : Shard) × HoldsAt inputs i s)
+
+-- an allocation failed; or no shard is read from an input, and each before it holds a well-formed
+-- one
+abbrev pub WellFormedRefusal : List (List ℕ) → CoreError → Type 0
+WellFormedRefusal inputs = FirstRefusal inputs (IsWellFormedAt inputs)
 
 -- the bytes have this key in their footer, if they have a header and a footer
 abbrev pub HasKey : List ℕ → DataHash → Type 0
@@ -138,6 +148,14 @@ abbrev pub HaveKey : List (List ℕ) → MergePlan → DataHash → Type 0
 HaveKey inputs plan key =
     (i : ℕ) (bytes : List ℕ) → Contains (leaves plan) i → slice_get inputs i ≡ Some bytes
     → HasKey bytes key
+
+-- why inputs that have to agree are not merged in a version: an allocation failed; or one is not
+-- read, and each before it holds a well-formed shard; or all hold such shards, which agree, and
+-- their tree fails
+abbrev pub AgreeingRefusal : FormatVersion → List (List ℕ) → MergePlan → CoreError → Type 0
+AgreeingRefusal version inputs plan e =
+    WellFormedRefusal inputs e
+    ⊎ (HoldShards inputs × InputsAgree inputs × TreeRefusalIn version inputs plan e)
 
 -- what a merge of inputs that have to agree gives: the bytes that the tree writes, if the inputs
 -- hold well-formed shards and these agree; else the first of all that do not agree, or a record

@@ -1,5 +1,7 @@
 -- Steps towards what `Agreement` defines, of which contracts here and in the crate above speak.
-use Rattle.std.specs.Prelude.{◌≡◌, ⊤, ℕ, ◌<◌, ◌≤◌, IsTrue, List, length, All, Contains, Option, None, Some, MatchOption, slice_get}
+use Rattle.std.specs.Prelude.{◌≡◌, ◌⊎◌, ⊤, ℕ, ◌<◌, ◌≤◌, IsTrue, List, length, All, Contains, Option, None, Some, MatchOption, slice_get}
+use Rattle.xet_base.specs.declared.error.CoreError.{CoreError}
+use Rattle.xet_base.specs.declared.error.CoreError.TheVariants.{OutOfMemory}
 use Rattle.xet_base.specs.declared.merklehash.DataHash.{DataHash}
 use Rattle.xet_records.specs.declared.file_structs.header.FileDataSequenceHeader.{FileDataSequenceHeader}
 use Rattle.xet_records.specs.declared.file_structs.part.OptionalPart.{OptionalPart}
@@ -23,7 +25,7 @@ use Rattle.xet_core_structures.specs.declared.set_operations.agreement.WellForme
 use Rattle.xet_core_structures.specs.declared.set_operations.agreement.WellFormed.TheVariants.{Opened, Malformed as FormedMalformed}
 use Rattle.xet_core_structures.specs.Agreement.Agreement.{HasMalformed, HoldShards, IsFirstMalformed, InputsAgree, HasAllDisagreements}
 use Rattle.xet_core_structures.specs.Records.ShardContents.{HasShard}
-use Rattle.xet_core_structures.specs.Trees.MergeTrees.{TreeWrites}
+use Rattle.xet_core_structures.specs.Trees.MergeTrees.{TreeWrites, TreeRefusal}
 use Rattle.xet_core_structures.specs.TwoShards.ByteResults.{UnitesBytes}
 use Rattle.xet_core_structures.specs.Steps.Parts.{AreOpened, IsPartOf}
 use Rattle.xet_core_structures.specs.Steps.Placed.{PlacesAll}
@@ -97,7 +99,11 @@ abbrev pub IsAgreed : List (List ℕ) → MergePlan → TreePart → Type 0
 IsAgreed inputs plan part =
     InputsAgree inputs × ((bytes : List ℕ) × TreeWrites inputs plan bytes × IsPartOf plan bytes part)
 
--- the same, or all that disagree, of which there is one at least
+-- an allocation failed, or the inputs agree and their tree fails
+abbrev pub AgreedRefusal : List (List ℕ) → MergePlan → CoreError → Type 0
+AgreedRefusal inputs plan e = (e ≡ OutOfMemory) ⊎ (InputsAgree inputs × TreeRefusal inputs plan e)
+
+-- what the tree of inputs that agree gives, or all that disagree, of which there is one at least
 abbrev pub IsAgreedPart : List (List ℕ) → MergePlan → AgreedPart → Type 0
 IsAgreedPart inputs plan (Agreed part) = IsAgreed inputs plan part
 IsAgreedPart inputs plan (Disagreements found) =

@@ -15,13 +15,12 @@
 //! (`strict_tree`), so the merge itself finds that inputs agree. Only if it fails does
 //! `compared_tree` look for the records that disagree.
 
-ghost use Rattle.std.specs.Prelude.{◌≡◌, ◌⊎◌, ◌++◌, ℕ, List, map, MatchOption, MatchResult, OnOk, IfOk, IfErr, IfSome};
+ghost use Rattle.std.specs.Prelude.{◌≡◌, ◌++◌, ℕ, List, map, MatchOption, MatchResult, OnOk, IfOk, IfErr, IfSome};
 ghost use Rattle.xet_base.specs.declared.error.CoreError.TheVariants.{OutOfMemory};
-ghost use Rattle.xet_core_structures.specs.Trees.InVersions.{TreeRefusalIn};
-ghost use Rattle.xet_core_structures.specs.Trees.MergeTrees.{TreeRefusal};
-ghost use Rattle.xet_core_structures.specs.Agreement.Agreement.{InputsAgree, InputsDisagree, HasAllDisagreements, InputsRefusal, HoldShards, IsFirstMalformed, IsMerged, MergesOrFinds, FillsOrFinds, disagreement_of};
-ghost use Rattle.xet_core_structures.specs.Steps.Agreement.{FindsMalformedIn, IsAgreed, IsAgreedPart, IsWellFormedOr};
+ghost use Rattle.xet_core_structures.specs.Agreement.Agreement.{InputsAgree, InputsDisagree, HasAllDisagreements, InputsRefusal, WellFormedRefusal, AgreeingRefusal, HoldShards, IsFirstMalformed, IsMerged, MergesOrFinds, FillsOrFinds, disagreement_of};
+ghost use Rattle.xet_core_structures.specs.Steps.Agreement.{FindsMalformedIn, IsAgreed, IsAgreedPart, AgreedRefusal, IsWellFormedOr};
 ghost use Rattle.xet_core_structures.specs.Steps.Parts.{AreOpened, IsPlacedOf};
+ghost use Rattle.xet_records.specs.declared.record_reader.FormatVersion.TheVariants.{V3};
 
 mod differing;
 mod kinds;
@@ -78,6 +77,9 @@ pub struct MalformedRecord {
 /// For each hash under which two of the shards that the inputs hold have records that do not agree,
 /// two such inputs: first of files, then of xorbs, and each in ascending order of the hashes. There
 /// is none exactly if each two of the shards agree.
+///
+/// The error is that of the first input that cannot be read, as a union would refuse it, or
+/// `OutOfMemory` if an allocation fails.
 pub fn find_disagreements(alloc: Global, inputs: &[&[u8]]) -> Result<Vec<Disagreement>>
     ensures { MatchResult result
         (λ found. HasAllDisagreements (map (λ x. x.now) inputs.now) found.items)
@@ -137,12 +139,13 @@ pub fn find_disagreement(alloc: Global, inputs: &[&[u8]]) -> Result<Option<Disag
 /// a well-formed shard. If such shards agree pairwise, under one key, each tree with a union over all
 /// of them gives the same bytes.
 ///
-/// The errors are those of [`find_disagreements`].
+/// The inputs are read one after another, up to the first that holds such a record, or that cannot
+/// be read, whose error is that of [`find_disagreements`].
 pub fn find_malformed(alloc: Global, inputs: &[&[u8]]) -> Result<Option<MalformedRecord>>
     ensures { MatchResult result
         (λ found. MatchOption found (HoldShards (map (λ x. x.now) inputs.now))
         (IsFirstMalformed (map (λ x. x.now) inputs.now)))
-        (InputsRefusal (map (λ x. x.now) inputs.now)) }
+        (WellFormedRefusal (map (λ x. x.now) inputs.now)) }
 {
     for at in 0..inputs.len() {
         let opened = open_input(alloc, input_at(inputs, at))?;
@@ -200,8 +203,7 @@ pub fn merge_or_disagreements(
 ) -> Result<AgreeingMerge>
     ensures { MatchResult result
         (MergesOrFinds version (map (λ x. x.now) inputs.now) plan.now)
-        (λ e. InputsRefusal (map (λ x. x.now) inputs.now) e
-        ⊎ TreeRefusalIn version (map (λ x. x.now) inputs.now) plan.now e) }
+        (AgreeingRefusal version (map (λ x. x.now) inputs.now) plan.now) }
 {
     let formed = open_well_formed(alloc, inputs)?;
     merge_formed(alloc, plan, &formed, version)
@@ -217,7 +219,7 @@ pub enum WellFormed<'a> {
 // Opens the inputs one after another, up to one that holds a malformed record.
 fn open_well_formed<'a>(alloc: Global, inputs: &[&'a [u8]]) -> Result<WellFormed<'a>>
     ensures { MatchResult result (IsWellFormedOr (map (λ x. x.now) inputs.now))
-        (InputsRefusal (map (λ x. x.now) inputs.now)) }
+        (WellFormedRefusal (map (λ x. x.now) inputs.now)) }
 {
     let mut opened = Vec::new(alloc);
     let mut at = 0;
@@ -244,8 +246,7 @@ fn merge_formed(
 ) -> Result<AgreeingMerge>
     requires { (inputs : List (List ℕ)) × IsWellFormedOr inputs formed.now }
     ensures { (inputs : List (List ℕ)) → IsWellFormedOr inputs formed.now → MatchResult result
-        (MergesOrFinds version inputs plan.now)
-        (λ e. InputsRefusal inputs e ⊎ TreeRefusalIn version inputs plan.now e) }
+        (MergesOrFinds version inputs plan.now) (AgreeingRefusal version inputs plan.now) }
 {
     match formed {
         WellFormed::Opened(opened) => merge_in_arena(alloc, plan, opened.as_slice(), version),
@@ -265,7 +266,7 @@ fn merge_in_arena<'a>(
     requires { (inputs : List (List ℕ)) × AreOpened inputs opened.now × HoldShards inputs }
     ensures { (inputs : List (List ℕ)) → AreOpened inputs opened.now → HoldShards inputs
         → MatchResult result (MergesOrFinds version inputs plan.now)
-        (λ e. InputsRefusal inputs e ⊎ TreeRefusalIn version inputs plan.now e) }
+        (AgreeingRefusal version inputs plan.now) }
 {
     let arena = Bump::new(alloc);
     let agreed = agreed_part(alloc, &arena, plan, opened)?;
@@ -303,8 +304,7 @@ pub fn merge_or_disagreements_into(
 ) -> Result<AgreeingFill>
     ensures { MatchResult result
         (FillsOrFinds version (map (λ x. x.now) inputs.now) plan.now out.old out.new)
-        (λ e. (InputsRefusal (map (λ x. x.now) inputs.now) e
-        ⊎ TreeRefusalIn version (map (λ x. x.now) inputs.now) plan.now e)
+        (λ e. AgreeingRefusal version (map (λ x. x.now) inputs.now) plan.now e
         × (out.new ≡ out.old)) }
 {
     let formed = open_well_formed(alloc, inputs)?;
@@ -322,8 +322,7 @@ fn fill_formed(
     requires { (inputs : List (List ℕ)) × IsWellFormedOr inputs formed.now }
     ensures { (inputs : List (List ℕ)) → IsWellFormedOr inputs formed.now → MatchResult result
         (FillsOrFinds version inputs plan.now out.old out.new)
-        (λ e. (InputsRefusal inputs e ⊎ TreeRefusalIn version inputs plan.now e)
-        × (out.new ≡ out.old)) }
+        (λ e. AgreeingRefusal version inputs plan.now e × (out.new ≡ out.old)) }
 {
     match formed {
         WellFormed::Opened(opened) => fill_in_arena(alloc, plan, opened.as_slice(), version, out),
@@ -342,8 +341,7 @@ fn fill_in_arena<'a>(
     requires { (inputs : List (List ℕ)) × AreOpened inputs opened.now × HoldShards inputs }
     ensures { (inputs : List (List ℕ)) → AreOpened inputs opened.now → HoldShards inputs
         → MatchResult result (FillsOrFinds version inputs plan.now out.old out.new)
-        (λ e. (InputsRefusal inputs e ⊎ TreeRefusalIn version inputs plan.now e)
-        × (out.new ≡ out.old)) }
+        (λ e. AgreeingRefusal version inputs plan.now e × (out.new ≡ out.old)) }
 {
     let arena = Bump::new(alloc);
     let agreed = agreed_part(alloc, &arena, plan, opened)?;
@@ -371,8 +369,7 @@ fn agreed_part<'a>(
     opened: &'a [OpenShard<'a>],
 ) -> Result<AgreedPart<'a>>
     ensures { (inputs : List (List ℕ)) → AreOpened inputs opened.now → HoldShards inputs
-        → MatchResult result (IsAgreedPart inputs plan.now)
-        (λ e. InputsRefusal inputs e ⊎ TreeRefusal inputs plan.now e) }
+        → MatchResult result (IsAgreedPart inputs plan.now) (AgreedRefusal inputs plan.now) }
 {
     let tried = tried_tree(alloc, arena, plan, opened)?;
     match tried {
@@ -410,7 +407,7 @@ fn compared_tree<'a>(
     opened: &'a [OpenShard<'a>],
 ) -> Result<AgreedPart<'a>>
     ensures { (inputs : List (List ℕ)) → AreOpened inputs opened.now → MatchResult result
-        (IsAgreedPart inputs plan.now) (λ e. InputsRefusal inputs e ⊎ TreeRefusal inputs plan.now e) }
+        (IsAgreedPart inputs plan.now) (AgreedRefusal inputs plan.now) }
 {
     let found = disagreements_of(alloc, opened)?;
     if !found.is_empty() {
@@ -435,8 +432,7 @@ pub enum MergeOutcome {
 pub fn merge_agreeing(alloc: Global, plan: &MergePlan, inputs: &[&[u8]]) -> Result<MergeOutcome>
     ensures { MatchResult result
         (IsMerged (map (λ x. x.now) inputs.now) plan.now)
-        (λ e. InputsRefusal (map (λ x. x.now) inputs.now) e
-        ⊎ TreeRefusal (map (λ x. x.now) inputs.now) plan.now e) }
+        (AgreeingRefusal V3 (map (λ x. x.now) inputs.now) plan.now) }
 {
     let merged = merge_or_disagreements(alloc, plan, inputs, FormatVersion::V3)?;
     match merged {

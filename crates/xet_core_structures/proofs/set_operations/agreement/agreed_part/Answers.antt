@@ -7,7 +7,7 @@ use Rattle.xet_core_structures.proofs.set_operations.agreement.agreed_part.Goals
 pub returns-in_err-tried : goal.returns-in_err-tried
 returns-in_err-tried c = λ inputs are hold.
     let p = err_from_is_err_and c.from_residual.result c.from_residual.ensures.1 in
-    rw (p.1, p.2) (inl (inl (c.in_err-tried.ensures inputs are hold)))
+    rw (p.1, p.2) (inl (c.in_err-tried.ensures inputs are hold))
 
 pub returns-in-Some : goal.returns-in-Some
 returns-in-Some c = λ inputs are hold. subst (λ o. IfSome o (IsAgreed inputs c.args.plan.now)) c.in-Some.is (c.in_ok-tried.ensures inputs are hold)

@@ -1,11 +1,17 @@
 use Rattle.std.proofs.Common.{inl, inr, ℕ, ◌≤◌, List, length, map, Bor, rules, sym, arith, subst}
 use Rattle.std.proofs.lemmas.List.{length-map}
+use Rattle.std.proofs.lemmas.Result.{err_from_is_err_and}
 use Rattle.xet_shards.specs.Content.Shard.{Shard, IsShard}
 use Rattle.xet_core_structures.specs.Agreement.Agreement.{HoldsAt, HasMalformed}
 use Rattle.xet_core_structures.specs.Records.ShardContents.{HasShard}
 use Rattle.xet_core_structures.specs.Steps.Agreement.{FindsMalformedIn}
 use Rattle.xet_core_structures.proofs.Records.Items.{below_or_at}
 use Rattle.xet_core_structures.proofs.set_operations.agreement.find_malformed.Goals as goal
+
+pub returns-in_err-opened : goal.returns-in_err-opened
+returns-in_err-opened c =
+    let p = err_from_is_err_and c.from_residual.result c.from_residual.ensures.1 in
+    rw (p.1, p.2) (inr (c.loop-at.at, c.input_at.result.now, c.input_at.ensures, c.in_err-opened.ensures, c.loop-at.invariant))
 
 pub returns-in-Some : goal.returns-in-Some
 returns-in-Some c =

@@ -1,8 +1,8 @@
 use Rattle.std.proofs.Common.{inr, subst}
 use Rattle.std.proofs.lemmas.Result.{err_from_is_err_and}
-use Rattle.xet_core_structures.specs.Agreement.Agreement.{InputsRefusal}
 use Rattle.xet_core_structures.specs.Steps.Agreement.{IsAgreedPart}
-use Rattle.xet_core_structures.proofs.Trees.InVersions.{made_of_tree, refused_of_tree, refused_first}
+use Rattle.xet_core_structures.proofs.Agreement.AgreeingInputs.{refused_agreeing}
+use Rattle.xet_core_structures.proofs.Trees.InVersions.{made_of_tree, refused_of_tree}
 use Rattle.xet_core_structures.proofs.Trees.Parts.{part_of_tree}
 use Rattle.xet_core_structures.proofs.set_operations.agreement.merge_in_arena.Goals as goal
 
@@ -15,7 +15,7 @@ part_bytes_in-requires c =
 pub returns-in_err-agreed : goal.returns-in_err-agreed
 returns-in_err-agreed c = λ inputs are hold.
     let p = err_from_is_err_and c.from_residual.result c.from_residual.ensures.1 in
-    rw (p.1, p.2) (refused_first inputs c.args.version c.args.plan.now (InputsRefusal inputs) _ (c.in_err-agreed.ensures inputs are hold))
+    rw (p.1, p.2) (refused_agreeing inputs c.args.version c.args.plan.now _ hold (c.in_err-agreed.ensures inputs are hold))
 
 pub returns-in-Agreed : goal.returns-in-Agreed
 returns-in-Agreed c = λ inputs are hold.
@@ -30,7 +30,7 @@ returns-in_err-bytes-in-Agreed c = λ inputs are hold.
     let part = c.in-Agreed.part in
     let (agree, (bytes, writes, is)) = subst (IsAgreedPart inputs plan) c.in-Agreed.is (c.in_ok-agreed.ensures inputs are hold) in
     let p = err_from_is_err_and c.from_residual-in_err-bytes-in-Agreed.result c.from_residual-in_err-bytes-in-Agreed.ensures.1 in
-    rw (p.1, p.2) (inr (refused_of_tree inputs c.args.version plan bytes part _ writes is (c.in_err-bytes-in-Agreed.ensures bytes (part_of_tree plan bytes part is))))
+    rw (p.1, p.2) (inr (hold, agree, refused_of_tree inputs c.args.version plan bytes part _ writes is (c.in_err-bytes-in-Agreed.ensures bytes (part_of_tree plan bytes part is))))
 
 pub returns : goal.returns
 returns c = λ inputs are hold.

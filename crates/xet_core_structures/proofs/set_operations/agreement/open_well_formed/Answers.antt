@@ -16,7 +16,7 @@ loop-at-init c = (λ i low. absurd (omega (arith, low)), subst (AreOpened []) (s
 pub returns-in_err-shard : goal.returns-in_err-shard
 returns-in_err-shard c =
     let p = err_from_is_err_and c.from_residual.result c.from_residual.ensures.1 in
-    rw (p.1, p.2) (inr (c.loop-at.at, c.input_at.result.now, c.input_at.ensures, c.in_err-shard.ensures))
+    rw (p.1, p.2) (inr (c.loop-at.at, c.input_at.result.now, c.input_at.ensures, c.in_err-shard.ensures, c.loop-at.invariant.0))
 
 pub returns-in-Some : goal.returns-in-Some
 returns-in-Some c =

@@ -1,8 +1,10 @@
 use Rattle.std.proofs.Common.{◌≤◌, inr, ℕ, List, [], length, map, take_all, rules, arith, subst, sym}
 use Rattle.std.specs.Borrow.{Bor}
 use Rattle.std.proofs.lemmas.List.{length-map}
+use Rattle.std.proofs.lemmas.Option.{slice_get_within}
 use Rattle.std.proofs.lemmas.Result.{err_from_is_err_and}
 use Rattle.xet_core_structures.specs.Steps.Parts.{AreOpened}
+use Rattle.xet_core_structures.proofs.Agreement.AgreeingInputs.{held_before}
 use Rattle.xet_core_structures.proofs.Trees.OpenedInputs.{one_more_opened}
 use Rattle.xet_core_structures.proofs.set_operations.trees.inputs.open_inputs.Goals as goal
 
@@ -11,8 +13,11 @@ loop-at-init c = subst (AreOpened []) (sym c.new-opened.ensures.items) tt
 
 pub returns-in_err-shard : goal.returns-in_err-shard
 returns-in_err-shard c =
+    let inputs : List (List ℕ) = map (λ (x : Bor (List ℕ)). x.now) c.args.inputs.now in
+    let here = slice_get_within inputs c.loop-at.at c.input_at.result.now c.input_at.ensures in
+    let held = held_before c.loop-at.opened.items inputs c.loop-at.at c.loop-at.invariant in
     let p = err_from_is_err_and c.from_residual.result c.from_residual.ensures.1 in
-    rw (p.1, p.2) (inr (c.loop-at.at, c.input_at.result.now, c.input_at.ensures, c.in_err-shard.ensures))
+    rw (p.1, p.2) (inr (c.loop-at.at, c.input_at.result.now, c.input_at.ensures, c.in_err-shard.ensures, λ i low. held i low (omega (arith, low, here))))
 
 pub loop-at-preserved : goal.loop-at-preserved
 loop-at-preserved c =

@@ -1,7 +1,6 @@
-use Rattle.std.proofs.Common.{◌≡◌, None, ◌*◌, drop, refl, sym, subst, ◌∙◌}
+use Rattle.std.proofs.Common.{◌≡◌, ◌*◌, drop, refl, sym, subst, ◌∙◌}
 use Rattle.std.proofs.lemmas.Result.{err_from_is_err_and}
 use Rattle.xet_base.specs.Source.{ReadsBytes, ReadFails, bytes_left}
-use Rattle.xet_records.specs.RecordKind.{in_version}
 use Rattle.xet_records.specs.Reading.{ReadsRowsAfter}
 use Rattle.xet_core_structures.proofs.TwoShards.OneSection.{no_first, rows_not_read}
 use Rattle.xet_core_structures.proofs.Trees.Placing.{placing_start, placing_serves, placing_on, placing_stops, placing_ends}
