@@ -32,7 +32,8 @@ impl Answer {
     }
 }
 
-fn count_bytes(alloc: Global, count: u64) -> Result<Vec<u8>>
+/// The eight bytes of a number, lowest first.
+pub fn count_bytes(alloc: Global, count: u64) -> Result<Vec<u8>>
     ensures { IfOk result (λ bytes. bytes.items ≡ to_le_bytes w64 count) }
 {
     let mut bytes = Vec::new(alloc);

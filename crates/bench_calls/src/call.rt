@@ -13,7 +13,6 @@ use crate::operation::Operation;
 use crate::start::{Start, files_of, xorbs_of};
 use shard_bytes::combine::{Operation as Combination, combine_bytes};
 use shard_bytes::export::{Export, ExportParts, export_bytes};
-use shard_bytes::load::load_bytes;
 use shard_bytes::minimal::minimal_bytes;
 use std::alloc::Global;
 use xet_core_structures::error::{CoreError, Result};
@@ -54,7 +53,6 @@ impl Call<'_> {
         let alloc = self.alloc;
         let shard = self.first;
         match operation {
-            Operation::Load => Ok(Answer::Count(load_bytes(alloc, shard)?.num_file_entries())),
             Operation::ReadMinimal => Ok(Answer::Count(minimal_records(alloc, shard)?)),
             Operation::ReadFiles => Ok(Answer::Count(files_of(alloc, shard)?.len() as u64)),
             Operation::ReadXorbs => Ok(Answer::Count(xorbs_of(alloc, shard)?.len() as u64)),

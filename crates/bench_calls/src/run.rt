@@ -6,12 +6,13 @@ ghost use Rattle.xet_core_structures.specs.declared.merklehash.DataHash.{DataHas
 ghost use Rattle.std.specs.Fn.{iterate};
 ghost use Rattle.xet_core_structures.specs.Hash.{hash_bytes};
 ghost use Rattle.xet_core_structures.specs.KeyedHash.{hmac};
-ghost use Rattle.bench_calls.specs.Answers.{number_of, IsAnswerOf, Answers, Delivers};
+ghost use Rattle.bench_calls.specs.Answers.{number_of, IsAnswerOf, IsCount, Answers, Delivers};
 
-use crate::answer::Answer;
+use crate::answer::{Answer, count_bytes};
 use crate::call::Call;
 use crate::operation::Operation;
 use crate::start::Start;
+use shard_bytes::load::load_bytes;
 use std::alloc::Global;
 use xet_core_structures::error::Result;
 use xet_core_structures::merklehash::{HMACKey, MerkleHash};
@@ -79,8 +80,11 @@ fn run(
     let hashes = hashes_of(alloc, hashes)?;
     let hashes = hashes.as_slice();
     let key = first_hash(hashes);
-    if let Operation::Hmac = operation {
-        return key_bytes(alloc, keyed_again(key, key, times));
+    // Of calls as short as these the loop below would measure itself.
+    match operation {
+        Operation::Hmac => return key_bytes(alloc, keyed_again(key, key, times)),
+        Operation::Load => return load_again(alloc, first, times),
+        _ => {}
     }
     let call = Call {
         alloc,
@@ -102,6 +106,17 @@ fn repeat(call: &Call<'_>, operation: Operation, times: u64) -> Result<Answer>
         let _again = call.make(operation, &start)?;
     }
     call.make(operation, &start)
+}
+
+// Reads header and footer so often. Returns the number of files that the last time gave, else 0.
+fn load_again(alloc: Global, shard: &[u8], times: u64) -> Result<Vec<u8>>
+    ensures { IfOk result (λ bytes. IsCount bytes.items) }
+{
+    let mut files = 0;
+    for _ in 0..times {
+        files = load_bytes(alloc, shard)?.num_file_entries();
+    }
+    count_bytes(alloc, files)
 }
 
 // The keyed hash of the keyed hash of .. of a hash.
