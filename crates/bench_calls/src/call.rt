@@ -6,8 +6,8 @@ ghost use Rattle.bench_calls.specs.Answers.{AreBytesOf, IsAnswerOf};
 
 use crate::answer::{Answer, shard_to_bytes};
 use crate::counts::{
-    chunks_found, chunks_found_in_memory, files_added, files_found, files_found_in_bytes,
-    minimal_records, rows_found, xorbs_added,
+    chunks_found, chunks_found_in_memory, files_added, files_found, minimal_records, rows_found,
+    xorbs_added,
 };
 use crate::operation::Operation;
 use crate::start::{Start, files_of, xorbs_of};
@@ -58,9 +58,6 @@ impl Call<'_> {
             Operation::ReadXorbs => Ok(Answer::Count(xorbs_of(alloc, shard)?.len() as u64)),
             Operation::AddFiles => Ok(Answer::Count(files_added(alloc, shard)?)),
             Operation::AddXorbs => Ok(Answer::Count(xorbs_added(alloc, shard)?)),
-            Operation::FindFilesInBytes => {
-                Ok(Answer::Count(files_found_in_bytes(alloc, shard, self.hashes)?))
-            }
             Operation::Union => self.combine(Combination::Union),
             Operation::Difference => self.combine(Combination::Difference),
             Operation::Export => self.export(),

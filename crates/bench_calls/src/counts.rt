@@ -1,4 +1,7 @@
 //! Operations that count what they read or find.
+//!
+//! Each is compiled by itself. In the function that chooses an operation, their loops would have to
+//! share its registers. `files_found_in_bytes` has one caller, a loop, and may be inlined there.
 
 use crate::start::{add_files, add_xorbs};
 use shard_bytes::find::find_file;
@@ -14,12 +17,14 @@ use xet_core_structures::streaming_shard::MDBMinimalShard;
 const QUERY_LENGTH: usize = 8;
 
 /// The records of both sections, read as views.
+#[inline(never)]
 pub fn minimal_records(alloc: Global, mut shard: &[u8]) -> Result<u64> {
     let minimal = MDBMinimalShard::from_reader(alloc, &mut shard, true, true)?;
     Ok((minimal.num_files() as u64).wrapping_add(minimal.num_xorb() as u64))
 }
 
 /// The files of a shard, added to one in memory.
+#[inline(never)]
 pub fn files_added(alloc: Global, shard: &[u8]) -> Result<u64> {
     let mut added = MDBInMemoryShard::new(alloc);
     add_files(alloc, shard, &mut added)?;
@@ -27,6 +32,7 @@ pub fn files_added(alloc: Global, shard: &[u8]) -> Result<u64> {
 }
 
 /// The xorbs of a shard, added to one in memory.
+#[inline(never)]
 pub fn xorbs_added(alloc: Global, shard: &[u8]) -> Result<u64> {
     let mut added = MDBInMemoryShard::new(alloc);
     add_xorbs(alloc, shard, &mut added)?;
@@ -34,6 +40,7 @@ pub fn xorbs_added(alloc: Global, shard: &[u8]) -> Result<u64> {
 }
 
 /// The files that a shard has, of which header and footer were read.
+#[inline(never)]
 pub fn files_found(
     alloc: Global,
     info: &MDBShardInfo,
@@ -65,6 +72,7 @@ pub fn files_found_in_bytes(alloc: Global, shard: &[u8], files: &[MerkleHash]) -
 }
 
 /// The rows of the file table that have the first word of a hash.
+#[inline(never)]
 pub fn rows_found(
     alloc: Global,
     info: &MDBShardInfo,
@@ -82,6 +90,7 @@ pub fn rows_found(
 }
 
 /// The chunks in the runs that are found of each `QUERY_LENGTH` hashes.
+#[inline(never)]
 pub fn chunks_found(
     alloc: Global,
     info: &MDBShardInfo,
@@ -99,6 +108,7 @@ pub fn chunks_found(
 }
 
 /// The same of a shard that is in memory.
+#[inline(never)]
 pub fn chunks_found_in_memory(shard: &MDBInMemoryShard, hashes: &[MerkleHash]) -> u64 {
     let mut chunks: u64 = 0;
     for query in hashes.chunks(QUERY_LENGTH) {

@@ -10,6 +10,7 @@ ghost use Rattle.bench_calls.specs.Answers.{number_of, IsAnswerOf, IsCount, Answ
 
 use crate::answer::{Answer, count_bytes};
 use crate::call::Call;
+use crate::counts::files_found_in_bytes;
 use crate::operation::Operation;
 use crate::start::Start;
 use shard_bytes::load::load_bytes;
@@ -80,10 +81,11 @@ fn run(
     let hashes = hashes_of(alloc, hashes)?;
     let hashes = hashes.as_slice();
     let key = first_hash(hashes);
-    // Of calls as short as these the loop below would measure itself.
+    // Calls as short as these are repeated in a loop of their own, as a caller's loop would be.
     match operation {
         Operation::Hmac => return key_bytes(alloc, keyed_again(key, key, times)),
         Operation::Load => return load_again(alloc, first, times),
+        Operation::FindFilesInBytes => return find_again(alloc, first, hashes, times),
         _ => {}
     }
     let call = Call {
@@ -117,6 +119,17 @@ fn load_again(alloc: Global, shard: &[u8], times: u64) -> Result<Vec<u8>>
         files = load_bytes(alloc, shard)?.num_file_entries();
     }
     count_bytes(alloc, files)
+}
+
+// Looks up files in the bytes of a shard so often. Returns how many the last time found, else 0.
+fn find_again(alloc: Global, shard: &[u8], files: &[MerkleHash], times: u64) -> Result<Vec<u8>>
+    ensures { IfOk result (λ bytes. IsCount bytes.items) }
+{
+    let mut found = 0;
+    for _ in 0..times {
+        found = files_found_in_bytes(alloc, shard, files)?;
+    }
+    count_bytes(alloc, found)
 }
 
 // The keyed hash of the keyed hash of .. of a hash.
