@@ -13,7 +13,8 @@ use xet_core_structures::source::MemorySource;
 
 /// The reports of the files in the bytes of a shard, in order.
 ///
-/// The errors are those of [`load_bytes`] and of [`MDBShardInfo::read_all_file_info_sections`].
+/// The errors are those of [`MDBShardInfo::load_from_reader`] and of
+/// [`MDBShardInfo::read_all_file_info_sections`].
 pub fn file_reports(
     alloc: Global,
     bytes: &[u8],

@@ -35,6 +35,10 @@ use Rattle.xet_core_structures.specs.Trees.InVersions.{TreeWritesIn, TreeRefusal
 use Rattle.xet_core_structures.specs.Trees.MergeTrees.{leaves, TreeWrites, InputIs}
 use Rattle.xet_core_structures.specs.Trees.Parts.{SectionsRefusal}
 
+-- a property holds of each number below n
+abbrev pub HoldsBelow : ℕ → (ℕ → Type 0) → Type 0
+HoldsBelow n P = (i : ℕ) → i < n → P i
+
 -- two shards have records with this hash that do not agree
 abbrev pub DisagreeShards : Shard → Shard → RecordHash → Type 0
 DisagreeShards s t (File q) =
@@ -61,14 +65,14 @@ IsWellFormedAt inputs i = (s : Shard) × HoldsAt inputs i s × IsShard s
 
 -- each input holds a well-formed shard
 abbrev pub HoldShards : List (List ℕ) → Type 0
-HoldShards inputs = (i : ℕ) → i < length inputs → IsWellFormedAt inputs i
+HoldShards inputs = HoldsBelow (length inputs) (IsWellFormedAt inputs)
 
 -- the shard that the input with this number holds has, under this hash, a record that no shard may
 -- have, and each input before it holds a well-formed shard
 abbrev pub IsFirstMalformed : List (List ℕ) → MalformedRecord → Type 0
 IsFirstMalformed inputs m =
     (s : Shard) × HoldsAt inputs m.input s × HasMalformed s m.record_hash
-    × ((i : ℕ) → i < m.input → IsWellFormedAt inputs i)
+    × HoldsBelow m.input (IsWellFormedAt inputs)
 
 -- why no shard is read from bytes: header and footer are not read; or they are, and then a section
 -- is not read
@@ -83,7 +87,7 @@ AgreeAt inputs i j =
 
 -- each input holds a shard, and each two of these agree
 pub record InputsAgree (inputs : List (List ℕ)) : Type 0 where
-  pub held : (i : ℕ) → i < length inputs → (s : Shard) × HoldsAt inputs i s
+  pub held : HoldsBelow (length inputs) (λ i. (s : Shard) × HoldsAt inputs i s)
   pub pairs : (i j : ℕ) → AgreeAt inputs i j
 
 -- two inputs hold shards that have records with this hash that do not agree
@@ -118,17 +122,17 @@ pub record AreInOrder (found : List Disagreement) : Type 0 where
 -- each input holds a shard; these are disagreements of them, in order, each with another hash; and
 -- records with any other hash agree
 pub record HasAllDisagreements (inputs : List (List ℕ)) (found : List Disagreement) : Type 0 where
-  pub held : (i : ℕ) → i < length inputs → (s : Shard) × HoldsAt inputs i s
+  pub held : HoldsBelow (length inputs) (λ i. (s : Shard) × HoldsAt inputs i s)
   pub each : (d : Disagreement) → Contains found d → InputsDisagree inputs d
   pub in_order : AreInOrder found
   pub others : (h : RecordHash) → ¬ Contains (map (λ d. d.record_hash) found) h → AgreeOn inputs h
 
--- an allocation failed; or no shard is read from an input, and each before it is as it should be
+-- an allocation failed; or no shard is read from an input, and a property holds of each before it
 abbrev pub FirstRefusal : List (List ℕ) → (ℕ → Type 0) → CoreError → Type 0
-FirstRefusal inputs IsRead e =
+FirstRefusal inputs P e =
     (e ≡ OutOfMemory)
     ⊎ ((i : ℕ) × (bytes : List ℕ) × (slice_get inputs i ≡ Some bytes) × ShardRefusal bytes e
-    × ((j : ℕ) → j < i → IsRead j))
+    × HoldsBelow i P)
 
 -- an allocation failed; or no shard is read from an input, and each before it holds one
 abbrev pub InputsRefusal : List (List ℕ) → CoreError → Type 0
