@@ -22,7 +22,8 @@ use Rattle.xet_core_structures.specs.Trees.ExportTrees.{FitsOptions}
 use Rattle.xet_core_structures.specs.Records.Ranges.{IsPartOf, is_within}
 use Rattle.xet_core_structures.specs.Records.ShardContents.{HoldsShard, IsTruncated, IsMalformed}
 use Rattle.xet_core_structures.specs.Trees.MergeTrees.{leaves, InputIs, MergeRefused}
-use Rattle.xet_core_structures.specs.Trees.RangeTrees.{IsRangeOf, ReadRefusal, RangeWrites, RangeRefusal, IsRangeMerge, IsHeldLayout}
+use Rattle.xet_core_structures.specs.Trees.Parts.{ShardRefusal}
+use Rattle.xet_core_structures.specs.Trees.RangeTrees.{IsRangeOf, RangeWrites, RangeRefusal, IsRangeMerge, IsHeldLayout}
 use Rattle.xet_core_structures.proofs.Records.ByteUnions.{held_with_options, info_found, loads_well, fits_key}
 use Rattle.xet_core_structures.proofs.Records.ShardContents.{only_shard, held_whole, held_well}
 use Rattle.xet_core_structures.proofs.Records.Within.{part_is_shard, one_part, part_of, part_of_is, part_of-preserves}
@@ -58,7 +59,7 @@ module _ (range : HashRange) (inputs : List (List ℕ)) (key : DataHash) where
   part_shard t x (s, held, part) = part_is_shard (is_within range) s t part held.shard
 
   -- it is read, unless an allocation fails
-  part_read : (t c : Shard) (x : List ℕ) (e : CoreError) → HoldsWhole t x → ReadRefusal x e → MergeRefused c e
+  part_read : (t c : Shard) (x : List ℕ) (e : CoreError) → HoldsWhole t x → ShardRefusal x e → MergeRefused c e
   part_read t c x e (s, held, part) (inl load) = absurd (loads_well key s x held e load)
   part_read t c x e (s, held, part) (inr (info, ends, inl no_memory)) = inl no_memory
   part_read t c x e (s, held, part) (inr (info, ends, inr (inl (end, cut)))) =
@@ -89,7 +90,7 @@ module _ (range : HashRange) (inputs : List (List ℕ)) (key : DataHash) where
   range_refused (Leaf i) [] c err are agree join refusal = absurd are
   range_refused (Leaf i) (t ∷ ts) c err ((bytes, at, here), rest) agree join (inl (is, past)) = absurd (none-some bytes (sym (slice_get_past inputs i past) ∙ at))
   range_refused (Leaf i) (t ∷ ts) c err ((bytes, at, here), rest) agree join (inr (x, x_at, refusal)) =
-      part_read t c bytes err here (subst (λ b. ReadRefusal b err) (same_Some x bytes (sym x_at ∙ at)) refusal)
+      part_read t c bytes err here (subst (λ b. ShardRefusal b err) (same_Some x bytes (sym x_at ∙ at)) refusal)
   range_refused (Both' p left q right) parts c err are agree join (inl refusal) =
       let l = (sides_of key HasPartAt left right parts c are agree join).first in
       side_refused key HasPartAt left c err l (range_refused left l.shards l.join err l.are_at l.agree l.is_join refusal)
@@ -134,7 +135,7 @@ at_input (x ∷ xs) (suc i) d low = at_input xs i d (omega (arith, low))
 
 module _ (range : HashRange) (inputs : List (List ℕ)) where
   -- an input gives a part, or is refused
-  pub leaf_part : (i : ℕ) (x : List ℕ) (r : Result TreePart CoreError) → slice_get inputs i ≡ Some x → MatchResult r (λ part. (out : List ℕ) × IsRangeOf range x out × IsUnionPart out part) (ReadRefusal x)
+  pub leaf_part : (i : ℕ) (x : List ℕ) (r : Result TreePart CoreError) → slice_get inputs i ≡ Some x → MatchResult r (λ part. (out : List ℕ) × IsRangeOf range x out × IsUnionPart out part) (ShardRefusal x)
       → MatchResult r (λ part. (bytes : List ℕ) × RangeWrites range inputs (Leaf i) bytes × IsUnionPart bytes part) (RangeRefusal range inputs (Leaf i))
   leaf_part i x (Ok part) at (out, is, of_part) = (out, (x, at, is), of_part)
   leaf_part i x (Err e) at refusal = inr (x, at, refusal)

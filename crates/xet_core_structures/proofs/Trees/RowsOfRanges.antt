@@ -9,7 +9,8 @@ use Rattle.xet_core_structures.specs.declared.set_operations.MergePlan.TheVarian
 use Rattle.xet_core_structures.specs.declared.set_operations.ranges.HashRange.{HashRange}
 use Rattle.xet_core_structures.specs.declared.set_operations.rows.SectionRows.{SectionRows}
 use Rattle.xet_core_structures.specs.Trees.MergeTrees.{leaves}
-use Rattle.xet_core_structures.specs.Trees.RangeTrees.{IsRangeOf, ReadRefusal, RangeWrites, RangeRefusal}
+use Rattle.xet_core_structures.specs.Trees.Parts.{ShardRefusal}
+use Rattle.xet_core_structures.specs.Trees.RangeTrees.{IsRangeOf, RangeWrites, RangeRefusal}
 use Rattle.xet_core_structures.specs.Trees.RowTrees.{InputRowsAre, IsRowsOf, RowReadRefusal, RowsWrite, RowsRefusal, AreRowsOfRange, HaveRowsOfRange}
 use Rattle.xet_core_structures.proofs.LawProofs.RowSizes.{one_result}
 
@@ -24,7 +25,7 @@ module _ (range : HashRange) (starts ends : List SectionRows) (inputs : List (Li
       let out_is = one_result range start end x found out same is in
       (x, at, subst (λ t. t) (λ j. IsRangeOf range (input j) (out_is j)) of_range)
 
-  read_refused : (start end : SectionRows) (x out : List ℕ) (e : CoreError) → IsRowsOf range start end x out → IsRangeOf range x out → RowReadRefusal range start end x e → ReadRefusal x e
+  read_refused : (start end : SectionRows) (x out : List ℕ) (e : CoreError) → IsRowsOf range start end x out → IsRangeOf range x out → RowReadRefusal range start end x e → ShardRefusal x e
   read_refused start end x out e has of_range (inl no_memory) = inr (of_range.has.info, of_range.has.ends, inl no_memory)
   read_refused start end x out e has of_range (inr (inl load)) = inl load
   read_refused start end x out e has of_range (inr (inr (invalid, none))) = absurd (none out has)

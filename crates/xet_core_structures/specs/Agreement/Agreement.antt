@@ -28,12 +28,12 @@ use Rattle.xet_core_structures.specs.declared.set_operations.agreement.AgreeingF
 use Rattle.xet_core_structures.specs.declared.set_operations.agreement.AgreeingFill.TheVariants.{Bytes as FilledBytes, Disagreements as Disagreeing, Malformed as Misformed}
 use Rattle.xet_core_structures.specs.declared.set_operations.agreement.MergeOutcome.{MergeOutcome}
 use Rattle.xet_core_structures.specs.declared.set_operations.agreement.MergeOutcome.TheVariants.{Bytes, Disagreement as Disagreed, Malformed}
-use Rattle.xet_core_structures.specs.TwoShards.ByteResults.{key_of, LoadRefusal}
+use Rattle.xet_core_structures.specs.TwoShards.ByteResults.{key_of}
 use Rattle.xet_core_structures.specs.Records.ShardContents.{HasShard}
 use Rattle.xet_core_structures.specs.Trees.Filling.{Fills}
 use Rattle.xet_core_structures.specs.Trees.InVersions.{TreeWritesIn, TreeRefusalIn}
 use Rattle.xet_core_structures.specs.Trees.MergeTrees.{leaves, TreeWrites, InputIs}
-use Rattle.xet_core_structures.specs.Trees.Parts.{SectionsRefusal}
+use Rattle.xet_core_structures.specs.Trees.Parts.{ShardRefusal}
 
 -- a property holds of each number below n
 abbrev pub HoldsBelow : ℕ → (ℕ → Type 0) → Type 0
@@ -73,12 +73,6 @@ abbrev pub IsFirstMalformed : List (List ℕ) → MalformedRecord → Type 0
 IsFirstMalformed inputs m =
     (s : Shard) × HoldsAt inputs m.input s × HasMalformed s m.record_hash
     × HoldsBelow m.input (IsWellFormedAt inputs)
-
--- why no shard is read from bytes: header and footer are not read; or they are, and then a section
--- is not read
-abbrev pub ShardRefusal : List ℕ → CoreError → Type 0
-ShardRefusal bytes e =
-    LoadRefusal bytes e ⊎ ((info : MDBShardInfo) × HasHeaderAndFooter bytes info × SectionsRefusal bytes info e)
 
 -- the shards that two inputs hold agree
 abbrev pub AgreeAt : List (List ℕ) → ℕ → ℕ → Type 0

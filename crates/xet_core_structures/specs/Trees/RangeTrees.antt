@@ -5,8 +5,6 @@ use Rattle.std.specs.List.{AllZip}
 use Rattle.xet_base.specs.declared.error.CoreError.{CoreError}
 use Rattle.xet_base.specs.declared.error.CoreError.TheVariants.{InvalidArguments}
 use Rattle.xet_base.specs.declared.merklehash.DataHash.{DataHash}
-use Rattle.xet_shards.specs.declared.shard_format.ends.info.MDBShardInfo.{MDBShardInfo}
-use Rattle.xet_shards.specs.Ends.Ends.{HasHeaderAndFooter}
 use Rattle.xet_shards.specs.Content.Joins.{IsJoinOf, AgreePairwise}
 use Rattle.xet_shards.specs.Content.Shard.{Shard, IsShard}
 use Rattle.xet_shards.specs.Export.InARow.{ShardPart, bytes_of_part, IsPartUnder, files_in, xorbs_in, options_under, ArePartsInARow}
@@ -16,9 +14,9 @@ use Rattle.xet_core_structures.specs.declared.set_operations.MergePlan.TheVarian
 use Rattle.xet_core_structures.specs.declared.set_operations.ranges.HashRange.{HashRange}
 use Rattle.xet_core_structures.specs.Records.Ranges.{IsPartOf, is_within}
 use Rattle.xet_core_structures.specs.Records.ShardContents.{HasShard, HoldsShard}
-use Rattle.xet_core_structures.specs.TwoShards.ByteResults.{keyed_layout, key_of, UnitesBytes, LoadRefusal, BytesRefusal}
+use Rattle.xet_core_structures.specs.TwoShards.ByteResults.{keyed_layout, key_of, UnitesBytes, BytesRefusal}
 use Rattle.xet_core_structures.specs.Trees.MergeTrees.{leaves, InputIs}
-use Rattle.xet_core_structures.specs.Trees.Parts.{SectionsRefusal}
+use Rattle.xet_core_structures.specs.Trees.Parts.{ShardRefusal}
 
 -- bytes hold a shard, and other bytes are the layout, under its key, of its records in a range
 pub record IsRangeOf (range : HashRange) (x out : List ℕ) : Type 0 where
@@ -31,10 +29,6 @@ pub record IsRangeOf (range : HashRange) (x out : List ℕ) : Type 0 where
   pub bytes_are : out ≡ keyed_layout part (key_of has.info)
   pub holds : HasShard part out
 
--- why the records of bytes are not read: header and footer are not read, or a section is not
-abbrev pub ReadRefusal : List ℕ → CoreError → Type 0
-ReadRefusal x e = LoadRefusal x e ⊎ ((info : MDBShardInfo) × HasHeaderAndFooter x info × SectionsRefusal x info e)
-
 -- what a tree writes of a range: at a leaf the layout of the input's records in it, else the union
 -- of what both sides write
 abbrev pub RangeWrites : HashRange → List (List ℕ) → MergePlan → List ℕ → Type 0
@@ -42,12 +36,12 @@ RangeWrites range inputs (Leaf i) out = InputIs inputs (λ x. IsRangeOf range x 
 RangeWrites range inputs (Both' p left q right) out =
     (x y : List ℕ) × RangeWrites range inputs left x × RangeWrites range inputs right y × UnitesBytes x y out
 
--- why a tree writes nothing of a range: a leaf has no input, or one whose records are not read;
+-- why a tree writes nothing of a range: a leaf has no input, or one from which no shard is read;
 -- else the left side writes nothing, or it does and the right side writes nothing, or both do and
 -- there is no union of what they write
 abbrev pub RangeRefusal : HashRange → List (List ℕ) → MergePlan → CoreError → Type 0
 RangeRefusal range inputs (Leaf i) e =
-    ((e ≡ InvalidArguments) × (length inputs ≤ i)) ⊎ InputIs inputs (λ x. ReadRefusal x e) i
+    ((e ≡ InvalidArguments) × (length inputs ≤ i)) ⊎ InputIs inputs (λ x. ShardRefusal x e) i
 RangeRefusal range inputs (Both' p left q right) e =
     RangeRefusal range inputs left e
     ⊎ ((x : List ℕ) × RangeWrites range inputs left x

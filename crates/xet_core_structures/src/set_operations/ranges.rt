@@ -12,10 +12,12 @@ ghost use Rattle.xet_core_structures.specs.Steps.Placed.{PlacesAll};
 ghost use Rattle.xet_core_structures.specs.Trees.Filling.{FillsWith};
 ghost use Rattle.xet_core_structures.specs.Trees.InVersions.{MadeIn, RefusedIn};
 ghost use Rattle.xet_core_structures.specs.Trees.MergeTrees.{MergeRefused};
-ghost use Rattle.xet_core_structures.specs.Trees.RangeTrees.{IsRangeOf, ReadRefusal, RangeWrites, RangeRefusal, IsRangeMerge, IsHeldLayout};
+ghost use Rattle.xet_core_structures.specs.Trees.Parts.{ShardRefusal};
+ghost use Rattle.xet_core_structures.specs.Trees.RangeTrees.{IsRangeOf, RangeWrites, RangeRefusal, IsRangeMerge, IsHeldLayout};
 
 use super::MergePlan;
-use super::trees::parts::{PlacedShard, TreePart, place_shard, unite_parts};
+use super::trees::inputs::open_input;
+use super::trees::parts::{PlacedShard, TreePart, unite_parts};
 use super::trees::placed::{PlacedRecord, copy_of};
 use super::trees::versions::{fill_with_part_in, part_bytes_in};
 use bumpalo::Bump;
@@ -23,11 +25,9 @@ use std::alloc::Global;
 use std::cmp::Ordering;
 use xet_base::error::{CoreError, Result};
 use xet_base::merklehash::MerkleHash;
-use xet_base::source::MemorySource;
 use xet_records::file_structs::MDBFileInfo;
 use xet_records::record_reader::{FormatVersion, SectionRecord};
 use xet_records::xorb_structs::MDBXorbInfo;
-use xet_shards::shard_format::MDBShardInfo;
 
 /// The hashes from `from` on and below `to`. There is none if `to` is not above `from`.
 #[derive(Clone, Copy, Debug, PartialEq, Eq)]
@@ -195,11 +195,10 @@ fn place_range<'a>(
 fn place_within<'a>(alloc: Global, bytes: &'a [u8], range: HashRange) -> Result<TreePart<'a>>
     ensures { MatchResult result
         (λ part. (out : List ℕ) × IsRangeOf range bytes.now out × IsUnionPart out part)
-        (ReadRefusal bytes.now) }
+        (ShardRefusal bytes.now) }
 {
-    let mut source = MemorySource::new(bytes);
-    let info = MDBShardInfo::load_from_reader(alloc, &mut source)?;
-    let shard = place_shard(alloc, bytes, &info)?;
+    let opened = open_input(alloc, bytes)?;
+    let shard = &opened.records;
     let files = records_within::<MDBFileInfo>(alloc, shard.files.as_slice(), range)?;
     let xorbs = records_within::<MDBXorbInfo>(alloc, shard.xorbs.as_slice(), range)?;
     Ok(TreePart::United(PlacedShard {

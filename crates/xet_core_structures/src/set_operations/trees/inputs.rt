@@ -1,8 +1,9 @@
 //! Inputs in memory that are opened once, and then compared and merged where they lie.
 
 ghost use Rattle.std.specs.Prelude.{◌≡◌, ◌<◌, map, length, Some, slice_get, MatchResult};
-ghost use Rattle.xet_core_structures.specs.Agreement.Agreement.{InputsRefusal, ShardRefusal};
+ghost use Rattle.xet_core_structures.specs.Agreement.Agreement.{InputsRefusal};
 ghost use Rattle.xet_core_structures.specs.Steps.Parts.{AreOpened, IsOpenOf};
+ghost use Rattle.xet_core_structures.specs.Trees.Parts.{ShardRefusal};
 
 use super::parts::{PlacedShard, place_shard};
 use std::alloc::Global;
