@@ -150,8 +150,8 @@ module _ (version : FormatVersion) (shards : List (Bor (List ℕ))) (Gives : (Li
         gives (IsConcatenation written) (IsConcatenationIn version written)
         (λ bytes numbered made number. concatenation_numbered version written inputs parts bytes numbered (old no_key parts.parts parts.fit parts.are) made number) (row written is)
 
-    pub concatenated : Concatenates version inputs Gives
-    concatenated = record {
+    pub concatenates : Concatenates version inputs Gives
+    concatenates = record {
       causes = gives (λ _. ⊤) (λ _. ⊤) (λ bytes numbered made is. tt) some _;
       parts = λ key parts fit are. parts_given key parts fit are _;
       order = λ key parts fit are each. gives (λ _. ⊤) (λ _. AscendBoth (files_in parts) (xorbs_in parts)) (λ bytes numbered made is. ascend key parts fit are each) some _;

@@ -77,8 +77,8 @@ from_nothing : (none rows : ℕ) → none ≡ 0 → rows ≤ MAX_ROWS → none +
 from_nothing none rows is fits = omega (arith, is, fits)
 
 module _ (s : Shard) (is : IsShard s) where
-  pub admitted : CanAddRecords (values s.files) (values s.xorbs)
-  admitted =
+  pub can_add_shard : CanAddRecords (values s.files) (values s.xorbs)
+  can_add_shard =
       let total = hash_cmp-IsTotalOrder in
       let exact = hash_cmp-IsAntisymmetric in
       let files = with_files empty_shard (values s.files) in

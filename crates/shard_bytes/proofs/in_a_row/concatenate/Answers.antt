@@ -1,7 +1,7 @@
 use Rattle.std.proofs.Common.{Bor, inl, ℕ, List, map, sym, ◌∙◌}
 use Rattle.std.proofs.lemmas.Result.{err_from_is_err_and}
 use Rattle.xet_core_structures.specs.InARow.{RefusesShardsInARow, files_in}
-use Rattle.shard_bytes.proofs.InARow.{appended_is, row_is, lacks_memory, fails_for_memory, fails_for_files, refuses_new, whole_numbered, none_concatenated, concatenated}
+use Rattle.shard_bytes.proofs.InARow.{appended_is, row_is, lacks_memory, fails_for_memory, fails_for_files, refuses_new, whole_numbered, none_concatenated, concatenates}
 use Rattle.shard_bytes.proofs.MemoryErrors.{from_memory}
 use Rattle.shard_bytes.proofs.in_a_row.concatenate.Goals as goal
 
@@ -20,7 +20,7 @@ returns-in-Ok c =
     let made = c.shards_in_a_row.new.writer in
     let empty = c.in_ok-bytes.ensures.empty in
     let number = whole_numbered c.args.version made.items c.as_mut_slice.result.now c.put_version.new.out made.len c.len.result c.as_mut_slice.ensures.value made.ok.0 (c.len.ensures ∙ made.ok.0) c.put_version.ensures in
-    concatenated c.args.version c.args.shards.now _ (λ M. M made.items) (λ M N numbered are IsCause. numbered made.items _ are number)
+    concatenates c.args.version c.args.shards.now _ (λ M. M made.items) (λ M N numbered are IsCause. numbered made.items _ are number)
     (λ key parts fit are. sym c.if-have_new_files.false ∙ c.have_new_files.ensures key parts fit are) tt
     (λ key parts fit are. appended_is _ _ _ empty (c.in-Ok.ensures.bytes key parts fit are))
     (λ key parts fit are each. c.in-Ok.ensures.order key parts fit are each)

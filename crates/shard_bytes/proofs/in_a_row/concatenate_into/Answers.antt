@@ -1,7 +1,7 @@
 use Rattle.std.proofs.Common.{Bor, ℕ, List, map, refl, sym, ◌∙◌}
 use Rattle.xet_core_structures.specs.InARow.{RefusesShardsInARow, files_in}
 use Rattle.xet_core_structures.specs.Trees.Filling.{Fills}
-use Rattle.shard_bytes.proofs.InARow.{lacks_still, fails_for_memory, fails_for_files, refuses_new, none_concatenated, concatenated}
+use Rattle.shard_bytes.proofs.InARow.{lacks_still, fails_for_memory, fails_for_files, refuses_new, none_concatenated, concatenates}
 use Rattle.shard_bytes.proofs.MemoryErrors.{from_memory}
 use Rattle.shard_bytes.proofs.in_a_row.concatenate_into.Goals as goal
 
@@ -12,7 +12,7 @@ returns-then-have_new_files c =
 
 pub returns-in-Ok : goal.returns-in-Ok
 returns-in-Ok c =
-    concatenated c.args.version c.args.shards.now _ (λ M. (bytes : List ℕ) × M bytes × Fills bytes c.args.out.now c.shards_in_a_row_into.new.out c.in-Ok.size)
+    concatenates c.args.version c.args.shards.now _ (λ M. (bytes : List ℕ) × M bytes × Fills bytes c.args.out.now c.shards_in_a_row_into.new.out c.in-Ok.size)
     (λ M N number (bytes, made, fills) IsCause.
     let (numbered, is, filled) = c.put_version.ensures bytes c.args.out.now fills in
     (numbered, number bytes numbered made is, filled))
