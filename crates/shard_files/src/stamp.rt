@@ -11,6 +11,7 @@ pub struct FileId {
 }
 
 impl FileId {
+    /// The device and the number of the file with this metadata.
     pub fn of(there: &Metadata) -> FileId {
         FileId {
             device: there.dev(),
@@ -30,6 +31,7 @@ pub struct Stamp {
 }
 
 impl Stamp {
+    /// The stamp of the file with this metadata.
     pub fn of(there: &Metadata) -> Stamp {
         Stamp {
             id: FileId::of(there),

@@ -170,6 +170,7 @@ fn merge_range_in(
     }
 }
 
+/// A range that C has, as the library takes it.
 pub fn range_of(range: &XetRange) -> HashRange
     ensures { AsksForRange range.now result }
 {

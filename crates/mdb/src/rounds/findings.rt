@@ -22,6 +22,7 @@ pub struct Findings {
 }
 
 impl Findings {
+    /// No findings.
     pub fn none() -> Findings {
         Findings {
             malformed: None,

@@ -59,6 +59,7 @@ fn regular_ends_of<R: Files + AllocGlobal>(
 }
 
 impl<'a> ShardFile<'a> {
+    /// The shard in the file at a path, with its header and footer and the file's stamp.
     pub fn new(path: &'a str, info: MDBShardInfo, stamp: Stamp) -> ShardFile<'a> {
         ShardFile { path, info, stamp }
     }

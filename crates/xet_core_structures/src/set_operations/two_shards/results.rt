@@ -178,7 +178,7 @@ fn combine_at<
     combine_sections::<Op, Sec, S, T, W>(alloc, r1, at_1.version, r2, at_2.version, out)
 }
 
-// Moves a source to an offset.
+/// Moves a source to an offset.
 pub fn seek<S: ShardSource>(source: &mut S, offset: u64) -> Result<()>
     ensures moved { OnOk result (S.meaning source.new ≡ after_seek (S.meaning source.old) offset) }
     ensures bytes { (S.meaning source.new).bytes ≡ (S.meaning source.old).bytes }
@@ -187,7 +187,7 @@ pub fn seek<S: ShardSource>(source: &mut S, offset: u64) -> Result<()>
     Ok(source.seek_to(offset)?)
 }
 
-// Writes the header of a shard. The failure is the output's.
+/// Writes the header of a shard. The failure is the output's.
 pub fn write_header<W: Write>(out: &mut W) -> CopyResult<()>
     ensures appended { OnOk result
         (Appends (W.contents out.old) (W.contents out.new) (shard_header_bytes (header_value V3))) }
@@ -199,8 +199,8 @@ pub fn write_header<W: Write>(out: &mut W) -> CopyResult<()>
     }
 }
 
-// Writes the lookup tables and the footer of a shard with layout options, and returns its header
-// and footer. The failure is the output's.
+/// Writes the lookup tables and the footer of a shard with layout options, and returns its header
+/// and footer. The failure is the output's.
 pub fn write_tables<W: Write>(
     out: &mut W,
     files: &WrittenFiles,

@@ -109,9 +109,9 @@ fn advance<R: SectionRecord, S: ShardSource>(
     }
 }
 
-// Reads the next header of a section, or `None` at its bookend, and counts the record's rows down
-// from `rows_left`. `InvalidShard` if its hash is not greater than that of the header before it,
-// and then its rows are read, so that an input that is cut there is `UnexpectedEof`.
+/// Reads the next header of a section, or `None` at its bookend, and counts the record's rows down
+/// from `rows_left`. `InvalidShard` if its hash is not greater than that of the header before it,
+/// and then its rows are read, so that an input that is cut there is `UnexpectedEof`.
 pub fn next_header<R: SectionRecord, S: ShardSource>(
     alloc: Global,
     source: &mut S,
@@ -147,7 +147,7 @@ fn follows<R: SectionRecord>(before: Option<R::Header>, header: &R::Header) -> b
     }
 }
 
-// Writes the bookend. The failure is the output's.
+/// Writes the bookend. The failure is the output's.
 pub fn write_bookend<Sec: WrittenSection, W: Write>(out: &mut W) -> CopyResult<()>
     ensures appended { OnOk result
         (Appends (W.contents out.old) (W.contents out.new)
