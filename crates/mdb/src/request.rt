@@ -13,15 +13,15 @@ use xet_core_structures::record_reader::FormatVersion;
 /// What is asked for.
 #[derive(Drop)]
 pub enum Request<'a> {
-    /// To print answers about shards.
+    /// Print answers about shards.
     Inspect(Sources<'a>, Inquiry, PrintOptions),
-    /// To print what does not fit together in shards.
+    /// Print what does not fit together in shards.
     Collect(Sources<'a>, Collection),
-    /// To write an overview of shards as a page.
+    /// Write an overview of shards as a page.
     Report(Sources<'a>, OverviewOptions<'a>),
-    /// To write a shard.
+    /// Write a shard.
     Make(MakeCommand<'a>, Target<'a>),
-    /// To write a merge of shards.
+    /// Write a merge of shards.
     Merge(Sources<'a>, Merge<'a>),
 }
 
@@ -31,13 +31,13 @@ pub struct PrintOptions {
     pub style: Style,
     /// The order of the shards; `None` if it is that in which they are named.
     pub sort: Option<Sort>,
-    /// The time, in seconds, by which shards in which is looked have expired, if it is known.
+    /// The time, in seconds, by which it is judged whether a shard has expired, if it is known.
     pub now: Option<u64>,
     /// Whether nothing is said of how far the command has come.
     pub quiet: bool,
 }
 
-/// By what shards are sorted, in ascending order.
+/// What shards are sorted by, in ascending order.
 #[derive(Clone, Copy)]
 pub enum Sort {
     Name,
@@ -120,7 +120,7 @@ pub enum MakeCommand<'a> {
     /// The xorbs to keep may be listed besides.
     Subset(&'a str, Subset, Option<HashList<'a>>, NewExpiry),
     Drop(Removal<'a>),
-    /// Of the records in a file, one a line, with an expiry in seconds or none.
+    /// The shard of the records in a file, one a line, with an expiry in seconds or none.
     Records(&'a str, Option<u64>),
 }
 

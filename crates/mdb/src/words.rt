@@ -13,7 +13,7 @@ const LONGEST: usize = 1 << 17;
 pub struct Words {
     /// The words, in which each byte that is no text is written as `\x` and its digits.
     pub texts: Vec<String>,
-    /// Those of them that are no UTF-8: no file can be opened by such a word.
+    /// The words that are not UTF-8: no file can be opened by such a word.
     pub unreadable: Vec<String>,
 }
 

@@ -5,7 +5,7 @@ use crate::{help, id};
 /// The versions of the format that can be written.
 pub const VERSIONS: &[&str] = &["2", "3"];
 
-/// By what shards are sorted.
+/// What shards can be sorted by.
 pub const SORTS: &[&str] = &["name", "size", "expiry"];
 
 /// An argument.
@@ -51,7 +51,7 @@ pub enum Takes {
     ValueWithGroups,
     /// Nothing: it is a flag that goes with groups alone.
     NothingWithGroups,
-    /// By what shards are sorted, which goes with brief answers alone.
+    /// What shards are sorted by, which goes with brief answers alone.
     Sort,
     /// Nothing: it is a flag that also has a letter.
     Quiet,

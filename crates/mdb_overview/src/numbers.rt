@@ -6,7 +6,7 @@ use std::fmt;
 #[derive(Clone, Copy)]
 pub(crate) struct GroupedNumber(pub(crate) Option<u64>);
 
-/// Of which the digits between commas are numbers.
+/// What the digits between two commas count, the greatest first.
 const UNITS: &[u64] = &[
     1_000_000_000_000_000_000,
     1_000_000_000_000_000,

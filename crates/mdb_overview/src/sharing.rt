@@ -73,14 +73,14 @@ impl ChunkHashes {
 pub struct Sharing {
     /// The number of hashes.
     pub hashes: u64,
-    /// The number of those that are in more than one shard.
+    /// The number of hashes that are in more than one shard.
     pub shared: u64,
-    /// The number of those that are in each number of shards.
+    /// The number of hashes that are in each number of shards.
     pub by_shards: Counts,
 }
 
 impl Sharing {
-    /// That of no hashes.
+    /// The counts of no hashes.
     pub fn new(alloc: Global) -> Sharing
         ensures hashes { result.hashes ≡ 0 }
         ensures shared { result.shared ≡ 0 }

@@ -19,7 +19,7 @@ use xet_core_structures::merklehash::{HMACKey, MerkleHash, keyed_hash};
 use xet_core_structures::shard_format::MDBShardInfo;
 use xet_core_structures::utils::parse_shard_filename;
 
-/// What is not as it should be with a file.
+/// What a check finds wrong with a file.
 #[derive(Clone, Copy)]
 pub enum FileFinding {
     /// The bytes are not those that the library would write.

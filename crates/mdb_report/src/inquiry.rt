@@ -37,7 +37,7 @@ pub enum Inquiry {
     Summary,
     /// The same in a line, without where the parts are.
     Brief,
-    /// What is not as it should be.
+    /// The findings of a check.
     Check(Checks),
     /// The name that its bytes have by their hash under a key.
     Name {

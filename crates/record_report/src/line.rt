@@ -19,16 +19,16 @@ pub enum Style {
     Json,
 }
 
-/// Of which shard a value is. In JSON its name is the member `shard`.
+/// The shard that has a value. In JSON its name is the member `shard`.
 #[derive(Clone, Copy)]
 pub enum Origin<'a> {
     /// The value says it itself.
     Said,
-    /// Of none of the shards that were asked, or of all.
+    /// None of the shards that were asked has it, or all have.
     NoShard,
-    /// Of the only shard, with this name.
+    /// The only shard, with this name.
     Only(&'a str),
-    /// Of one of some shards, whose name stands before each line of text.
+    /// One of some shards, whose name stands before each line of text.
     OneOf(&'a str),
 }
 

@@ -17,9 +17,9 @@ use xet_core_structures::xorb_structs::XorbChunkSequenceEntry;
 /// Which fields of rows and records a line may have.
 #[derive(Clone, Copy)]
 pub enum Form {
-    /// Those of well-formed records.
+    /// The fields of well-formed records.
     Plain,
-    /// Flags, counts and reserved words too.
+    /// These and flags, counts and reserved words.
     Full,
 }
 

@@ -310,7 +310,7 @@ impl Show
     }
 }
 
-// Whose the hash is, and the hash.
+// `file` or `xorb`, and the hash.
 impl Show for RecordHash {
     fn show(&self, out: &mut Vec<u8>) -> io::Result<()> {
         let (kind, hash) = match self {
@@ -322,7 +322,7 @@ impl Show for RecordHash {
     }
 }
 
-// Whose the hash is, the hash, and the numbers of the two buffers.
+// `file` or `xorb`, the hash, and the numbers of the two buffers.
 impl Show for Disagreement {
     fn show(&self, out: &mut Vec<u8>) -> io::Result<()> {
         self.record_hash.show(out)?;

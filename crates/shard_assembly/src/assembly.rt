@@ -53,9 +53,9 @@ pub struct Assembly<F: Read + Write + Seek + Drop> {
     counts: Counts,
     /// The ranges of the parts' file tables in the file in which they wait.
     file_tables: Vec<Extent>,
-    /// Those of the xorb tables.
+    /// The ranges of the parts' xorb tables there.
     xorb_tables: Vec<Extent>,
-    /// Those of the chunk tables.
+    /// The ranges of the parts' chunk tables there.
     runs: Vec<Extent>,
 }
 

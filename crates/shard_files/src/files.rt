@@ -47,7 +47,7 @@ pub struct Contents {
     pub bytes: Vec<u8>,
     /// Whether these are all bytes.
     pub whole: bool,
-    /// Of a regular file, which it was before it was read.
+    /// The stamp of a regular file before it was read.
     pub stamp: Option<Stamp>,
 }
 

@@ -26,7 +26,7 @@ impl SortedSegments {
         SortedSegments { items }
     }
 
-    /// Those that name a hash.
+    /// The segments that name a hash.
     pub(crate) fn naming_hash(&self, hash: MerkleHash) -> &[Segment]
         ensures { (s : Named) → Contains result.now s
             ↔ (Contains self.now.items.items s × (s.xorb ≡ hash)) }
