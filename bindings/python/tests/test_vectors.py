@@ -556,6 +556,10 @@ def test_merge_in_a_range_of_other_inputs():
     assert xet_shards.load(xet_shards.merge([one, two], start=hash_text("101"))).files == 0
     raises(xet_shards.DisagreementError, xet_shards.merge, [one, two], strict=True, start=hash_text("101"))
     assert refused("Io", xet_shards.merge, [ONE_FILE, ONE_FILE[:199]], start="f" * 64).index == 1
+    # Of files that are not well-formed the order counts, as in a merge without a range.
+    malformed = ONE_FILE[:88] + b"\1" + ONE_FILE[89:]
+    both = [xet_shards.merge(it, stop="f" * 64) for it in ([ONE_FILE, malformed], [malformed, ONE_FILE])]
+    assert both[0][88] == 0 and both[1] == both[0][:88] + b"\1" + both[0][89:]
     raises(ValueError, xet_shards.merge, [], start=hash_text("0"))
     raises(ValueError, xet_shards.merge, [ONE_FILE], stop="100")
 
