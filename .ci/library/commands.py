@@ -241,7 +241,6 @@ def check_release(release):
     for name in os.listdir(release.folder):
         os.symlink(f"{release.folder}/{name}", f"{folder}/{name}")
     os.symlink(release.top, f"{folder}/TOP")
-    shutil.copy(f"{release.top}/share/doc/xet-shards/example.c", folder)
     write_files(folder, Shard)
     why = release.ran(sys.executable, "-m", "venv", "environment", cwd=folder)[1]
     named = {"PATH": f"{folder}/environment/bin:{release.path}", "PIP_NO_INDEX": "1"}
