@@ -17,6 +17,9 @@ use xet_base::serialization_utils::{read_bytes, write_hash, write_u64s};
 
 const MDB_SHARD_FOOTER_VERSION: u64 = 1;
 
+/// The size of a footer after its version, in bytes.
+pub(super) const AFTER_VERSION: usize = FOOTER_SIZE as usize - 8;
+
 /// The footer of a shard: the offsets of its parts, the rows of its tables and the sizes of its
 /// contents. Offsets are in bytes from the start of the shard, timestamps in seconds.
 #[derive(Clone, Copy, Debug, PartialEq, Eq)]
@@ -128,14 +131,14 @@ impl MDBShardFileFooter {
         let mut version = [0u8; 8];
         read_bytes(reader, &mut version)?;
         check_version(alloc, &version)?;
-        let mut rest = [0u8; 192];
+        let mut rest = [0u8; AFTER_VERSION];
         read_bytes(reader, &mut rest)?;
         Ok(MDBShardFileFooter::after_version(&rest))
     }
 
-    // The footer whose version has been read, from the 192 bytes after it.
+    // The footer whose version has been read, from the bytes after it.
     #[tactic(auto, unfolding(crate::specs::Write::Layout::shard_footer_bytes))]
-    pub(in crate::shard_format) fn after_version(rest: &[u8; 192]) -> Self
+    pub(in crate::shard_format) fn after_version(rest: &[u8; AFTER_VERSION]) -> Self
         ensures version { result.version ≡ 1 }
         ensures bytes { shard_footer_bytes result ≡ u64_bytes 1 ++ rest.now }
         ensures widths { FitsFooter result }

@@ -23,6 +23,9 @@ const MDB_SHARD_HEADER_TAG: [u8; 32] = [
     103, 69, 106, 123, 129, 87, 131, 165, 189, 217, 92, 205, 209, 74, 169,
 ];
 
+/// The size of a header after its tag, in bytes.
+pub(super) const AFTER_TAG: usize = HEADER_SIZE as usize - 32;
+
 /// The header of a shard.
 #[derive(Clone, Copy, Debug, PartialEq, Eq)]
 pub struct MDBShardFileHeader {
@@ -98,13 +101,13 @@ impl MDBShardFileHeader {
         let mut tag = [0u8; 32];
         read_bytes(reader, &mut tag)?;
         check_tag(alloc, &tag)?;
-        let mut rest = [0u8; 16];
+        let mut rest = [0u8; AFTER_TAG];
         read_bytes(reader, &mut rest)?;
         MDBShardFileHeader::after_tag(alloc, &rest)
     }
 
-    // The header whose tag has been read, from the 16 bytes after it.
-    pub(in crate::shard_format) fn after_tag(alloc: Global, rest: &[u8; 16]) -> Result<Self>
+    // The header whose tag has been read, from the bytes after it.
+    pub(in crate::shard_format) fn after_tag(alloc: Global, rest: &[u8; AFTER_TAG]) -> Result<Self>
         ensures ok { IfOk result
             (λ h. (h.tag ≡ header_tag) × IsVersion h.version
             × (rest.now ≡ u64_bytes h.version ++ u64_bytes h.footer_size)) }

@@ -19,8 +19,8 @@ ghost use Rattle.xet_shards.specs.Read.SectionReading.{ReadsFiles, ReadsXorbs, S
 ghost use Rattle.xet_shards.specs.Read.XorbHeaders.{xorb_headers, ReadsXorbHeaders};
 ghost use Rattle.xet_shards.specs.Ends.Ends.{HasHeaderAndFooter, HasUnsupportedHeader, EndsInHeader, HasUnsupportedFooter, EndsInFooter, FitsFooter, PartFails, Loads, LoadFails};
 
-use super::footer::{MDBShardFileFooter, check_version};
-use super::header::{MDBShardFileHeader, check_tag};
+use super::footer::{AFTER_VERSION, MDBShardFileFooter, check_version};
+use super::header::{AFTER_TAG, MDBShardFileHeader, check_tag};
 use super::options::LayoutOptions;
 use crate::shard_format::FOOTER_SIZE;
 use crate::shard_format::read::section_reader::{read_section_at, read_xorb_headers};
@@ -294,7 +294,7 @@ pub(crate) fn read_header<S: ShardSource>(
     let mut tag = [0u8; 32];
     read_full(source, &mut tag)?;
     check_tag(alloc, &tag)?;
-    let mut rest = [0u8; 16];
+    let mut rest = [0u8; AFTER_TAG];
     read_full(source, &mut rest)?;
     MDBShardFileHeader::after_tag(alloc, &rest)
 }
@@ -311,7 +311,7 @@ fn read_footer<S: ShardSource>(alloc: Global, source: &mut S) -> Result<MDBShard
     let mut version = [0u8; 8];
     read_full(source, &mut version)?;
     check_version(alloc, &version)?;
-    let mut rest = [0u8; 192];
+    let mut rest = [0u8; AFTER_VERSION];
     read_full(source, &mut rest)?;
     Ok(MDBShardFileFooter::after_version(&rest))
 }
