@@ -54,11 +54,7 @@ pub fn materialized_bytes(files: &BTreeMap<MerkleHash, MDBFileInfo>) -> u64
     requires rows { total_rows file_records (values files.now) ≤ MAX_ROWS }
     ensures { result ≡ sum_by size_of_file (values files.now) }
 {
-    let mut bytes = 0;
-    for file_info in files.values() {
-        bytes += file_info.file_size();
-    }
-    bytes
+    files.values().map(|file_info| file_info.file_size()).sum()
 }
 
 /// The size of xorbs on disk, in bytes. Their rows fit `u32`, so the sum fits `u64`.

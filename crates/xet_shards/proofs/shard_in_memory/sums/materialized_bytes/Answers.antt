@@ -1,19 +1,27 @@
-use Rattle.std.proofs.Common.{map, ap, arith}
-use Rattle.std.specs.Prelude.{sum_by}
-use Rattle.std.specs.Map.Iter.{deref}
-use Rattle.std.proofs.Math.Facts.{Fits-of_lt}
+use Rattle.std.proofs.Common.{rules, tests, refl, sym, subst, length, arith}
+use Rattle.std.specs.BTreeMap.{values}
+use Rattle.std.proofs.lemmas.Iterator.{YieldsList-from_map}
+use Rattle.std.proofs.lemmas.Iterator.Consumers.{YieldsList-at, YieldsList-turn, YieldsList-from_rest, sum_by_from_yields_List, fits_by_from_yields_list}
+use Rattle.xet_records.specs.declared.file_structs.MDBFileInfo.{MDBFileInfo}
 use Rattle.xet_records.specs.FileRecord.{size_of_file, IsWellFormed}
 use Rattle.xet_shards.proofs.ShardInMemory.Files.{files_bound, well_formed_values, widths_of_values}
-use Rattle.xet_shards.proofs.ShardInMemory.Walks.{entry_turn, entry_holds, sum-middle}
 use Rattle.xet_shards.proofs.shard_in_memory.sums.materialized_bytes.Goals as goal
 
-pub file_size-bytes-requires : goal.file_size-bytes-requires
-file_size-bytes-requires c =
-    let whole = entry_turn deref _ c.loop-file_info.yielded _ _ _ c.in-Some.file_info c.loop-file_info.invariant.all c.in-Some.is c.next.ensures.steps in
-    (entry_holds IsWellFormed _ _ _ _ whole (well_formed_values _ c.requires.files)).whole
+pub sum-requires-clause-can : goal.sum-requires-clause-can
+sum-requires-clause-can c = (
+  tt,
+  record {
+    at = λ xs t q x u yields folds step _ _ _ _ _.
+        let turn = YieldsList-turn (YieldsList-at c.map.ensures.source (YieldsList-from_rest (values c.args.files.now) c.values.ensures.rest)) xs t yields _ u x refl step in
+        (subst IsWellFormed (sym turn.1) (well_formed_values _ c.requires.files (length xs) x.now turn.0)).whole;
+  },
+)
 
-pub overflow_add-bytes : goal.overflow_add-bytes
-overflow_add-bytes c =
-    let whole = entry_turn deref _ c.loop-file_info.yielded _ _ _ c.in-Some.file_info c.loop-file_info.invariant.all c.in-Some.is c.next.ensures.steps in
-    let part = sum-middle size_of_file (map deref c.loop-file_info.yielded) c.next.new.self c.in-Some.file_info.now in
-    Fits-of_lt (omega (arith, part, ap (sum_by size_of_file) whole, files_bound _ (widths_of_values _ c.requires.files)))
+pub sum-requires-clause-fits : goal.sum-requires-clause-fits
+sum-requires-clause-fits c = fits_by_from_yields_list _ _ c.map.result _
+    (YieldsList-from_map _ (λ (r : MDBFileInfo). size_of_file r) (YieldsList-at c.map.ensures.source (YieldsList-from_rest (values c.args.files.now) c.values.ensures.rest)) c.map.ensures.closure (λ x r q k. search (rules, tests)))
+    (omega (arith, c.requires.rows, files_bound _ (widths_of_values _ c.requires.files)))
+
+pub returns : goal.returns
+returns c = sum_by_from_yields_List _ _ c.map.result _ c.sum.ensures.ran
+    (YieldsList-from_map _ (λ (r : MDBFileInfo). size_of_file r) (YieldsList-at c.map.ensures.source (YieldsList-from_rest (values c.args.files.now) c.values.ensures.rest)) c.map.ensures.closure (λ x r q k. search (rules, tests)))
