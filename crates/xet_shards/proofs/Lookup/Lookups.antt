@@ -140,9 +140,9 @@ module _ {H R : Type 0} (K : RecordKind H R) (laws : KindLaws K) where
     looked_up : (Answer : List ℕ → Type 0) → Answer (take count dest_new) → LooksUp K t offset hash.word0 old new Answer
     looked_up Answer answer = grind (arith, common_steps)
 
-    pub finding : (answer : Option R) → LookupAnswer K mid.bytes offset hash answer (take count dest_new) → FindsRecord K t offset hash old new answer
-    finding answer read = grind (arith, common_steps)
+    pub record_found : (answer : Option R) → LookupAnswer K mid.bytes offset hash answer (take count dest_new) → FindsRecord K t offset hash old new answer
+    record_found answer read = grind (arith, common_steps)
 
-    pub finding_not : (e : CoreError) → LookupRefused K offset mid new e (take count dest_new) → FindRecordFails K t offset hash old new e
-    finding_not e (row, contains, refusal) =
+    pub record_not_found : (e : CoreError) → LookupRefused K offset mid new e (take count dest_new) → FindRecordFails K t offset hash old new e
+    record_not_found e (row, contains, refusal) =
         inr (looked_up (LookupRefused K offset old new e) (row, contains, refusal_after offset row old mid new e no_failure.bytes no_failure.failures refusal))

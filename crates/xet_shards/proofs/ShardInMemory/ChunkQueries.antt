@@ -40,7 +40,7 @@ answer_kept locations [] q p first kept = absurd (none-some q (sym first))
 answer_kept locations (r ∷ qs) q p first kept = ap (option_map (λ s. run_at no_key s (r ∷ qs))) (sym kept ∙ ap (get locations) (same_Some q r first))
 
 -- if the lookup has no location, no xorb has the chunk
-pub unknown : (xorbs : XorbMap) (locations : LocationMap) (qs : List DataHash) (q : DataHash) → IsChunkLookup xorbs (get locations) → Some q ≡ slice_get qs 0 → get locations q ≡ None → HasNoChunk xorbs qs
-unknown xorbs locations qs q lookup first kept = λ k p at location.
+pub no_xorb_has : (xorbs : XorbMap) (locations : LocationMap) (qs : List DataHash) (q : DataHash) → IsChunkLookup xorbs (get locations) → Some q ≡ slice_get qs 0 → get locations q ≡ None → HasNoChunk xorbs qs
+no_xorb_has xorbs locations qs q lookup first kept = λ k p at location.
     let same : q ≡ k = same_Some q k (first ∙ at) in
     absurd (true≢false (sym (lookup.complete k p location) ∙ ap is_some (ap (get locations) (sym same) ∙ kept)))

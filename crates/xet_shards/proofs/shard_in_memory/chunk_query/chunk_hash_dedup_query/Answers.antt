@@ -7,7 +7,7 @@ use Rattle.xet_records.specs.declared.xorb_structs.MDBXorbInfo.{MDBXorbInfo}
 use Rattle.xet_records.specs.XorbRecord.{IsXorb}
 use Rattle.xet_shards.specs.ShardInMemory.XorbStore.{shown_location}
 use Rattle.xet_shards.specs.ShardInMemory.ChunkQuery.{run_at}
-use Rattle.xet_shards.proofs.ShardInMemory.ChunkQueries.{location_within, answer_kept, unknown}
+use Rattle.xet_shards.proofs.ShardInMemory.ChunkQueries.{location_within, answer_kept, no_xorb_has}
 use Rattle.xet_shards.proofs.shard_in_memory.chunk_query.chunk_hash_dedup_query.Goals.{In_ok-xorb}
 use Rattle.xet_shards.proofs.shard_in_memory.chunk_query.chunk_hash_dedup_query.Goals as goal
 
@@ -35,7 +35,7 @@ returns-clause-answer c =
 pub returns-in_err-xorb-clause-none : goal.returns-in_err-xorb-clause-none
 returns-in_err-xorb-clause-none c =
     let none = sym (c.lookup.ensures.locations c.in_ok-first.field-0.now) ∙ ap (option_map shown_location) (sym c.in_err-xorb.ensures.value) in (
-      λ _. unknown c.args.xorbs.now.xorbs c.args.xorbs.now.locations c.args.query_hashes.now _ c.lookup.ensures.lookup c.in_ok-first.ensures.value none,
+      λ _. no_xorb_has c.args.xorbs.now.xorbs c.args.xorbs.now.locations c.args.query_hashes.now _ c.lookup.ensures.lookup c.in_ok-first.ensures.value none,
       λ _. c.from_residual-in_err-xorb.ensures,
     )
 

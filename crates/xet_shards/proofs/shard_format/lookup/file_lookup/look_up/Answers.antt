@@ -3,7 +3,7 @@ use Rattle.xet_records.specs.Version.{version_of}
 use Rattle.xet_shards.specs.Read.SectionReading.{files_of}
 use Rattle.xet_shards.proofs.Write.Sections.{files_laws}
 use Rattle.xet_shards.specs.Lookup.Lookup.{file_table}
-use Rattle.xet_shards.proofs.Lookup.Lookups.{finding, finding_not}
+use Rattle.xet_shards.proofs.Lookup.Lookups.{record_found, record_not_found}
 use Rattle.xet_shards.proofs.shard_format.lookup.file_lookup.look_up.Goals as goal
 
 pub returns-clause-read : goal.returns-clause-read
@@ -17,5 +17,5 @@ returns-clause-read g c =
     let found = c.in_ok-found.ensures.looks in
     let visits = c.first_with_hash.ensures.visits in
     MatchResult-from_both c.first_with_hash.result _ _
-    (IfOk-weaker c.first_with_hash.result _ _ (finding (files_of c.args.info.now) (files_laws (version_of c.args.info.now.header.version)) t offset c.in_ok-found.found hash old mid new _ _ found.found found.no_failure found.bounds visits) c.first_with_hash.ensures.answer)
-    (IfErr-weaker c.first_with_hash.result _ _ (finding_not (files_of c.args.info.now) (files_laws (version_of c.args.info.now.header.version)) t offset c.in_ok-found.found hash old mid new _ _ found.found found.no_failure found.bounds visits) c.first_with_hash.ensures.refused)
+    (IfOk-weaker c.first_with_hash.result _ _ (record_found (files_of c.args.info.now) (files_laws (version_of c.args.info.now.header.version)) t offset c.in_ok-found.found hash old mid new _ _ found.found found.no_failure found.bounds visits) c.first_with_hash.ensures.answer)
+    (IfErr-weaker c.first_with_hash.result _ _ (record_not_found (files_of c.args.info.now) (files_laws (version_of c.args.info.now.header.version)) t offset c.in_ok-found.found hash old mid new _ _ found.found found.no_failure found.bounds visits) c.first_with_hash.ensures.refused)
