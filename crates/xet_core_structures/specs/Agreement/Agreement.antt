@@ -36,8 +36,8 @@ use Rattle.xet_core_structures.specs.Trees.MergeTrees.{leaves, TreeWrites, Input
 use Rattle.xet_core_structures.specs.Trees.Parts.{ShardRefusal}
 
 -- a property holds of each number below n
-abbrev pub HoldsBelow : ℕ → (ℕ → Type 0) → Type 0
-HoldsBelow n P = (i : ℕ) → i < n → P i
+abbrev pub AllBelow : ℕ → (ℕ → Type 0) → Type 0
+AllBelow n P = (i : ℕ) → i < n → P i
 
 -- two shards have records with this hash that do not agree
 abbrev pub DisagreeShards : Shard → Shard → RecordHash → Type 0
@@ -46,9 +46,13 @@ DisagreeShards s t (File q) =
 DisagreeShards s t (Xorb q) =
     (a b : MDBXorbInfo) × (get s.xorbs q ≡ Some a) × (get t.xorbs q ≡ Some b) × (¬ (a ≡ b))
 
--- the input with this number holds a shard
+-- the input with this number holds this shard
 abbrev pub HoldsAt : List (List ℕ) → ℕ → Shard → Type 0
 HoldsAt inputs i s = InputIs inputs (HasShard s) i
+
+-- the input with this number holds some shard
+abbrev pub HasShardAt : List (List ℕ) → ℕ → Type 0
+HasShardAt inputs i = (s : Shard) × HoldsAt inputs i s
 
 -- one of the inputs holds a shard
 abbrev pub IsHeld : List (List ℕ) → Shard → Type 0
@@ -65,14 +69,14 @@ IsWellFormedAt inputs i = (s : Shard) × HoldsAt inputs i s × IsShard s
 
 -- each input holds a well-formed shard
 abbrev pub HoldShards : List (List ℕ) → Type 0
-HoldShards inputs = HoldsBelow (length inputs) (IsWellFormedAt inputs)
+HoldShards inputs = AllBelow (length inputs) (IsWellFormedAt inputs)
 
 -- the shard that the input with this number holds has, under this hash, a record that no shard may
 -- have, and each input before it holds a well-formed shard
 abbrev pub IsFirstMalformed : List (List ℕ) → MalformedRecord → Type 0
 IsFirstMalformed inputs m =
     (s : Shard) × HoldsAt inputs m.input s × HasMalformed s m.record_hash
-    × HoldsBelow m.input (IsWellFormedAt inputs)
+    × AllBelow m.input (IsWellFormedAt inputs)
 
 -- the shards that two inputs hold agree
 abbrev pub AgreeAt : List (List ℕ) → ℕ → ℕ → Type 0
@@ -81,7 +85,7 @@ AgreeAt inputs i j =
 
 -- each input holds a shard, and each two of these agree
 pub record InputsAgree (inputs : List (List ℕ)) : Type 0 where
-  pub held : HoldsBelow (length inputs) (λ i. (s : Shard) × HoldsAt inputs i s)
+  pub held : AllBelow (length inputs) (HasShardAt inputs)
   pub pairs : (i j : ℕ) → AgreeAt inputs i j
 
 -- two inputs hold shards that have records with this hash that do not agree
@@ -116,7 +120,7 @@ pub record AreInOrder (found : List Disagreement) : Type 0 where
 -- each input holds a shard; these are disagreements of them, in order, each with another hash; and
 -- records with any other hash agree
 pub record HasAllDisagreements (inputs : List (List ℕ)) (found : List Disagreement) : Type 0 where
-  pub held : HoldsBelow (length inputs) (λ i. (s : Shard) × HoldsAt inputs i s)
+  pub held : AllBelow (length inputs) (HasShardAt inputs)
   pub each : (d : Disagreement) → Contains found d → InputsDisagree inputs d
   pub in_order : AreInOrder found
   pub others : (h : RecordHash) → ¬ Contains (map (λ d. d.record_hash) found) h → AgreeOn inputs h
@@ -126,11 +130,11 @@ abbrev pub FirstRefusal : List (List ℕ) → (ℕ → Type 0) → CoreError →
 FirstRefusal inputs P e =
     (e ≡ OutOfMemory)
     ⊎ ((i : ℕ) × (bytes : List ℕ) × (slice_get inputs i ≡ Some bytes) × ShardRefusal bytes e
-    × HoldsBelow i P)
+    × AllBelow i P)
 
 -- an allocation failed; or no shard is read from an input, and each before it holds one
 abbrev pub InputsRefusal : List (List ℕ) → CoreError → Type 0
-InputsRefusal inputs = FirstRefusal inputs (λ i. (s : Shard) × HoldsAt inputs i s)
+InputsRefusal inputs = FirstRefusal inputs (HasShardAt inputs)
 
 -- an allocation failed; or no shard is read from an input, and each before it holds a well-formed
 -- one
