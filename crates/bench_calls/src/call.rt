@@ -33,7 +33,8 @@ pub struct Call<'a> {
 }
 
 impl Call<'_> {
-    /// Does an operation once. `InvalidArguments` if it starts from something else.
+    /// Does an operation once. `InvalidArguments` if it starts from something else, or has a loop of
+    /// its own: `Load`, `FindFilesInBytes`, `Hmac`.
     pub fn make(&self, operation: Operation, start: &Start) -> Result<Answer>
         ensures { IfOk result
             (IsAnswerOf operation self.now.first.now self.now.second.now self.now.key) }
