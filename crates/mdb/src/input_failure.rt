@@ -1,8 +1,8 @@
 //! Why inputs cannot be combined, and which of them is at fault.
 
 ghost use Rattle.std.specs.Prelude.{◌≡◌, [], map, slice_get, IsTrue, MatchOption, MatchResult};
-ghost use Rattle.xet_core_structures.specs.Agreement.Agreement.{HoldShards, HasAllDisagreements, InputsRefusal, WellFormedRefusal};
-ghost use Rattle.mdb.specs.Merging.{SaysMalformed, SaysDisagree, SaysCause};
+ghost use Rattle.xet_core_structures.specs.Agreement.Agreement.{HasAllDisagreements, InputsRefusal};
+ghost use Rattle.mdb.specs.Merging.{SaysDisagree, SaysCause};
 
 use crate::failure::{Failure, Subject};
 use crate::request::Target;
@@ -16,9 +16,7 @@ use std::rt::Files;
 use xet_core_structures::error::CoreError;
 use xet_core_structures::merklehash::MerkleHash;
 use xet_core_structures::record_reader::FormatVersion;
-use xet_core_structures::set_operations::{
-    Disagreement, MalformedRecord, find_disagreements, find_malformed,
-};
+use xet_core_structures::set_operations::{Disagreement, MalformedRecord, find_disagreements};
 
 /// Why a union or a difference failed: the first input that cannot be read, else what is wrong with
 /// the inputs together.
@@ -202,27 +200,6 @@ pub fn disagreement_under<'a>(files: &[&'a str], first: &Disagreement, count: us
     Failure {
         subject: subject_of(files, first),
         fault: Fault::Disagree(count, first.record_hash),
-    }
-}
-
-/// The first of the files that has a record which no shard may have, and the record, or `None`.
-pub fn malformed_failure<'a>(
-    alloc: Global,
-    files: &[&'a str],
-    inputs: &[&[u8]],
-) -> Result<Option<Failure<'a>>, Failure<'a>>
-    ensures { MatchResult result
-        (λ found. MatchOption found (HoldShards (map (λ x. x.now) inputs.now))
-        (SaysMalformed files.now (map (λ x. x.now) inputs.now)))
-        (SaysCause (WellFormedRefusal (map (λ x. x.now) inputs.now))) }
-{
-    let found = match find_malformed(alloc, inputs) {
-        Ok(found) => found,
-        Err(error) => return Err(combine_failure(alloc, files, inputs, error)),
-    };
-    match &found {
-        Some(malformed) => Ok(Some(failure_on_malformed(files, malformed))),
-        None => Ok(None),
     }
 }
 

@@ -14,7 +14,7 @@ use crate::failure::Failure;
 use crate::infos::{infos_of, keys_in};
 use crate::input_failure::{
     combine_failure_in, disagreement, disagreement_under, failure_on_all, failure_on_malformed,
-    in_memory, lacks_files, malformed_failure,
+    in_memory, lacks_files,
 };
 use crate::make::{contents_of, put};
 use crate::progress::{Progress, Stage};
@@ -306,6 +306,7 @@ fn unite_agreeing<'a>(
 }
 
 // The union of inputs, with a report of a record that no shard may have and of records that differ.
+// Inputs with neither are read once for all of this.
 fn unite_leniently<'a, R: Eprint + AllocGlobal>(
     rt: &R,
     files: &[&'a str],
@@ -319,16 +320,45 @@ fn unite_leniently<'a, R: Eprint + AllocGlobal>(
         (SaysNotMerged target.entry.version (map (λ x. x.now) inputs.now)) }
 {
     let alloc = rt.alloc();
-    let malformed = malformed_failure(alloc, files, inputs)?;
-    let choice = disagreement(alloc, files, inputs)?;
+    match merge_agreeing_bytes(alloc, inputs, target.version) {
+        Ok(AgreeingMerge::Bytes(bytes)) => Ok(bytes),
+        Ok(AgreeingMerge::Disagreements(found)) => {
+            let choice = Some(disagreement_under(files, &found[0], found.len()));
+            unite_and_report(rt, files, inputs, target, &None, &choice, progress)
+        }
+        Ok(AgreeingMerge::Malformed(malformed)) => {
+            let choice = disagreement(alloc, files, inputs)?;
+            let malformed = Some(failure_on_malformed(files, &malformed));
+            unite_and_report(rt, files, inputs, target, &malformed, &choice, progress)
+        }
+        Err(error) => Err(combine_failure_in(alloc, files, inputs, target, error)),
+    }
+}
+
+// The union of inputs in which this was found, with a report of it.
+fn unite_and_report<'a, R: Eprint + AllocGlobal>(
+    rt: &R,
+    files: &[&'a str],
+    inputs: &[&[u8]],
+    target: Target<'a>,
+    malformed: &Option<Failure<'a>>,
+    choice: &Option<Failure<'a>>,
+    progress: &mut Progress,
+) -> Result<Vec<u8>, Failure<'a>>
+    ensures { MatchResult result
+        (λ bytes. MadeIn target.entry.version (MergesBytes (map (λ x. x.now) inputs.now))
+        bytes.items)
+        (SaysNotMerged target.entry.version (map (λ x. x.now) inputs.now)) }
+{
+    let alloc = rt.alloc();
     match merge_bytes(alloc, inputs, target.version) {
         Ok(bytes) => {
-            report_findings(rt, &malformed, &choice, progress);
+            report_findings(rt, malformed, choice, progress);
             Ok(bytes)
         }
         Err(error) => {
             if lacks_files(alloc, inputs, target.version, &error) {
-                report_findings(rt, &malformed, &choice, progress);
+                report_findings(rt, malformed, choice, progress);
             }
             Err(combine_failure_in(alloc, files, inputs, target, error))
         }

@@ -44,11 +44,16 @@ impl Findings {
             self.malformed = Some(first_of(self.malformed, found));
         }
         let found = find_disagreements(alloc, inputs)?;
+        self.add_disagreements(found.as_slice());
+        Ok(())
+    }
+
+    /// Adds the records that do not agree in the parts of the shards that a round merges.
+    pub fn add_disagreements(&mut self, found: &[Disagreement]) {
         self.count = self.count.saturating_add(found.len());
         if self.differing.is_none() {
-            self.differing = found.as_slice().first().copied();
+            self.differing = found.first().copied();
         }
-        Ok(())
     }
 
     /// The first of the files that has a record which no shard may have, and the record.

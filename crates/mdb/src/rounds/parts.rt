@@ -19,6 +19,7 @@ use mdb_report::fault::Fault;
 use shard_assembly::assembly::Assembly;
 use shard_assembly::block::{Block, Mark};
 use shard_assembly::share::share_of;
+use shard_bytes::agree::{AgreeingMerge, merge_agreeing_bytes};
 use shard_bytes::check::Section;
 use shard_bytes::merge::merge_bytes;
 use std::alloc::{AllocError, Global};
@@ -156,23 +157,72 @@ impl<'a, F: Read + Write + Seek + Drop> Rounds<'a, F> {
         section: Section,
         inputs: &[&[u8]],
     ) -> Result<(), Failure<'a>> {
-        let alloc = rt.alloc();
-        if let Err(error) = self.findings.add(alloc, inputs) {
-            return Err(self.read_failure(rt, inputs, error));
+        if self.fails() {
+            return self.add_findings(rt, inputs);
         }
-        let strict = matches!(self.merge.strictness, Strictness::Strict);
-        if !self.has_one_key || (strict && !self.findings.is_empty()) {
-            return Ok(());
-        }
-        let target = self.merge.target;
-        match merge_bytes(alloc, inputs, target.version) {
-            Ok(part) => self.write_part(section, part),
-            Err(error) if lacks_files(alloc, inputs, target.version, &error) => {
-                self.key_failure = Some(Failure::on_target(target.path, Fault::HasAuxRow));
-                Ok(())
+        match merge_agreeing_bytes(rt.alloc(), inputs, self.merge.target.version) {
+            Ok(AgreeingMerge::Bytes(part)) => self.write_part(section, part),
+            Ok(AgreeingMerge::Disagreements(found)) => {
+                self.findings.add_disagreements(found.as_slice());
+                self.merge_differing(rt, section, inputs)
             }
+            Ok(AgreeingMerge::Malformed(_)) => {
+                self.add_findings(rt, inputs)?;
+                self.merge_differing(rt, section, inputs)
+            }
+            Err(error) => self.merge_failure(rt, inputs, error),
+        }
+    }
+
+    // Whether it is known that the merge fails, so that only what differs is looked for.
+    fn fails(&self) -> bool {
+        let strict = matches!(self.merge.strictness, Strictness::Strict);
+        !self.has_one_key || (strict && !self.findings.is_empty())
+    }
+
+    // Adds what is found in the parts of all shards.
+    fn add_findings<R: Files + Input + AllocGlobal>(
+        &mut self,
+        rt: &R,
+        inputs: &[&[u8]],
+    ) -> Result<(), Failure<'a>> {
+        match self.findings.add(rt.alloc(), inputs) {
+            Ok(()) => Ok(()),
             Err(error) => Err(self.read_failure(rt, inputs, error)),
         }
+    }
+
+    // Merges parts of all shards in which something was found, and writes their union, unless that is
+    // a failure.
+    fn merge_differing<R: Files + Input + AllocGlobal>(
+        &mut self,
+        rt: &R,
+        section: Section,
+        inputs: &[&[u8]],
+    ) -> Result<(), Failure<'a>> {
+        if self.fails() {
+            return Ok(());
+        }
+        match merge_bytes(rt.alloc(), inputs, self.merge.target.version) {
+            Ok(part) => self.write_part(section, part),
+            Err(error) => self.merge_failure(rt, inputs, error),
+        }
+    }
+
+    // What becomes of the merge if parts of all shards have no union. That the version lacks a file
+    // is a failure at the end, if nothing else makes the merge fail before.
+    fn merge_failure<R: Files + Input + AllocGlobal>(
+        &mut self,
+        rt: &R,
+        inputs: &[&[u8]],
+        error: CoreError,
+    ) -> Result<(), Failure<'a>> {
+        let target = self.merge.target;
+        if lacks_files(rt.alloc(), inputs, target.version, &error) {
+            self.key_failure = Some(Failure::on_target(target.path, Fault::HasAuxRow));
+            return Ok(());
+        }
+        Err(self.read_failure(rt, inputs, error))
     }
 
     // Writes a part of the merge, unless it is known that the merge fails.

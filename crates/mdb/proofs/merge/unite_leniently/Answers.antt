@@ -1,19 +1,17 @@
-use Rattle.std.proofs.Common.{inl, inr, ℕ, List, map, Bor}
-use Rattle.std.proofs.lemmas.Result.{err_from_is_err_and}
+use Rattle.std.proofs.Common.{◌⊎◌, inl, inr, ℕ, List}
+use Rattle.xet_core_structures.specs.declared.error.CoreError.{CoreError}
+use Rattle.xet_core_structures.specs.Agreement.Agreement.{InputsRefusal}
+use Rattle.xet_core_structures.specs.Trees.InVersions.{RefusedIn}
 use Rattle.xet_core_structures.proofs.Agreement.AgreeingInputs.{refused_as_inputs}
+use Rattle.xet_records.specs.declared.record_reader.FormatVersion.{FormatVersion}
+use Rattle.shard_bytes.specs.Agreeing.{RefusesAgreeing}
+use Rattle.shard_bytes.specs.Merging.{MergesBytes, RefusesMerge}
 use Rattle.mdb.proofs.merge.unite_leniently.Goals as goal
 
--- an input is not read
-pub returns-in_err-malformed : goal.returns-in_err-malformed
-returns-in_err-malformed g c =
-    let inputs : List (List ℕ) = map (λ (x : Bor (List ℕ)). x.now) c.args.inputs.now in
-    let p = err_from_is_err_and c.from_residual.result c.from_residual.ensures.1 in
-    rw (p.1, p.2) (c.in_err-malformed.ensures.0, inl (refused_as_inputs inputs c.in_err-malformed.ensures.0 c.in_err-malformed.ensures.1), c.in_err-malformed.ensures.2)
+-- what a strict merge refuses for its inputs, or for their union, a lenient one refuses too
+lenient_refusal : (version : FormatVersion) (inputs : List (List ℕ)) (e : CoreError) → RefusesAgreeing version inputs e → InputsRefusal inputs e ⊎ RefusedIn version (MergesBytes inputs) (RefusesMerge inputs) e
+lenient_refusal version inputs e (inl unread) = inl (refused_as_inputs inputs e unread)
+lenient_refusal version inputs e (inr (formed, agree, unmerged)) = inr unmerged
 
-pub returns-in_err-choice : goal.returns-in_err-choice
-returns-in_err-choice g c =
-    let p = err_from_is_err_and c.from_residual-in_err-choice.result c.from_residual-in_err-choice.ensures.1 in
-    rw (p.1, p.2) (c.in_err-choice.ensures.0, inl c.in_err-choice.ensures.1, c.in_err-choice.ensures.2)
-
-pub returns : goal.returns
-returns g c = (c.in-Err.error, inr c.in-Err.ensures.any_bytes, c.combine_failure_in.ensures)
+pub returns-in-Err : goal.returns-in-Err
+returns-in-Err g c = (c.in-Err.error, lenient_refusal _ _ _ c.in-Err.ensures.any_bytes, c.combine_failure_in.ensures)
