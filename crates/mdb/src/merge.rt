@@ -397,6 +397,6 @@ fn report_malformed<R: Eprint>(rt: &R, malformed: &Failure<'_>) {
 // Says which of two records that differ a merge keeps.
 fn report_choice<R: Eprint>(rt: &R, disagreement: &Failure<'_>) {
     let _ = rt.eprintln(format_args!(
-        "{disagreement}; of xorbs the first is kept, of files the one with more parts"
+        "{disagreement}; of xorbs the first is kept, of files the one with more parts, else the first with all parts"
     ));
 }
