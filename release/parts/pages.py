@@ -79,7 +79,7 @@ STATUSES = (
     ("0", "all was done"),
     ("1", "a file or an output failed, or a lookup found nothing"),
     ("2", "the words are no command"),
-    ("3", "a check found something, or with --strict shards differ"),
+    ("3", "check, gc or info found something, or with --strict shards differ or have a record that no shard may have"),
 )
 
 

@@ -391,7 +391,7 @@ const MAKINGS: &[Row] = &[
             NULL,
             flag!(
                 STRICT,
-                "Fails with status 3 if two shards have different records with one hash"
+                "Fails with status 3 if shards have different records with one hash, or a record that no shard may have"
             ),
             flag!(VERBOSE, "Reports each file as it is read"),
             QUIET,
