@@ -24,13 +24,26 @@ COMMANDS = {
 }
 
 
-def members(value):
-    """Returns the names of a value's members, and of theirs."""
+def shape(value):
+    """Returns a value's members, each with its own; of a list those of its items."""
     if isinstance(value, dict):
-        return set(value).union(*(members(it) for it in value.values()))
-    if isinstance(value, list):
-        return set().union(*(members(it) for it in value))
-    return set()
+        return {name: shape(it) for name, it in value.items()}
+    return joined(map(shape, value)) if isinstance(value, list) else {}
+
+
+def joined(shapes):
+    """Returns the members that any of some shapes has."""
+    every = {}
+    for it in shapes:
+        for name, own in it.items():
+            every[name] = joined([every.get(name, {}), own])
+    return every
+
+
+def shape_of(text):
+    """Returns the shape that a text such as `a,b{c,d},e[f]` says."""
+    quoted = re.sub(r"(\w+)([{[]?)", lambda it: f'"{it[1]}":' + ("{" if it[2] else "{}"), text)
+    return json.loads("{" + quoted.replace("]", "}") + "}")
 
 
 def table(page):
@@ -40,12 +53,11 @@ def table(page):
     for line in lines:
         if not line.startswith("|"):
             break
-        _, printed, names, _ = line.split("|")
-        lists = re.findall(r"`([a-z0-9_,]+)`", names)
-        found[printed.strip().strip("`")] = [it for names in lists for it in names.split(",")]
+        _, name, names, _ = line.split("|")
+        found[name.strip().strip("`")] = shape_of(names.split("`")[1])
     # Some also print what other commands do.
-    for name in ("find", "check"):
-        found[name] = [member for it in found[name] for member in found.get(it, [it])]
+    found["find"]["found"] = joined([found["files"], found["xorbs"]])
+    found["check"] = joined([found["check"], found["gc"]])
     return found
 
 
@@ -56,7 +68,7 @@ def printed(program, folder, words, names):
 
 def check_members(program, folder, made, page):
     """Returns what is wrong with each line of the table, or None."""
-    shards = ("plain.mdb", "one_of_each.mdb", "all_parts.mdb")
+    shards = ("plain.mdb", "one_of_each.mdb", "all_parts.mdb", "keyed.mdb")
     shards = [it for it in shards if it in made]
     for name in shards:
         with open(f"{folder}/{name}", "wb") as file:
@@ -64,11 +76,10 @@ def check_members(program, folder, made, page):
     said, answers = table(page), []
     for name, runs in COMMANDS.items():
         values = [it for words in runs for names in (shards, shards[:1]) for it in printed(program, folder, words, names)]
-        found = set().union(*map(members, values))
-        wanted = set(said.get(name, ()))
+        found, wanted = joined(map(shape, values)), said.get(name, {})
         if name == "each":
-            found &= {"shard"}
-        why = None if found - {"shard"} == wanted - {"shard"} else f"members that differ: {sorted(found ^ wanted)}"
+            found = {"shard": found["shard"]}
+        why = None if {**found, "shard": {}} == {**wanted, "shard": {}} else f"it has {found}"
         if not why and any(next(iter(it)) != "shard" for it in values):
             why = "a line does not begin with the shard"
         answers.append((f"the members of {name}", why))
