@@ -39,7 +39,7 @@ NOT_RUN = {
 }
 # The records of the files FIRST and SECOND, as commands of a script; a file has the small hash 100.
 RECORDS = {"FIRST": ["xorb 10 21:5", "file 100 10:0:1:5"], "SECOND": ["xorb 11 22:6 23:7", "file 101 11:0:2:13"]}
-COPIES = {"one.mdb": "FIRST", "other.mdb": "SECOND", "large.mdb": "FIRST", "FILE..": "FIRST", "FILE.mdb": "FIRST"}
+COPIES = {"one.mdb": "FIRST", "other.mdb": "SECOND", "large.mdb": "FIRST", "FILE..": "FIRST"}
 HASH = f"{100:016x}{1:016x}{0:032x}"
 # A cp as on a full disk: it writes the beginning of a file, and fails.
 FULL = """#!/bin/sh

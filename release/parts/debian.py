@@ -7,7 +7,8 @@ import shutil
 import time
 
 from . import elf, kit
-from .common import SONAME, TOP, VERSION, Missing, git, ran, read, write
+from .common import NAME, SONAME, TOP, VERSION, Missing, git, ran, read, write
+from .tree import SHARDS
 
 LIBRARY = "usr/lib/x86_64-linux-gnu"
 REVISION = f"{VERSION}-1"
@@ -34,6 +35,7 @@ def placed(found):
     own = f"lib/libxet.so.{VERSION}"
     of_mdb = ("bin/mdb", "share/man/", "share/bash-completion/", "share/zsh/", "share/fish/")
     tools = {path: f"usr/{path}" for path in found if path.startswith(of_mdb)}
+    tools.update({f"share/doc/{NAME}/{it}": f"usr/share/doc/xet-mdb/examples/{it}" for it in SHARDS})
     runtime = {path: f"{LIBRARY}/{os.path.basename(path)}" for path in (own, f"lib/{SONAME}")}
     rest = ("lib/libxet.a", "lib/libxet.so", "lib/pkgconfig/xet.pc")
     developing = {path: f"{LIBRARY}/{path[4:]}" for path in rest}

@@ -16,6 +16,8 @@ DOCUMENTS = {
     "LICENSE": "LICENSE", "NOTICE": "NOTICE", "CHANGELOG.md": "CHANGELOG.md", "README.md": "release/README.md",
     "SECURITY.md": "SECURITY.md", "example.c": "bindings/c/example.c",
 }
+# Two shards that agree, and one that disagrees with the first.
+SHARDS = ("a.mdb", "b.mdb", "c.mdb")
 
 
 class File:
@@ -73,6 +75,8 @@ def files(room):
         # Links that lead to pages of the repository lead nowhere in the archive.
         text = re.sub(r"\[([^\]]+)\]\((?!https?:)[^)]*\)", r"\1", text) if name.endswith(".md") else text
         found[f"share/doc/{NAME}/{name}"] = File(text.encode())
+    for name in SHARDS:
+        found[f"share/doc/{NAME}/{name}"] = File(read(f"{TOP}/bindings/rust/examples/{name}", "rb"))
     for name, text in kit.licences(kit.PROGRAMS).items():
         found[f"share/doc/{NAME}/licences/{name}"] = File(text)
     wanted = f"lib/libxet.so.{VERSION}", f"lib/{SONAME}"
