@@ -25,10 +25,11 @@ COMMANDS = {
 
 
 def shape(value):
-    """Returns a value's members, each with its own; of a list those of its items."""
+    """Returns a value's members, each with its own; of a list of objects those of its items, as of a member `[]`."""
     if isinstance(value, dict):
         return {name: shape(it) for name, it in value.items()}
-    return joined(map(shape, value)) if isinstance(value, list) else {}
+    items = joined(map(shape, value)) if isinstance(value, list) else {}
+    return {"[]": items} if items else {}
 
 
 def joined(shapes):
@@ -42,8 +43,9 @@ def joined(shapes):
 
 def shape_of(text):
     """Returns the shape that a text such as `a,b{c,d},e[f]` says."""
-    quoted = re.sub(r"(\w+)([{[]?)", lambda it: f'"{it[1]}":' + ("{" if it[2] else "{}"), text)
-    return json.loads("{" + quoted.replace("]", "}") + "}")
+    opened = {"{": "{", "[": '{"[]":{', "": "{}"}
+    quoted = re.sub(r"(\w+)([{[]?)", lambda it: f'"{it[1]}":{opened[it[2]]}', text.replace("]", "}}"))
+    return json.loads("{" + quoted + "}")
 
 
 def table(page):
