@@ -4,4 +4,5 @@ pub mod FileStarts
 pub mod MinimalShard
 pub mod MinimalReading
 pub mod MinimalWriting
+pub mod MinimalCopying
 pub mod MinimalLaws

@@ -9,6 +9,7 @@ pub mod InARow
 pub mod Joining
 pub mod KeyedExport
 pub mod Lookup
+pub mod MinimalCopying
 pub mod MinimalShard
 pub mod MinimalWriting
 pub mod PartOrder

@@ -2,3 +2,4 @@
 
 pub mod MinimalShard
 pub mod MinimalReading
+pub mod MinimalCopying

@@ -9,6 +9,7 @@ ghost use Rattle.xet_records.specs.XorbRecord.{xorb_records};
 
 mod eligible;
 mod file_start;
+mod minimal_copier;
 mod minimal_reader;
 mod minimal_shard;
 mod minimal_writer;

@@ -205,7 +205,7 @@ module _ {I J : Type 0} (view : I → J) (one : I → I → List ℕ → Type 0)
 
 -- a subset that is read again from a source
 pub subset_eligible : (answers : MDBXorbInfo → Bool → Type 0) (m : MinimalShard) (options : LayoutOptions) (y : List ℕ) (old new : Source) (hashes : List DataHash) (k : ℕ) → FitsSections m
-    → (kept : WritesKept answers (Some []) (Some y) [] m options k) → bytes_left old ≡ y → ReadsEligible old new hashes
+    → (kept : WritesKept answers (Some []) (Some y) [] m options k) → bytes_left old ≡ y → ReadsEligible ReadsBytes old new hashes
     → hashes ≡ ascending_hashes (flat_map (eligible_in (is_start m.files)) kept.kept)
 subset_eligible answers m options y old new hashes k fits kept are (n, read, hashes_are) =
     let taken : ReadsMinimal Consumes true true (Some (bytes_left old)) (Some (bytes_left new)) n = sections_left (λ s. Some (bytes_left s)) ReadsBytes Consumes ReadsBytes-consumes true old new n read in

@@ -5,7 +5,7 @@ ghost use Rattle.std.specs.Prelude.{◌≡◌, ℕ, Bool, true, List, [], map, f
 ghost use Rattle.std.specs.Fn.{FnReturnsAt};
 ghost use Rattle.std.specs.Io.KnownBytes.{Consumes};
 ghost use Rattle.xet_base.specs.declared.merklehash.DataHash.{DataHash};
-ghost use Rattle.xet_base.specs.Source.{Source, bytes_left};
+ghost use Rattle.xet_base.specs.Source.{Source, ReadsBytes, bytes_left};
 ghost use Rattle.xet_records.specs.declared.file_structs.view.KeptParts.{KeptParts};
 ghost use Rattle.xet_records.specs.View.{as_kept};
 ghost use Rattle.xet_shards.specs.StreamingShard.MinimalReading.{ReadsMinimal, ReadsEligible};
@@ -34,7 +34,7 @@ pub fn subsets_keep_eligible_chunks<F: Fn(&MDBXorbInfoView) -> bool>()
         → ReadsMinimal Consumes with_files with_xorbs first rest m
         → (subset : WritesKept (FnReturnsAt F.Fn filter) (Some []) (Some bytes) [] m
         (minimal_options now expiry) size)
-        → bytes_left old ≡ bytes → ReadsEligible old new hashes
+        → bytes_left old ≡ bytes → ReadsEligible ReadsBytes old new hashes
         → hashes ≡ ascending_hashes (flat_map (eligible_in (is_start m.files)) subset.kept) }
 {}
 

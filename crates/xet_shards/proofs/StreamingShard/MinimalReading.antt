@@ -1,5 +1,5 @@
 -- Sections that are read as views.
-use Rattle.std.proofs.Common.{◌≡◌, inr, Ok, Err, ℕ, Bool, true, false, List, [], ◌∷◌, ◌++◌, flat_map, append-nil, sym, ap, ◌∙◌, subst, arith}
+use Rattle.std.proofs.Common.{◌≡◌, inr, Ok, Err, ℕ, ◌≤◌, Bool, true, false, List, [], ◌∷◌, ◌++◌, length, flat_map, append-nil, refl, sym, ap, ◌∙◌, subst, arith}
 use Rattle.std.proofs.lemmas.List.Elements.{All-append, All-cons, All-nil}
 use Rattle.std.proofs.lemmas.List.Sums.{sum_by_push}
 use Rattle.std.proofs.lemmas.Grind.{flat_map-append}
@@ -9,17 +9,22 @@ use Rattle.xet_base.specs.declared.error.CoreError.{CoreError}
 use Rattle.xet_base.specs.declared.error.CoreError.TheVariants.{OutOfMemory}
 use Rattle.xet_base.specs.declared.merklehash.DataHash.{DataHash}
 use Rattle.xet_base.specs.Errors.{CoreResult}
-use Rattle.xet_base.specs.Source.{Source, ReadsBytes}
 use Rattle.xet_records.specs.declared.record_reader.FormatVersion.{FormatVersion}
+use Rattle.xet_records.specs.declared.file_structs.MDBFileInfo.{MDBFileInfo}
+use Rattle.xet_records.specs.declared.xorb_structs.MDBXorbInfo.{MDBXorbInfo}
+use Rattle.xet_records.specs.FileRecord.{file_records_in}
+use Rattle.xet_records.specs.XorbRecord.{xorb_records}
+use Rattle.xet_records.proofs.RecordKinds.{xorb_laws}
 use Rattle.xet_records.specs.Version.{version_of}
 use Rattle.xet_records.specs.RecordKind.{RecordKind, KindLaws}
-use Rattle.xet_records.specs.Reading.{NextRecordNotRead}
+use Rattle.xet_records.specs.Reading.{ReadsBookend, NextRecordNotRead}
 use Rattle.xet_records.specs.Reading.NextRecordNotRead.{no_header, refused_header, no_rows}
 use Rattle.xet_records.specs.ViewReading.{CountsStored}
 use Rattle.xet_shards.specs.Write.WithOptions.{FitsSection}
-use Rattle.xet_shards.specs.StreamingShard.MinimalShard.{MinimalShard, eligible_hashes}
+use Rattle.xet_shards.specs.declared.streaming_shard.file_start.FileStart.{FileStart}
+use Rattle.xet_shards.specs.StreamingShard.MinimalShard.{MinimalShard, is_start, ascending_hashes, eligible_in, eligible_hashes}
 use Rattle.xet_shards.specs.Write.Layout.{if_included}
-use Rattle.xet_shards.specs.StreamingShard.MinimalReading.{HasReadViews, ReadsViews, StopsAfterViews, ReadsWantedXorbs, ReadsSections, ReadsShardHeader, ReadsMinimal, SectionsNotRead, MinimalFails, ReadsEligible, EligibleFails}
+use Rattle.xet_shards.specs.StreamingShard.MinimalReading.{HasReadViews, ReadsViews, StopsAfterViews, ReadsWantedXorbs, ReadsSections, ReadsShardHeader, ReadsMinimal, SectionsNotRead, MinimalFails}
 use Rattle.xet_shards.specs.StreamingShard.MinimalReading.SectionsNotRead.{no_files, no_xorbs}
 
 module _ {H R V : Type 0} (K : RecordKind H R) (laws : KindLaws K) (record_of : V → R) where
@@ -109,6 +114,15 @@ module _ {I J : Type 0} (view : I → J) (reads : J → J → List ℕ → Type 
     after_header header_fails with_files with_xorbs old mid new (Ok m) header sections = minimal_seen with_files with_xorbs old new m (mid, header, sections)
     after_header header_fails with_files with_xorbs old mid new (Err e) header failed = failure_seen header_fails with_xorbs old new mid e header failed
 
+    -- what is said of the shard that they hold, of what was made of it
+    pub made_after_header : {T : Type 0} (Made : T → MinimalShard → Type 0) (header_fails : J → J → CoreError → Type 0) (old mid new : I) (r : CoreResult T)
+        → (header : ReadsShardHeader (λ a b xs. reads (view a) (view b) xs) old mid)
+        → MatchResult r (λ made. (m : MinimalShard) × ReadsSections (λ a b xs. reads (view a) (view b) xs) (version_of header.header.version) true true mid new m × Made made m)
+        (SectionsNotRead (λ a b xs. reads (view a) (view b) xs) (λ a b n f. fails (view a) (view b) n f) (version_of header.header.version) true mid new)
+        → MatchResult r (λ made. (m : MinimalShard) × ReadsMinimal reads true true (view old) (view new) m × Made made m) (MinimalFails reads fails header_fails true (view old) (view new))
+    made_after_header Made header_fails old mid new (Ok made) header (m, sections, says) = (m, minimal_seen true true old new m (mid, header, sections), says)
+    made_after_header Made header_fails old mid new (Err e) header failed = failure_seen header_fails true old new mid e header failed
+
 -- the records of a section, or none if they are not kept, fit a section
 pub kept_fit : {H R : Type 0} (K : RecordKind H R) (is_kept : Bool) (records : List R) → FitsSection K records → FitsSection K (if_included is_kept records)
 kept_fit K true records fits = fits
@@ -120,9 +134,32 @@ pub kept_more : {X : Type 0} (is_kept : Bool) (read : List X) (x : X) (before af
 kept_more true read x before after is more = more ∙ ap (λ vs. vs ++ x ∷ []) is
 kept_more false read x before after is more = more ∙ is
 
--- the hashes of what was read were collected, or memory ran out
-pub eligible_read : {Z : Type 0} (old new : Source) (m : MinimalShard) (r : CoreResult (Vec DataHash Z)) → ReadsMinimal ReadsBytes true true old new m
-    → IfOk r (λ hashes. hashes.items ≡ eligible_hashes m.files m.xorbs) → IfErr r (λ e. e ≡ OutOfMemory)
-    → MatchResult r (λ hashes. ReadsEligible old new hashes.items) (EligibleFails old new)
-eligible_read old new m (Ok hashes) read same causes = (m, read, same)
-eligible_read old new m (Err e) read same causes = inr (causes, m, read)
+-- the hashes of the eligible chunks of a xorb section, listed after its bookend, or memory ran out
+pub hashes_listed : {Z I : Type 0} (reads : I → I → List ℕ → Type 0) (fails : I → I → ℕ → CoreError → Type 0) (old now new : I) (left : ℕ) (xorbs : List MDBXorbInfo) (starts : FileStart → Bool)
+    (keys : List DataHash) → HasReadViews xorb_records (λ x. x) (reads old now) xorbs left → ReadsBookend xorb_records (reads now new) → keys ≡ ascending_hashes (flat_map (eligible_in starts) xorbs)
+    → ((xs : List ℕ) (e : CoreError) → reads now new xs → length xs ≤ 48 → e ≡ OutOfMemory → fails now new 48 e) → (r : CoreResult (Vec DataHash Z)) → IfOk r (λ hashes. hashes.items ≡ keys)
+    → IfErr r (λ e. e ≡ OutOfMemory)
+    → MatchResult r (λ hashes. (xs : List MDBXorbInfo) × ReadsViews xorb_records (λ x. x) reads old new xs × (hashes.items ≡ ascending_hashes (flat_map (eligible_in starts) xs)))
+    (StopsAfterViews xorb_records (λ x. x) reads fails old new)
+hashes_listed reads fails old now new left xorbs starts keys read bookend are lacks_memory (Ok hashes) same causes =
+    (xorbs, record { mid = now; left = left; records = read; bookend = bookend }, same ∙ are)
+hashes_listed reads fails old now new left xorbs starts keys read bookend are lacks_memory (Err e) same causes = record {
+  mid = now;
+  views = xorbs;
+  left = left;
+  records = read;
+  stops = no_header (lacks_memory (xorb_records.header_bytes bookend.header) e bookend.taken (omega (arith, xorb_laws.header_size bookend.header)) causes);
+}
+
+-- both sections were read, or one was not
+pub eligible_sections : {Z I : Type 0} (reads : I → I → List ℕ → Type 0) (fails : I → I → ℕ → CoreError → Type 0) (version : FormatVersion) (old mid new : I) (files : List MDBFileInfo)
+    (starts : FileStart → Bool) → ReadsViews (file_records_in version) (λ r. r) reads old mid files → starts ≡ is_start files → (r : CoreResult (Vec DataHash Z))
+    → MatchResult r (λ hashes. (xs : List MDBXorbInfo) × ReadsViews xorb_records (λ x. x) reads mid new xs × (hashes.items ≡ ascending_hashes (flat_map (eligible_in starts) xs)))
+    (StopsAfterViews xorb_records (λ x. x) reads fails mid new)
+    → MatchResult r (λ hashes. (m : MinimalShard) × ReadsSections reads version true true old new m × (hashes.items ≡ eligible_hashes m.files m.xorbs)) (SectionsNotRead reads fails version true old new)
+eligible_sections reads fails version old mid new files starts read same (Ok hashes) (xorbs, section, are) = (
+  record { files = files; xorbs = xorbs },
+  record { files = files; mid = mid; file_section = read; kept = refl; xorb_section = section },
+  are ∙ ap (λ s. ascending_hashes (flat_map (eligible_in s) xorbs)) same,
+)
+eligible_sections reads fails version old mid new files starts read same (Err e) stops = no_xorbs refl mid files read stops

@@ -1,10 +1,11 @@
 -- The xorbs and files that a minimal shard writes.
-use Rattle.std.proofs.Common.{◌≡◌, Ok, Err, None, ℕ, ◌+◌, ◌*◌, ◌≤◌, Bool, true, false, List, [], ◌∷◌, ◌++◌, length, map, Option, refl, sym, ap, ◌∙◌, subst, arith}
+use Rattle.std.proofs.Common.{◌≡◌, Ok, Err, None, ℕ, ◌+◌, ◌*◌, ◌≤◌, Bool, true, false, List, [], ◌∷◌, ◌++◌, length, map, flat_map, Option, refl, sym, ap, ◌∙◌, subst, append-nil, arith}
 use Rattle.std.specs.Prelude.{All, IfOk, sum_by, not, ◌&&◌, if◌then◌else◌}
 use Rattle.std.specs.Borrow.{Bor}
 use Rattle.std.specs.Fn.{Shared, FnReturnsAt}
 use Rattle.std.specs.List.{enumerate_from}
-use Rattle.std.proofs.lemmas.List.{length-map}
+use Rattle.std.proofs.lemmas.List.{length-map, map-append}
+use Rattle.std.proofs.lemmas.Grind.{flat_map-append}
 use Rattle.std.proofs.lemmas.List.Elements.{All-map, All-weaker}
 use Rattle.std.proofs.lemmas.List.FromFn.{length-enumerate_from}
 use Rattle.std.proofs.lemmas.List.Sums.{sum_by-cons}
@@ -14,7 +15,7 @@ use Rattle.xet_records.specs.declared.xorb_structs.MDBXorbInfo.{MDBXorbInfo}
 use Rattle.xet_records.specs.declared.xorb_structs.XorbChunkSequenceEntry.{XorbChunkSequenceEntry}
 use Rattle.xet_records.proofs.Merging.{flags_fit}
 use Rattle.xet_records.specs.FileRecord.{file_records, row_count, has_verification, FitsRecord, IsStored}
-use Rattle.xet_records.specs.XorbRecord.{xorb_records, xorb_row_count, HasItsChunks}
+use Rattle.xet_records.specs.XorbRecord.{xorb_records, xorb_record_bytes, xorb_row_count, HasItsChunks}
 use Rattle.xet_records.specs.declared.file_structs.view.KeptParts.{KeptParts}
 use Rattle.xet_records.specs.View.{with_verification_if, without_verification, with_aux_if, as_kept}
 use Rattle.xet_records.specs.FileRow.{FitsHashRow}
@@ -46,6 +47,12 @@ rows_marked starts x =
 pub marked_whole : (starts : FileStart → Bool) (x : MDBXorbInfo) → HasItsChunks x → HasItsChunks (mark_starts starts x)
 marked_whole starts x whole = omega (arith, rows_marked starts x, whole)
 
+-- the bytes of more xorbs
+pub marked_bytes-append : (starts : FileStart → Bool) (xorbs more : List MDBXorbInfo)
+    → flat_map xorb_record_bytes (map (mark_starts starts) (xorbs ++ more)) ≡ flat_map xorb_record_bytes (map (mark_starts starts) xorbs) ++ flat_map xorb_record_bytes (map (mark_starts starts) more)
+marked_bytes-append starts xorbs more =
+    ap (flat_map xorb_record_bytes) (map-append (mark_starts starts) xorbs more) ∙ flat_map-append xorb_record_bytes (map (mark_starts starts) xorbs) (map (mark_starts starts) more)
+
 module _ {X : Type 0} (answers : X → Bool → Type 0) where
   -- one element more is accepted, or it is not
   pub one_kept : (xs kept : List X) (x : X) → IsKept answers xs kept → answers x true → IsKept answers (xs ++ x ∷ []) (kept ++ x ∷ [])
@@ -60,6 +67,11 @@ module _ {X : Type 0} (answers : X → Bool → Type 0) where
   pub none_kept : (xs kept : List X) (x : X) → IsKept answers xs kept → answers x false → IsKept answers (xs ++ x ∷ []) kept
   none_kept [] kept x before refused = (false, refused, [], refl, before)
   none_kept (y ∷ xs) kept x (b, answer, rest, before, is) refused = (b, answer, rest, none_kept xs rest x before refused, is)
+
+  -- one element more, with its answer
+  pub one_answered : (xs kept : List X) (x : X) (accepted : Bool) → IsKept answers xs kept → answers x accepted → IsKept answers (xs ++ x ∷ []) (kept ++ if_included accepted (x ∷ []))
+  one_answered xs kept x true before answer = one_kept xs kept x before answer
+  one_answered xs kept x false before answer = subst (IsKept answers (xs ++ x ∷ [])) (sym (append-nil kept)) (none_kept xs kept x before answer)
 
   -- a filter that accepts each keeps all
   pub all_kept : ((x : X) (b : Bool) → answers x b → b ≡ true) → (xs kept : List X) → IsKept answers xs kept → kept ≡ xs

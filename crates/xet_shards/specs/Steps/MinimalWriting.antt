@@ -1,14 +1,19 @@
 -- What is written of the xorbs of a minimal shard.
-use Rattle.std.specs.Prelude.{◌≡◌, ◌≤◌, ◌<◌, Bool, true, false, IsTrue, ℕ, List, length, map, slice_get, Option, Some, IfSome}
+use Rattle.std.specs.Prelude.{◌≡◌, ◌≤◌, ◌<◌, Bool, true, false, IsTrue, ℕ, List, [], ◌∷◌, length, map, slice_get, Option, Some, IfSome}
 use Rattle.std.specs.BTreeMap.Range.{IsLeBy}
 use Rattle.std.specs.Io.KnownBytes.{Appends}
 use Rattle.xet_records.specs.declared.xorb_structs.MDBXorbInfo.{MDBXorbInfo}
 use Rattle.xet_records.specs.XorbRecord.{xorb_records}
 use Rattle.xet_shards.specs.declared.shard_format.write.written.WrittenXorbs.{WrittenXorbs}
 use Rattle.xet_shards.specs.declared.streaming_shard.file_start.FileStart.{FileStart}
+use Rattle.xet_shards.specs.Write.Layout.{if_included}
 use Rattle.xet_shards.specs.Write.Section.{section_bytes}
 use Rattle.xet_shards.specs.Write.Written.{HasWrittenFor}
 use Rattle.xet_shards.specs.StreamingShard.MinimalShard.{start_cmp, has_start, chunk_of, mark_starts, IsKept}
+
+-- a xorb with a mark on each of these starts, or none if it is not wanted
+abbrev pub marked_if_wanted : Bool → List FileStart → MDBXorbInfo → List MDBXorbInfo
+marked_if_wanted wanted starts x = map (mark_starts (has_start starts)) (if_included wanted (x ∷ []))
 
 -- the section of the xorbs that a filter accepts was written, with a mark on each start, and this
 -- was collected, for no chunk table

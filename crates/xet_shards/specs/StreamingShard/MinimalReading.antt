@@ -1,9 +1,7 @@
 -- Reading a minimal shard: a shard's header, and then views of the records of its sections.
 use Rattle.std.specs.Prelude.{◌≡◌, ◌⊎◌, ℕ, ◌+◌, Bool, true, false, List, [], flat_map, sum_by, All, Option}
 use Rattle.xet_base.specs.declared.error.CoreError.{CoreError}
-use Rattle.xet_base.specs.declared.error.CoreError.TheVariants.{OutOfMemory}
 use Rattle.xet_base.specs.declared.merklehash.DataHash.{DataHash}
-use Rattle.xet_base.specs.Source.{Source, ReadsBytes, ReadFails}
 use Rattle.xet_base.specs.Errors.{IsBareShardVersion, IsDeviceError}
 use Rattle.xet_records.specs.declared.file_structs.MDBFileInfo.{MDBFileInfo}
 use Rattle.xet_records.specs.declared.xorb_structs.MDBXorbInfo.{MDBXorbInfo}
@@ -14,7 +12,7 @@ use Rattle.xet_records.specs.Version.{IsVersion, version_of}
 use Rattle.xet_records.specs.FileRecord.{file_records_in}
 use Rattle.xet_records.specs.XorbRecord.{xorb_records}
 use Rattle.xet_shards.specs.declared.shard_format.ends.header.MDBShardFileHeader.{MDBShardFileHeader}
-use Rattle.xet_shards.specs.Ends.Ends.{HasUnsupportedHeader, EndsInHeader, SaysUnsupported, SaysEndOfInput, PartFails}
+use Rattle.xet_shards.specs.Ends.Ends.{HasUnsupportedHeader, EndsInHeader, SaysUnsupported, SaysEndOfInput}
 use Rattle.xet_shards.specs.Write.Layout.{header_tag, shard_header_bytes, if_included}
 use Rattle.xet_shards.specs.StreamingShard.MinimalShard.{MinimalShard, eligible_hashes}
 use Rattle.xet_records.specs.Limits.{MAX_ROWS}
@@ -75,6 +73,12 @@ module _ {I : Type 0} (reads : I → I → List ℕ → Type 0) where
       (mid : I) × (header : ReadsShardHeader old mid)
       × ReadsSections (version_of header.header.version) with_files with_xorbs mid new m
 
+  -- a shard was read, and these are the hashes of its eligible chunks
+  abbrev pub ReadsEligible : I → I → List DataHash → Type 0
+  ReadsEligible old new hashes =
+      (m : MinimalShard) × ReadsMinimal true true old new m
+      × (hashes ≡ eligible_hashes m.files m.xorbs)
+
   module _ (fails : I → I → ℕ → CoreError → Type 0) where
     -- the file section was not read, or the xorb section, which is wanted, was not
     pub data SectionsNotRead (version : FormatVersion) (with_xorbs : Bool) (old new : I)
@@ -98,15 +102,3 @@ pub record ReaderHeaderFails (remaining : Option (List ℕ)) (e : CoreError) : T
   pub causes : IsDeviceError e ⊎ IsBareShardVersion e
   pub unsupported : SaysUnsupported HasUnsupportedHeader remaining e
   pub end : SaysEndOfInput EndsInHeader remaining e
-
--- the hashes of a shard's eligible chunks were read from the source's position on
-abbrev pub ReadsEligible : Source → Source → List DataHash → Type 0
-ReadsEligible old new hashes =
-    (m : MinimalShard) × ReadsMinimal ReadsBytes true true old new m
-    × (hashes ≡ eligible_hashes m.files m.xorbs)
-
--- they were not: the shard was not read, or it was, and an allocation failed
-abbrev pub EligibleFails : Source → Source → CoreError → Type 0
-EligibleFails old new e =
-    MinimalFails ReadsBytes ReadFails (PartFails HasUnsupportedHeader EndsInHeader 48) true old new e
-    ⊎ ((e ≡ OutOfMemory) × (m : MinimalShard) × ReadsMinimal ReadsBytes true true old new m)

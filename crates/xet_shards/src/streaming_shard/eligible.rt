@@ -1,26 +1,35 @@
 //! The chunks that the global index keeps.
 
-ghost use Rattle.std.specs.Prelude.{◌≡◌, List, ◌++◌, MatchResult, OnOk, IfOk, IfErr, if◌then◌else◌};
+ghost use Rattle.std.specs.Prelude.{◌≡◌, true, List, ◌++◌, flat_map, MatchResult, OnOk, IfOk, IfErr, if◌then◌else◌};
 ghost use Rattle.std.specs.BTreeSet.{insert_key};
+ghost use Rattle.std.specs.Io.KnownBytes.{Consumes};
 ghost use Rattle.std.specs.List.Sorted.{IsSorted};
 ghost use Rattle.xet_base.specs.Hash.{hash_cmp};
+ghost use Rattle.xet_base.specs.Source.{ReadsBytes, ReadFails};
 ghost use Rattle.xet_base.specs.declared.merklehash.DataHash.{DataHash};
-ghost use Rattle.xet_records.specs.XorbRecord.{IsStoredXorb};
-ghost use Rattle.xet_shards.specs.StreamingShard.MinimalShard.{start_cmp, has_start, ascending_hashes, eligible_hashes, eligible_in};
-ghost use Rattle.xet_shards.specs.StreamingShard.MinimalReading.{ReadsEligible, EligibleFails};
+ghost use Rattle.xet_base.specs.Input.{ReaderFails};
+ghost use Rattle.xet_records.specs.declared.xorb_structs.MDBXorbInfo.{MDBXorbInfo};
+ghost use Rattle.xet_records.specs.XorbRecord.{xorb_records, IsStoredXorb};
+ghost use Rattle.xet_shards.specs.Ends.Ends.{HasUnsupportedHeader, EndsInHeader, PartFails};
+ghost use Rattle.xet_shards.specs.StreamingShard.MinimalShard.{MinimalShard, start_cmp, has_start, ascending_hashes, eligible_hashes, eligible_in};
+ghost use Rattle.xet_shards.specs.StreamingShard.MinimalReading.{ReadsViews, StopsAfterViews, ReadsSections, SectionsNotRead, MinimalFails, ReaderHeaderFails, ReadsEligible};
 
-use super::file_start::{FileStart, is_start, starts_of};
-use super::minimal_reader::read_sections;
+use super::file_start::{FileStart, is_start, read_starts, starts_of};
 use super::minimal_shard::MDBMinimalShard;
-use crate::shard_format::MDBShardInfo;
 use crate::shard_format::ends::info::read_header;
+use crate::shard_format::{MDBShardFileHeader, MDBShardInfo};
+use bytes::BytesMut;
 use std::alloc::Global;
 use std::collections::BTreeSet;
+use std::io::Read;
 use xet_base::error::{CoreError, Result};
-use xet_base::input::OfSource;
+use xet_base::input::{ByteInput, OfReader, OfSource};
 use xet_base::merklehash::MerkleHash;
 use xet_base::source::ShardSource;
-use xet_records::xorb_structs::MDBXorbInfoView;
+use xet_records::record_reader::FormatVersion;
+use xet_records::rows::ROW_LIMIT;
+use xet_records::view_reader::read_view;
+use xet_records::xorb_structs::{MDBXorbInfo, MDBXorbInfoView};
 
 impl MDBMinimalShard {
     /// The hashes of the chunks that the global index keeps, each once and in ascending order:
@@ -39,6 +48,23 @@ impl MDBMinimalShard {
         }
         list_of(alloc, hashes)
     }
+
+    /// Reads a shard's header and both sections, and returns what `global_dedup_eligible_chunks`
+    /// does of them, but with one record at a time. The errors are those of `from_reader`.
+    pub fn eligible_chunks_from_reader<R: Read>(
+        alloc: Global,
+        reader: &mut R,
+    ) -> Result<Vec<MerkleHash>>
+        ensures { MatchResult result
+            (λ hashes. ReadsEligible Consumes (R.remaining reader.old) (R.remaining reader.new)
+            hashes.items)
+            (MinimalFails Consumes (λ before after n e. ReaderFails before n e)
+            (λ before after e. ReaderHeaderFails before e) true (R.remaining reader.old)
+            (R.remaining reader.new)) }
+    {
+        let version = MDBShardFileHeader::deserialize(alloc, reader)?.format_version();
+        read_eligible::<OfReader, R>(alloc, reader, version)
+    }
 }
 
 impl MDBShardInfo {
@@ -55,14 +81,60 @@ impl MDBShardInfo {
         source: &mut S,
     ) -> Result<Vec<MerkleHash>>
         ensures { MatchResult result
-            (λ hashes. ReadsEligible (S.meaning source.old) (S.meaning source.new) hashes.items)
-            (EligibleFails (S.meaning source.old) (S.meaning source.new)) }
+            (λ hashes. ReadsEligible ReadsBytes (S.meaning source.old) (S.meaning source.new)
+            hashes.items)
+            (MinimalFails ReadsBytes ReadFails (PartFails HasUnsupportedHeader EndsInHeader 48) true
+            (S.meaning source.old) (S.meaning source.new)) }
     {
-        let header = read_header(alloc, source)?;
-        let version = header.format_version();
-        let shard = read_sections::<OfSource, S>(alloc, source, version, true, true)?;
-        shard.global_dedup_eligible_chunks(alloc)
+        let version = read_header(alloc, source)?.format_version();
+        read_eligible::<OfSource, S>(alloc, source, version)
     }
+}
+
+// Reads both sections, and returns the hashes of the eligible chunks.
+fn read_eligible<M, I: ByteInput<M>>(
+    alloc: Global,
+    input: &mut I,
+    version: FormatVersion,
+) -> Result<Vec<MerkleHash>>
+    ensures { MatchResult result
+        (λ hashes. (m : MinimalShard)
+        × ReadsSections I.reads version true true input.old input.new m
+        × (hashes.items ≡ eligible_hashes m.files m.xorbs))
+        (SectionsNotRead I.reads I.fails version true input.old input.new) }
+{
+    let starts = read_starts::<M, I>(alloc, input, version)?;
+    read_eligible_after::<M, I>(alloc, input, starts.as_slice())
+}
+
+// Reads the xorb section, and returns the hashes of its eligible chunks, in a shard whose files start
+// there.
+fn read_eligible_after<M, I: ByteInput<M>>(
+    alloc: Global,
+    input: &mut I,
+    starts: &[FileStart],
+) -> Result<Vec<MerkleHash>>
+    requires { IsSorted start_cmp starts.now }
+    ensures { MatchResult result
+        (λ hashes. (xorbs : List MDBXorbInfo)
+        × ReadsViews xorb_records (λ x. x) I.reads input.old input.new xorbs
+        × (hashes.items
+        ≡ ascending_hashes (flat_map (eligible_in (has_start starts.now)) xorbs)))
+        (StopsAfterViews xorb_records (λ x. x) I.reads I.fails input.old input.new) }
+{
+    let mut hashes = BTreeSet::new(alloc);
+    let mut buffer = BytesMut::new(alloc);
+    let mut rows_left = ROW_LIMIT;
+    while let Some(xorb) = read_view::<MDBXorbInfo, MDBXorbInfoView, M, I>(
+        alloc,
+        &mut buffer,
+        input,
+        FormatVersion::V3,
+        &mut rows_left,
+    )? {
+        insert_eligible(&mut hashes, &xorb, starts)?;
+    }
+    list_of(alloc, hashes)
 }
 
 // The hashes of a set in ascending order. `collect` would go on if its first allocation, of room

@@ -1,19 +1,26 @@
 //! The chunks at which files start.
 
-ghost use Rattle.std.specs.Prelude.{◌≡◌, ◌++◌, ◌<◌, ◌≤◌, ◌^◌, length, MatchOption, OnOk, IfOk, IfErr};
+ghost use Rattle.std.specs.Prelude.{◌≡◌, ◌++◌, ◌<◌, ◌≤◌, ◌^◌, List, length, MatchOption, MatchResult, OnOk, IfOk, IfErr};
 ghost use Rattle.std.specs.Io.KnownBytes.{Appends};
 ghost use Rattle.std.specs.List.Sorted.{IsSorted};
 ghost use Rattle.xet_base.specs.Errors.{IsWriteError};
+ghost use Rattle.xet_records.specs.declared.file_structs.MDBFileInfo.{MDBFileInfo};
+ghost use Rattle.xet_records.specs.FileRecord.{file_records_in};
 ghost use Rattle.xet_records.specs.XorbRecord.{xorb_record_bytes, IsStoredXorb};
 ghost use Rattle.xet_shards.specs.StreamingShard.MinimalShard.{start_cmp, start_of_file, has_start, is_start, chunk_of, mark_starts};
+ghost use Rattle.xet_shards.specs.StreamingShard.MinimalReading.{ReadsViews, StopsAfterViews};
 ghost use Rattle.xet_shards.specs.Steps.MinimalWriting.{StartsNowhere, IsNextStart, IsPlaceOf};
 
+use bytes::BytesMut;
 use std::alloc::Global;
 use std::io::Write;
 use xet_base::error::{CoreError, Result};
+use xet_base::input::ByteInput;
 use xet_base::merklehash::MerkleHash;
-use xet_records::file_structs::MDBFileInfoView;
-use xet_records::rows::write_row;
+use xet_records::file_structs::{MDBFileInfo, MDBFileInfoView};
+use xet_records::record_reader::FormatVersion;
+use xet_records::rows::{ROW_LIMIT, write_row};
+use xet_records::view_reader::read_view;
 use xet_records::xorb_structs::MDBXorbInfoView;
 
 /// A chunk of a xorb, by its index there. A file starts at the first chunk of its first segment.
@@ -50,8 +57,36 @@ pub(super) fn starts_of(alloc: Global, files: &[MDBFileInfoView]) -> Result<Vec<
     Ok(starts)
 }
 
-// Adds where a file starts, if it has a segment.
-fn push_start(starts: &mut Vec<FileStart>, file: &MDBFileInfoView) -> Result<()>
+/// Reads the file section, and returns where its files start, in ascending order.
+pub(super) fn read_starts<M, I: ByteInput<M>>(
+    alloc: Global,
+    input: &mut I,
+    version: FormatVersion,
+) -> Result<Vec<FileStart>>
+    ensures { MatchResult result
+        (λ starts. (files : List MDBFileInfo)
+        × ReadsViews (file_records_in version) (λ r. r) I.reads input.old input.new files
+        × (has_start starts.items ≡ is_start files) × IsSorted start_cmp starts.items)
+        (StopsAfterViews (file_records_in version) (λ r. r) I.reads I.fails input.old input.new) }
+{
+    let mut starts = Vec::new(alloc);
+    let mut buffer = BytesMut::new(alloc);
+    let mut rows_left = ROW_LIMIT;
+    while let Some(file) = read_view::<MDBFileInfo, MDBFileInfoView, M, I>(
+        alloc,
+        &mut buffer,
+        input,
+        version,
+        &mut rows_left,
+    )? {
+        push_start(&mut starts, &file)?;
+    }
+    starts.sort_unstable();
+    Ok(starts)
+}
+
+/// Adds where a file starts, if it has a segment.
+pub(super) fn push_start(starts: &mut Vec<FileStart>, file: &MDBFileInfoView) -> Result<()>
     ensures ok { OnOk result (starts.new.items ≡ starts.old.items ++ start_of_file file.now) }
     ensures causes { IfErr result (λ e. e ≡ CoreError.OutOfMemory) }
 {

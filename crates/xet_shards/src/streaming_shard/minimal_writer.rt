@@ -1,20 +1,22 @@
 //! Writing a minimal shard: all of it, or some of its xorbs.
 
-ghost use Rattle.std.specs.Prelude.{◌≡◌, ◌+◌, ◌*◌, false, [], map, None, IsTrue, IsErrAnd, OnOk, IfOk, IfErr};
+ghost use Rattle.std.specs.Prelude.{◌≡◌, ◌+◌, ◌*◌, ◌≤◌, ◌++◌, false, List, [], map, flat_map, None, IsTrue, IsErrAnd, OnOk, IfOk, IfErr};
 ghost use Rattle.std.specs.Fn.{FnReturnsAt};
 ghost use Rattle.std.specs.Io.KnownBytes.{Appends};
 ghost use Rattle.std.specs.List.{Any, All, list_all};
 ghost use Rattle.std.specs.List.Sorted.{IsSorted};
 ghost use Rattle.xet_base.specs.Errors.{IsWriteError};
 ghost use Rattle.xet_records.specs.FileRecord.{file_records, has_verification};
-ghost use Rattle.xet_records.specs.XorbRecord.{xorb_records};
+ghost use Rattle.xet_records.specs.declared.xorb_structs.MDBXorbInfo.{MDBXorbInfo};
+ghost use Rattle.xet_records.specs.XorbRecord.{xorb_records, xorb_record_bytes, xorb_row_count, IsStoredXorb};
+ghost use Rattle.xet_records.specs.Limits.{MAX_ROWS};
 ghost use Rattle.xet_records.specs.View.{as_kept, LacksVerification, IsIoOther};
 ghost use Rattle.xet_shards.specs.Write.WithOptions.{FitsSection};
 ghost use Rattle.xet_shards.specs.Write.Section.{section_bytes};
-ghost use Rattle.xet_shards.specs.Write.Written.{HasWritten};
+ghost use Rattle.xet_shards.specs.Write.Written.{HasWritten, HasWrittenFor};
 ghost use Rattle.xet_shards.specs.StreamingShard.MinimalShard.{start_cmp, has_start, minimal_options, WritesMinimal, WritesMinimalKept, WritesKept, FiltersAt};
 ghost use Rattle.xet_shards.specs.Steps.MinimalShard.{HasNoTables};
-ghost use Rattle.xet_shards.specs.Steps.MinimalWriting.{WritesMarked};
+ghost use Rattle.xet_shards.specs.Steps.MinimalWriting.{WritesMarked, marked_if_wanted};
 
 use super::file_start::{FileStart, starts_of, write_marked};
 use super::minimal_shard::MDBMinimalShard;
@@ -194,8 +196,8 @@ fn all_have_verification(files: &[MDBFileInfoView]) -> bool
     true
 }
 
-// Version 3, no tables, no key, the creation, and an expiry or 0.
-fn minimal_options(now: u64, expiry: Option<u64>) -> LayoutOptions
+/// Version 3, no tables, no key, the creation, and an expiry or 0.
+pub(super) fn minimal_options(now: u64, expiry: Option<u64>) -> LayoutOptions
     ensures { result ≡ minimal_options now expiry }
 {
     LayoutOptions {
@@ -251,13 +253,37 @@ fn write_xorbs<W: Write, F: Fn(&MDBXorbInfoView) -> bool>(
 {
     let mut written = WrittenXorbs::new(alloc);
     for xorb in xorbs {
-        if filter(xorb) {
-            written.add(xorb.header())?;
-            write_marked(writer, xorb, starts)?;
-        }
+        add_if(filter(xorb), writer, &mut written, xorb, starts)?;
     }
     WrittenXorbs::write_bookend(writer)?;
     Ok(written)
+}
+
+/// Adds and writes a xorb with a mark on each chunk that is a start, if it is wanted. Rows of a chunk
+/// table are not collected. The error is the writer's, or `OutOfMemory` if an allocation fails.
+pub(super) fn add_if<W: Write>(
+    wanted: bool,
+    writer: &mut W,
+    written: &mut WrittenXorbs,
+    xorb: &MDBXorbInfoView,
+    starts: &[FileStart],
+) -> Result<()>
+    requires sorted { IsSorted start_cmp starts.now }
+    requires stored { IsStoredXorb xorb.now }
+    requires rows { written.old.table.rows + xorb_row_count xorb.now ≤ MAX_ROWS }
+    ensures appended { OnOk result
+        (Appends (W.contents writer.old) (W.contents writer.new)
+        (flat_map xorb_record_bytes (marked_if_wanted wanted starts.now xorb.now))) }
+    ensures written { OnOk result
+        ((before : List MDBXorbInfo) → HasWrittenFor false written.old before
+        → HasWrittenFor false written.new (before ++ marked_if_wanted wanted starts.now xorb.now)) }
+    ensures causes { IfErr result IsWriteError }
+{
+    if wanted {
+        written.add(xorb.header())?;
+        write_marked(writer, xorb, starts)?;
+    }
+    Ok(())
 }
 
 // The bytes of a shard without tables that has these files and xorbs.
