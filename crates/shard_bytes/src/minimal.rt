@@ -1,11 +1,8 @@
 //! Minimal shards, subsets of xorbs, and the chunks that the global index keeps.
 
-ghost use Rattle.std.specs.List.{Any};
-ghost use Rattle.std.specs.Prelude.{◌≡◌, ◌⊎◌, ◌↔◌, true, length, IfOk, IsErrAnd, IsTrue, MatchResult, map};
-ghost use Rattle.xet_core_structures.specs.MinimalShard.{WritesMinimalKept};
+ghost use Rattle.std.specs.Prelude.{◌≡◌, ◌⊎◌, ◌↔◌, length, IfOk, IsTrue, MatchResult, map};
 ghost use Rattle.xet_core_structures.specs.Shard.{xorb_hash_of};
-ghost use Rattle.xet_core_structures.specs.View.{LacksVerification, IsIoOther};
-ghost use Rattle.shard_bytes.specs.Minimal.{HoldsMinimal, RefusesMinimal, MinimalBytes, RefusesMinimalBytes, Accepts, AreLacked, LackXorbs, SubsetBytes, EligibleIn};
+ghost use Rattle.shard_bytes.specs.Minimal.{RefusesMinimal, MinimalBytes, RefusesMinimalBytes, Accepts, AreLacked, LackXorbs, SubsetBytes, EligibleIn};
 ghost use Rattle.shard_bytes.specs.Steps.Minimal.{FiltersAs};
 ghost use Rattle.shard_bytes.specs.Outcomes.{InMemory};
 ghost use Rattle.shard_bytes.specs.Sizes.{IsMinimalSize};
@@ -16,7 +13,7 @@ use crate::number::in_version;
 use crate::room::with_room;
 use crate::sorted_hashes::SortedHashes;
 use std::alloc::{AllocError, Global};
-use std::io::{self, ErrorKind, Write};
+use std::io::{self, ErrorKind};
 use xet_core_structures::error::{CoreError, Result};
 use xet_core_structures::file_structs::KeptParts;
 use xet_core_structures::merklehash::MerkleHash;
@@ -79,15 +76,16 @@ pub fn minimal_bytes(alloc: Global, bytes: &[u8], now: u64, kept: KeptParts) -> 
         (RefusesMinimalBytes kept bytes.now) }
     ensures size { IfOk result (λ minimal. IsMinimalSize bytes.now (length minimal.items)) }
 {
-    let shard = read_minimal(alloc, bytes)?;
-    if kept.verification && lacks_verification(&shard) {
-        return Err(CoreError::Io(io::Error::from(ErrorKind::Other)));
-    }
+    let mut reader = bytes;
     let mut minimal = with_room(alloc, bytes.len())?;
-    match write_minimal(alloc, &shard, &mut minimal, now, kept) {
-        Ok(_) => Ok(minimal),
-        // Writing to a vector fails only if it is out of memory.
-        Err(_) => Err(CoreError::OutOfMemory),
+    match MDBMinimalShard::copy_from_reader(alloc, &mut reader, &mut minimal, now, kept) {
+        Ok(lacks_verification) => {
+            if kept.verification && lacks_verification {
+                return Err(CoreError::Io(io::Error::from(ErrorKind::Other)));
+            }
+            Ok(minimal)
+        }
+        Err(error) => Err(in_memory(error)),
     }
 }
 
@@ -113,66 +111,31 @@ pub fn minimal_bytes_in(
     in_version(minimal, version)
 }
 
-// Whether a file has no verification rows.
-fn lacks_verification(shard: &MDBMinimalShard) -> bool
-    ensures { IsTrue result ↔ Any (LacksVerification true) shard.now.files }
-{
-    for index in 0..shard.num_files() {
-        if let Some(file) = shard.file(index) {
-            if !file.contains_verification() {
-                return true;
-            }
-        }
-    }
-    false
-}
-
-// Writes the minimal shard with these parts of its files.
-fn write_minimal<W: Write>(
-    alloc: Global,
-    shard: &MDBMinimalShard,
-    writer: &mut W,
-    now: u64,
-    kept: KeptParts,
-) -> Result<usize>
-    ensures written { IfOk result
-        (WritesMinimalKept (W.contents writer.old) (W.contents writer.new) kept now shard.now) }
-    ensures missing { Any (LacksVerification kept.verification) shard.now.files
-        → IsErrAnd result IsIoOther }
-{
-    if kept.aux_ext {
-        shard.serialize(alloc, writer, now, kept.verification)
-    } else {
-        shard.serialize_without_aux(alloc, writer, now, kept.verification)
-    }
-}
-
 /// The bytes of a shard with some of the xorbs and none of the files of a shard, from its bytes: at
 /// most 200 more. The listed hashes may be in any order.
 ///
-/// The errors are those of [`MDBMinimalShard::from_reader`] and
-/// [`MDBMinimalShard::serialize_xorb_subset_with_expiry`].
+/// The errors are those of [`MDBMinimalShard::from_reader`].
 pub fn subset_bytes(alloc: Global, bytes: &[u8], subset: &Subset) -> Result<Vec<u8>>
     ensures subset { MatchResult result (λ written. SubsetBytes subset.entry.now bytes.now written.items)
         (InMemory (RefusesMinimal bytes.now)) }
     ensures size { IfOk result (λ written. IsMinimalSize bytes.now (length written.items)) }
 {
-    let shard = read_minimal(alloc, bytes)?;
     let filter = Filter::new(alloc, &subset.kept)?;
-    let mut written = Vec::new(alloc);
     let is_kept = |xorb: &MDBXorbInfoView| -> bool
         ensures { IsTrue result ↔ Accepts filter (xorb_hash_of xorb.now) }
     { filter.accepts(&xorb.xorb_hash()) };
-    match shard.serialize_xorb_subset_with_expiry(
+    let mut reader = bytes;
+    let mut written = Vec::new(alloc);
+    match MDBMinimalShard::copy_xorb_subset_from_reader(
         alloc,
+        &mut reader,
         &mut written,
         subset.now,
         subset.expiry,
         is_kept,
     ) {
-        Ok(_) => Ok(written),
-        // Writing to a vector fails only if it is out of memory.
-        Err(_) => Err(CoreError::OutOfMemory),
+        Ok(()) => Ok(written),
+        Err(error) => Err(in_memory(error)),
     }
 }
 
@@ -205,8 +168,11 @@ pub fn hashes_without_xorb(
     ensures { MatchResult result (λ lacking. LackXorbs bytes.now hashes.now lacking.items)
         (InMemory (RefusesMinimal bytes.now)) }
 {
-    let shard = read_minimal(alloc, bytes)?;
-    Ok(hashes_lacked(alloc, &shard, hashes)?)
+    let mut reader = bytes;
+    match MDBMinimalShard::from_reader(alloc, &mut reader, false, true) {
+        Ok(shard) => Ok(hashes_lacked(alloc, &shard, hashes)?),
+        Err(error) => Err(in_memory(error)),
+    }
 }
 
 // The given hashes that no xorb has, in their order.
@@ -246,21 +212,14 @@ fn xorb_hashes(
 /// The hashes of the chunks of a shard that the global index keeps, from its bytes, in ascending
 /// order.
 ///
-/// The errors are those of [`MDBMinimalShard::from_reader`] and
-/// [`MDBMinimalShard::global_dedup_eligible_chunks`].
+/// The errors are those of [`MDBMinimalShard::from_reader`].
 pub fn eligible_chunks(alloc: Global, bytes: &[u8]) -> Result<Vec<MerkleHash>>
     ensures { MatchResult result (λ hashes. EligibleIn bytes.now hashes.items)
         (InMemory (RefusesMinimal bytes.now)) }
 {
-    read_minimal(alloc, bytes)?.global_dedup_eligible_chunks(alloc)
-}
-
-fn read_minimal(alloc: Global, bytes: &[u8]) -> Result<MDBMinimalShard>
-    ensures { MatchResult result (HoldsMinimal bytes.now) (InMemory (RefusesMinimal bytes.now)) }
-{
     let mut reader = bytes;
-    match MDBMinimalShard::from_reader(alloc, &mut reader, true, true) {
-        Ok(shard) => Ok(shard),
+    match MDBMinimalShard::eligible_chunks_from_reader(alloc, &mut reader) {
+        Ok(hashes) => Ok(hashes),
         Err(error) => Err(in_memory(error)),
     }
 }
