@@ -1,6 +1,5 @@
-use Rattle.std.proofs.Common.{None, refl, subst}
+use Rattle.std.proofs.Common.{refl}
 use Rattle.std.proofs.lemmas.Result.{err_from_is_err_and}
-use Rattle.xet_records.specs.RecordKind.{in_version}
 use Rattle.xet_core_structures.specs.Steps.MergeJoin.SectionsFail.{first_fails, second_fails}
 use Rattle.xet_core_structures.proofs.TwoShards.OneSection.{serves_same, pending_start, pending_serves, no_first}
 use Rattle.xet_core_structures.proofs.TwoShards.MergeJoin.{pair_of, merging_start, merging_on, fewer_left, sections_combined, pair_failed, first_not_next, second_not_next, served_on, no_bookend, none_left}
