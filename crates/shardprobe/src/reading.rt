@@ -12,6 +12,7 @@ use std::io::{self, Write};
 use xet_core_structures::error::Result as CoreResult;
 use xet_core_structures::shard_format::MDBShardInfo;
 use xet_core_structures::source::{MemorySource, ShardSource};
+use xet_core_structures::streaming_shard::MDBMinimalShard;
 
 /// Header and footer of a shard's bytes, read by a source that does not fail.
 pub fn info_of(alloc: Global, bytes: &[u8]) -> Result<MDBShardInfo, Stop> {
@@ -30,6 +31,10 @@ impl Run<'_> {
             }
             ["eligible_chunks", _] => {
                 let hashes = MDBShardInfo::filter_cas_chunks_for_global_dedup(alloc, source)?;
+                Ok(show_line(&hashes, out)?)
+            }
+            ["copy_eligible", _] => {
+                let hashes = MDBMinimalShard::eligible_chunks_from_reader(alloc, source)?;
                 Ok(show_line(&hashes, out)?)
             }
             ["read_file_ranges", _, from @ ..] => {
