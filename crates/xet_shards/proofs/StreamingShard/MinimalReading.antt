@@ -114,7 +114,7 @@ module _ {I J : Type 0} (view : I → J) (reads : J → J → List ℕ → Type 
     after_header header_fails with_files with_xorbs old mid new (Ok m) header sections = minimal_seen with_files with_xorbs old new m (mid, header, sections)
     after_header header_fails with_files with_xorbs old mid new (Err e) header failed = failure_seen header_fails with_xorbs old new mid e header failed
 
-    -- what is said of the shard that they hold, of what was made of it
+    -- the same of something that was made of the sections
     pub made_after_header : {T : Type 0} (Made : T → MinimalShard → Type 0) (header_fails : J → J → CoreError → Type 0) (old mid new : I) (r : CoreResult T)
         → (header : ReadsShardHeader (λ a b xs. reads (view a) (view b) xs) old mid)
         → MatchResult r (λ made. (m : MinimalShard) × ReadsSections (λ a b xs. reads (view a) (view b) xs) (version_of header.header.version) true true mid new m × Made made m)

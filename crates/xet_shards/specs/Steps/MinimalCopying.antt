@@ -12,7 +12,7 @@ use Rattle.xet_shards.specs.Write.Section.{section_bytes}
 use Rattle.xet_shards.specs.Write.Written.{HasWritten}
 use Rattle.xet_shards.specs.StreamingShard.MinimalShard.{start_cmp, start_of_file, has_start, is_start}
 
--- a file has no verification rows
+-- one of the files has no verification rows
 abbrev pub lacks_verification : List MDBFileInfo → Bool
 lacks_verification files = list_any (λ r. not (has_verification r.metadata.file_flags)) files
 

@@ -107,8 +107,7 @@ fn read_eligible<M, I: ByteInput<M>>(
     read_eligible_after::<M, I>(alloc, input, starts.as_slice())
 }
 
-// Reads the xorb section, and returns the hashes of its eligible chunks, in a shard whose files start
-// there.
+// Reads the xorb section, and returns the hashes of its eligible chunks. Files start at these chunks.
 fn read_eligible_after<M, I: ByteInput<M>>(
     alloc: Global,
     input: &mut I,

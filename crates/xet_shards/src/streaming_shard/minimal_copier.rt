@@ -1,5 +1,5 @@
-//! Minimal shards that are written as the records of a shard are read, so that no more than one
-//! record is held.
+//! Minimal shards that are written as the records of a shard are read. One record is held at a
+//! time; of those before it where files start, and rows of lookup tables, which are not written.
 
 ghost use Rattle.std.specs.Prelude.{◌≡◌, ◌⊎◌, ◌+◌, ◌≤◌, ◌++◌, [], ◌∷◌, IsTrue, List, MatchResult, OnOk, IfErr};
 ghost use Rattle.std.specs.Fn.{FnReturnsAt};
@@ -38,10 +38,10 @@ use xet_records::view_reader::read_view;
 use xet_records::xorb_structs::{MDBXorbInfo, MDBXorbInfoView};
 
 impl MDBMinimalShard {
-    /// Reads a shard's header and both sections, and writes its minimal shard: what `from_reader`
-    /// and then `serialize` or `serialize_without_aux` write, with these parts of files, but with
-    /// one record at a time. Verification rows are kept of the files that have them. Returns whether
-    /// a file has none, which `serialize` refuses if they are wanted.
+    /// Reads a shard's header and both sections, and writes its minimal shard with these parts of
+    /// files: what `from_reader` and then `serialize` or `serialize_without_aux` write, but with one
+    /// record at a time. Returns whether a file has no verification rows. If they are wanted, that
+    /// is an error of `serialize`; here the other files keep theirs.
     ///
     /// The errors are those of `from_reader`, and the writer's. Part of the shard may be written
     /// before an error.
