@@ -173,11 +173,11 @@ pub const ROWS: [Row; 21] = [
         Before::Nothing,
     ),
     row(
-        "minimal write",
+        "minimal shard",
         Operation::WriteMinimal,
         Item::Record,
         Hashes::None,
-        Before::Each(Operation::ReadMinimal),
+        Before::Nothing,
     ),
     row(
         "whole read of files",
