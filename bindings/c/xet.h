@@ -58,7 +58,7 @@ enum xet_error {
     XET_SMUDGE_QUERY_POLICY = 10,     /* * */
     XET_INVALID_SHARD = 11,           /* the bytes are not a valid shard, or two shards have no union */
     XET_INVALID_RANGE = 12,           /* * */
-    XET_INVALID_ARGUMENTS = 13,       /* the call does not admit its arguments */
+    XET_INVALID_ARGUMENTS = 13,       /* the call does not admit its arguments, as keys that differ */
     XET_MALFORMED_DATA = 14,          /* * */
     XET_HASH_MISMATCH = 15,           /* * */
     XET_HASH_PARSING = 16,            /* a text is not the digits of a hash */
@@ -90,7 +90,7 @@ static inline const char *xet_error_text(uint32_t error) {
     case XET_SHARD_VERSION: return "the bytes have another tag or version than a shard";
     case XET_BAD_FILENAME: return "the text is not the name of a shard file";
     case XET_INVALID_SHARD: return "the bytes are not a valid shard, or two shards have no union";
-    case XET_INVALID_ARGUMENTS: return "the call does not admit its arguments";
+    case XET_INVALID_ARGUMENTS: return "the call does not admit its arguments, as keys that differ";
     case XET_HASH_PARSING: return "the text is not the digits of a hash";
     case XET_OUT_OF_MEMORY: return "an allocation failed";
     case XET_SHORT: return "the output does not fit the room that was given";

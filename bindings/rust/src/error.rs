@@ -66,7 +66,7 @@ impl fmt::Display for Error {
             Error::ShardVersion => "not a shard of version 2 or 3",
             Error::BadFilename => "not the name of a shard file",
             Error::InvalidShard => "not a valid shard, or the shards have no union",
-            Error::InvalidArguments => "the call does not admit its arguments",
+            Error::InvalidArguments => "the call does not admit its arguments, as keys that differ",
             Error::HashParsing => "not the 64 hexadecimal digits of a hash",
             Error::OutOfMemory => "out of memory",
             Error::Disagree(disagreement) => return disagreement.fmt(f),

@@ -371,7 +371,7 @@ fn records_that_no_shard_has() {
     let one = |file: &ListedFile, xorb: &Xorb| xet_shards::write_records(from_ref(file), from_ref(xorb), None);
     assert!(one(&file, &xorb).is_ok());
     assert_eq!(one(&ListedFile { hash: Hash([u64::MAX; 4]), ..file.clone() }, &xorb), refused);
-    assert_eq!(Error::InvalidArguments.to_string(), "the call does not admit its arguments");
+    assert_eq!(Error::InvalidArguments.to_string(), "the call does not admit its arguments, as keys that differ");
     assert_eq!(one(&ListedFile { flags: 1, ..file.clone() }, &xorb), refused);
     assert_eq!(one(&ListedFile { flags: xet_shards::WITH_SHA256, ..file.clone() }, &xorb), refused);
     assert_eq!(one(&file, &Xorb { hash: Hash([u64::MAX; 4]), ..xorb.clone() }), refused);
