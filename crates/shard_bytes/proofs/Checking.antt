@@ -451,12 +451,12 @@ not_both : (e : CoreError) → IsInvalidShard e → ¬ IsEndOfInput e
 not_both (InvalidShard text) invalid end = end
 not_both e invalid end = invalid
 
-pub unread : (section : Section) (bytes from : List ℕ) (Passes Ends : List ℕ → Type 0) (e : CoreError) (findings : List Finding) → SectionCase Passes Ends from e → IsUnreadable section e findings
+pub unread_reported : (section : Section) (bytes from : List ℕ) (Passes Ends : List ℕ → Type 0) (e : CoreError) (findings : List Finding) → SectionCase Passes Ends from e → IsUnreadable section e findings
     → (Passes from → IsFinding bytes (Refused section) × ((g : Finding) → IsFinding bytes g → g ≡ Refused section)) → (Ends from → IsFinding bytes (Cut section) × ((g : Finding) → IsFinding bytes g → g ≡ Cut section))
     → IsReport bytes findings
-unread section bytes from Passes Ends e findings (not_read (out_of_memory is)) (inl (one, invalid)) passes ends = absurd (subst IsInvalidShard is invalid)
-unread section bytes from Passes Ends e findings (not_read (out_of_bytes end short)) (inl (one, invalid)) passes ends = absurd (not_both e invalid end)
-unread section bytes from Passes Ends e findings (passes_limit bare over) (inl (one, invalid)) passes ends = let why = passes over in one_finding bytes (Refused section) findings (λ note. note) why.0 why.1 one
-unread section bytes from Passes Ends e findings (not_read (out_of_memory is)) (inr (one, some, valid)) passes ends = absurd (some is)
-unread section bytes from Passes Ends e findings (not_read (out_of_bytes end short)) (inr (one, some, valid)) passes ends = let why = ends short in one_finding bytes (Cut section) findings (λ note. note) why.0 why.1 one
-unread section bytes from Passes Ends e findings (passes_limit bare over) (inr (one, some, valid)) passes ends = absurd (valid (search (rules, bare)))
+unread_reported section bytes from Passes Ends e findings (not_read (out_of_memory is)) (inl (one, invalid)) passes ends = absurd (subst IsInvalidShard is invalid)
+unread_reported section bytes from Passes Ends e findings (not_read (out_of_bytes end short)) (inl (one, invalid)) passes ends = absurd (not_both e invalid end)
+unread_reported section bytes from Passes Ends e findings (passes_limit bare over) (inl (one, invalid)) passes ends = let why = passes over in one_finding bytes (Refused section) findings (λ note. note) why.0 why.1 one
+unread_reported section bytes from Passes Ends e findings (not_read (out_of_memory is)) (inr (one, some, valid)) passes ends = absurd (some is)
+unread_reported section bytes from Passes Ends e findings (not_read (out_of_bytes end short)) (inr (one, some, valid)) passes ends = let why = ends short in one_finding bytes (Cut section) findings (λ note. note) why.0 why.1 one
+unread_reported section bytes from Passes Ends e findings (passes_limit bare over) (inr (one, some, valid)) passes ends = absurd (valid (search (rules, bare)))

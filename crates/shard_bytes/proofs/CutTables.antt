@@ -17,7 +17,7 @@ use Rattle.xet_shards.specs.Lookup.WrittenChunks.{RowsAmong}
 use Rattle.xet_shards.specs.declared.shard_format.ends.options.LayoutOptions.{LayoutOptions}
 use Rattle.xet_shards.proofs.Lookup.ChunkTables.{chunk_index_written}
 use Rattle.xet_shards.proofs.Lookup.TableLookups.{IsLookedUp, index_written}
-use Rattle.shard_bytes.specs.Parts.{CollidesAmong, FindsPlaces, FindsRowsIn, RefusesPlaces, RefusesRows}
+use Rattle.shard_bytes.specs.Parts.{CollidesAmong, FindsPlaces, FindsRowsIn, RefusesPlaces, RefusesTableRows}
 use Rattle.shard_bytes.specs.RangeReads.{HasRowsWith, chunk_table_in}
 use Rattle.shard_bytes.proofs.CutOut.{collides_of, places_of, rows_of, same_hits, sorted_part}
 use Rattle.shard_bytes.proofs.Reading.{source_of}
@@ -63,7 +63,7 @@ module _ {H R : Type 0} (K : RecordKind H R) (laws : KindLaws K) (d : R) (record
     no_device e (inr collides) = collides
 
     -- the rows that are found are the starts of records with the word
-    pub starts_found : (r : CoreResult ℕ) (old new : List ℕ) → MatchResult r (FindsRowsIn table word old new) (RefusesRows table word)
+    pub starts_found : (r : CoreResult ℕ) (old new : List ℕ) → MatchResult r (FindsRowsIn table word old new) (RefusesTableRows table word)
         → MatchResult r (StartsAmong K records word new) (CollidesAmong K records word)
     starts_found (Ok n) old new finds =
         index_written K laws d records offset start count src looked src word old new (Ok n) (looks_up (Ok n) old new (rows_of of_shard table word cut starts_fit n old new finds.finds))

@@ -17,7 +17,7 @@ use Rattle.xet_core_structures.specs.XorbRecord.{xorb_records}
 use Rattle.xet_records.specs.RecordKind.{RecordKind}
 use Rattle.xet_records.proofs.RecordKinds.{version_known}
 use Rattle.xet_records.specs.declared.record_reader.FormatVersion.{FormatVersion}
-use Rattle.shard_bytes.specs.Parts.{table_of, FindsPlaces, FindsRowsIn, HasFileIn, RefusesFileIn, HasXorbIn, RefusesXorbIn, RefusesPlaces, RefusesRows}
+use Rattle.shard_bytes.specs.Parts.{table_of, FindsPlaces, FindsRowsIn, HasFileIn, RefusesFileIn, HasXorbIn, RefusesXorbIn, RefusesPlaces, RefusesTableRows}
 use Rattle.shard_bytes.specs.Walking.{HasFileAt, HasXorbAt, IsAtRow, NotAtRow}
 use Rattle.shard_bytes.proofs.Combining.{in_memory}
 
@@ -43,10 +43,10 @@ module _ (bytes : List ℕ) (width : ℕ) (old new : MemorySource) (same : old.b
   no_refusal e (inr (fits, inr (works, end, some, short))) = omega (arith, short, ap length same, end_within)
 
 pub rows_found : (bytes : List ℕ) (word : ℕ) (dest_old dest_new : List ℕ) (old new : MemorySource) (result : CoreResult ℕ) → old.bytes.now ≡ bytes → length bytes < 2 ^ 64 → length bytes % 12 ≡ 0
-    → LooksUpIndex (table_of bytes 4) word dest_old dest_new (in_memory old) (in_memory new) result → MatchResult result (FindsRowsIn bytes word dest_old dest_new) (RefusesRows bytes word)
+    → LooksUpIndex (table_of bytes 4) word dest_old dest_new (in_memory old) (in_memory new) result → MatchResult result (FindsRowsIn bytes word dest_old dest_new) (RefusesTableRows bytes word)
 rows_found bytes word dest_old dest_new old new (Ok count) same few whole looks = record { whole = whole; finds = looks.found }
 rows_found bytes word dest_old dest_new old new (Err e) same few whole looks = refuses_rows looks.refused where
-  refuses_rows : IndexRefused (table_of bytes 4) word (in_memory old) (in_memory new) e → RefusesRows bytes word e
+  refuses_rows : IndexRefused (table_of bytes 4) word (in_memory old) (in_memory new) e → RefusesTableRows bytes word e
   refuses_rows (inl (works, is, collides)) = inr (is, collides)
   refuses_rows (inr no_search) = absurd (no_refusal bytes 4 old new same few e no_search)
 

@@ -147,8 +147,8 @@ module _ {H R : Type 0} (K : RecordKind H R) (laws : KindLaws K) (stored : List 
       ∙ ap (λ bs. bs ++ after_it) (laws.record_bytes_are the_record)
       ∙ append_assoc first_row rows_after_it after_it
 
-  pub enough : 48 ≤ length rest
-  enough = omega (arith, ap length split_rest, length-append first_row (rows_after_it ++ after_it), laws.header_size (K.header_of the_record))
+  pub header_fits_rest : 48 ≤ length rest
+  header_fits_rest = omega (arith, ap length split_rest, length-append first_row (rows_after_it ++ after_it), laws.header_size (K.header_of the_record))
 
   rows_left : drop 48 rest ≡ rows_after_it ++ after_it
   rows_left = rest_is 48 rest first_row (rows_after_it ++ after_it) (laws.header_size (K.header_of the_record)) split_rest
@@ -156,14 +156,14 @@ module _ {H R : Type 0} (K : RecordKind H R) (laws : KindLaws K) (stored : List 
   -- the header that was read is that of the record
   module _ (row_bytes : H → List ℕ) (Fits : H → Type 0) (as_read : H → H) (is_row : IsHeaderRow K row_bytes Fits as_read) (header : H)
       (read : ReadsRow row_bytes Fits as_read (λ row. row ≡ take 48 (drop (48 * 0) rest)) header) where
-    pub same : header ≡ K.header_of the_record
-    same =
+    pub same_header_read : header ≡ K.header_of the_record
+    same_header_read =
         let bytes = sym (is_row.bytes read.stored) ∙ read.taken ∙ front_is 48 rest first_row (rows_after_it ++ after_it) (laws.header_size (K.header_of the_record)) split_rest in
         let front = laws.header_front read.stored (K.header_of the_record) [] [] (is_row.widths read.stored read.widths) (laws.header_fits the_record is_stored) (ap (λ bs. bs ++ []) bytes) in
         sym read.returned ∙ is_row.same read.stored ∙ front.0
 
     size : length rows_after_it ≡ 48 * K.rows_after header
-    size = laws.size_after the_record is_stored ∙ ap (λ h. 48 * K.rows_after h) (sym same)
+    size = laws.size_after the_record is_stored ∙ ap (λ h. 48 * K.rows_after h) (sym same_header_read)
 
     pub enough_rows : 48 * K.rows_after header + 48 ≤ length rest
     enough_rows =
@@ -173,7 +173,7 @@ module _ {H R : Type 0} (K : RecordKind H R) (laws : KindLaws K) (stored : List 
     has_rows = record {
       is_stored = is_stored;
       few = few;
-      header_is = same;
+      header_is = same_header_read;
       rows_are = front_is (48 * K.rows_after header) (drop 48 rest) rows_after_it after_it size rows_left;
     }
 

@@ -20,7 +20,7 @@ use Rattle.xet_shards.specs.Read.SectionReading.{MayRead}
 use Rattle.xet_shards.specs.Write.Tables.{hash_in}
 use Rattle.xet_shards.proofs.Lookup.Lookups.{rows_in_front}
 use Rattle.xet_core_structures.specs.XorbRecord.{xorb_records}
-use Rattle.shard_bytes.specs.Parts.{FindsRowsIn, RefusesRows}
+use Rattle.shard_bytes.specs.Parts.{FindsRowsIn, RefusesTableRows}
 use Rattle.shard_bytes.specs.Query.{AnswersQueryAt}
 use Rattle.shard_bytes.specs.RangeReads.{AnswersAtPlaces, AnswersAtRows, HasRowsWith, QueriesInParts, chunk_table_in}
 use Rattle.shard_bytes.specs.Walking.{IsAtRow, WithEnds}
@@ -75,7 +75,7 @@ module _ {H R : Type 0} (K : RecordKind H R) (shard table : List ℕ) (offset st
       }
 
   -- a collision among the rows is one in the table
-  pub collides_in_table : (e : CoreError) → RefusesRows table hash.word0 e → FindRecordFails K t offset hash src src e
+  pub collides_in_table : (e : CoreError) → RefusesTableRows table hash.word0 e → FindRecordFails K t offset hash src src e
   collides_in_table e (inl (is, not_whole)) = absurd (not_whole cut.is_part.whole)
   collides_in_table e (inr (is, collides)) =
       inl (inl (refl, is, collides_of t table hash.word0 cut fits collides), λ sorted. record { made = 0; seeks = omega arith; few = omega arith; read = omega arith })

@@ -24,7 +24,7 @@ use Rattle.shard_bytes.specs.declared.check.Section.TheVariants.{Files, Xorbs}
 use Rattle.shard_bytes.specs.declared.check.Finding.{Finding}
 use Rattle.shard_bytes.specs.declared.check.Finding.TheVariants.{Unsupported, TooShort}
 use Rattle.shard_bytes.specs.Steps.Checking.{IsReport, IsUnloaded, IsUnreadable, BeginsWith}
-use Rattle.shard_bytes.proofs.Checking.{header_in, one_finding, unread}
+use Rattle.shard_bytes.proofs.Checking.{header_in, one_finding, unread_reported}
 use Rattle.shard_bytes.proofs.Exclusive.{only_unsupported, only_too_short, only_cut_files, only_refused_files, only_cut_xorbs, only_refused_xorbs}
 
 -- header and footer are not read
@@ -45,7 +45,7 @@ files_unread bytes info old new e findings ends start works fails unreadable =
     let left : bytes_left old ≡ bytes = ap bytes_left start in
     let header = subst HasHeader (sym left) (header_in bytes info ends) in
     let why = subst (λ bs. (h : HasHeader bs) × BadSection (file_records_in h.version) (drop 48 bs) e) left (header, files_refused old new e header works fails) in
-    unread Files bytes (drop 48 bytes) (IsRefusedSection (file_records_in why.0.version)) (IsTruncatedSection (file_records_in why.0.version)) e findings why.1 unreadable
+    unread_reported Files bytes (drop 48 bytes) (IsRefusedSection (file_records_in why.0.version)) (IsTruncatedSection (file_records_in why.0.version)) e findings why.1 unreadable
     (λ over. ((info, ends, why.0, over), only_refused_files bytes info ends why.0 over)) (λ cut. ((info, ends, why.0, cut), only_cut_files bytes info ends why.0 cut))
 
 -- after the file section, from the position where it ends
@@ -78,7 +78,7 @@ module _ (bytes : List ℕ) (s0 s1 s2 : Source) (found : List FileRanges) (n : �
       by_cause : FailedBy (BadSection xorb_records (bytes_left (after_seek s2 n))) (after_seek s2 n) new e → IsReport bytes findings
       by_cause (inl failed) = absurd (works failed)
       by_cause (inr (same, bad)) =
-          unread Xorbs bytes (drop (xorbs_after files) bytes) (IsRefusedSection xorb_records) (IsTruncatedSection xorb_records) e findings (subst (λ bs. BadSection xorb_records bs e) xorbs_left bad) unreadable
+          unread_reported Xorbs bytes (drop (xorbs_after files) bytes) (IsRefusedSection xorb_records) (IsTruncatedSection xorb_records) e findings (subst (λ bs. BadSection xorb_records bs e) xorbs_left bad) unreadable
           (λ over. ((info, ends, file_part.0, (files, file_part.1, over)), only_refused_xorbs bytes info ends file_part.0 files file_part.1 over))
           (λ cut. ((info, ends, file_part.0, (files, file_part.1, cut)), only_cut_xorbs bytes info ends file_part.0 files file_part.1 cut))
 

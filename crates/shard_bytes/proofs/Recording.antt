@@ -46,8 +46,8 @@ module _ (s : Shard) (is : IsShard s) where
   xorbs_again : inserts empty (map (λ r. (xorb_hash_of r, r)) (values s.xorbs)) ≡ s.xorbs
   xorbs_again = ap (inserts empty) (keys_are_hashes xorb_hash_of (entries s.xorbs) is.xorbs.keyed) ∙ inserts-entries hash_cmp-IsTotalOrder hash_cmp-IsAntisymmetric s.xorbs
 
-  pub again : shard_of (values s.files) (values s.xorbs) ≡ s
-  again =
+  pub shard_again : shard_of (values s.files) (values s.xorbs) ≡ s
+  shard_again =
       ap (λ t. with_xorbs t (values s.xorbs)) (files_inserted empty_shard (values s.files))
       ∙ xorbs_inserted (record empty_shard { files = inserts empty (map (λ r. (file_hash_of r, r)) (values s.files)) }) (values s.xorbs)
       ∙ λ i. record { files = files_again i; xorbs = xorbs_again i }

@@ -40,8 +40,8 @@ pub record FindsRowsIn (bytes : List ℕ) (word : ℕ) (old new : List ℕ) (cou
 
 -- why no rows of a file table or a xorb table are returned: its size is no multiple of 12 bytes, or
 -- eight or more of its rows have the word
-abbrev pub RefusesRows : List ℕ → ℕ → CoreError → Type 0
-RefusesRows bytes word e =
+abbrev pub RefusesTableRows : List ℕ → ℕ → CoreError → Type 0
+RefusesTableRows bytes word e =
     ((e ≡ InvalidArguments) × (length bytes % 12 ≢ 0))
     ⊎ ((e ≡ TruncatedHashCollision word) × Collides (table_of bytes 4) word)
 

@@ -113,7 +113,7 @@ pub fn check_bytes(alloc: Global, bytes: &[u8]) -> Result<Vec<Finding>>
 {
     match load_bytes(alloc, bytes) {
         Ok(info) => check_sections(alloc, bytes, &info),
-        Err(error) => only(alloc, load_finding(bytes, error)),
+        Err(error) => single_finding(alloc, load_finding(bytes, error)),
     }
 }
 
@@ -137,7 +137,7 @@ fn check_sections(alloc: Global, bytes: &[u8], info: &MDBShardInfo) -> Result<Ve
     let mut source = MemorySource::new(bytes);
     let files = match MDBShardInfo::read_file_info_ranges(alloc, &mut source) {
         Ok(files) => files,
-        Err(error) => return unreadable(alloc, Section::Files, error),
+        Err(error) => return section_findings(alloc, Section::Files, error),
     };
     // The xorb section comes next, whatever the footer says.
     let xorbs_start = source.position()?;
@@ -145,7 +145,7 @@ fn check_sections(alloc: Global, bytes: &[u8], info: &MDBShardInfo) -> Result<Ve
     after_files.metadata.xorb_info_offset = xorbs_start;
     let xorbs = match after_files.read_all_xorb_blocks(alloc, &mut source) {
         Ok(xorbs) => xorbs,
-        Err(error) => return unreadable(alloc, Section::Xorbs, error),
+        Err(error) => return section_findings(alloc, Section::Xorbs, error),
     };
     let mut findings = Vec::new(alloc);
     push_disorder(&mut findings, Section::Files, files.as_slice())?;
@@ -170,18 +170,18 @@ fn check_sections(alloc: Global, bytes: &[u8], info: &MDBShardInfo) -> Result<Ve
 }
 
 // The one finding of bytes that have no such section, by the error of reading it.
-fn unreadable(alloc: Global, section: Section, error: CoreError) -> Result<Vec<Finding>>
+fn section_findings(alloc: Global, section: Section, error: CoreError) -> Result<Vec<Finding>>
     ensures report { IfOk result (λ findings. IsUnreadable section error findings.items) }
     ensures causes { IfErr result (λ e. e ≡ CoreError.OutOfMemory) }
 {
     match error {
         CoreError::OutOfMemory => Err(CoreError::OutOfMemory),
-        CoreError::InvalidShard(_) => only(alloc, Finding::Refused(section)),
-        _ => only(alloc, Finding::Cut(section)),
+        CoreError::InvalidShard(_) => single_finding(alloc, Finding::Refused(section)),
+        _ => single_finding(alloc, Finding::Cut(section)),
     }
 }
 
-fn only(alloc: Global, finding: Finding) -> Result<Vec<Finding>>
+fn single_finding(alloc: Global, finding: Finding) -> Result<Vec<Finding>>
     ensures ok { IfOk result (λ findings. findings.items ≡ finding ∷ []) }
     ensures causes { IfErr result (λ e. e ≡ CoreError.OutOfMemory) }
 {
@@ -395,9 +395,9 @@ fn is_same_part(
     ensures { IsTrue result ↔ IsSamePart part bytes.now info.now written.now footer.now }
 {
     match part {
-        Part::Header => same(bytes, written, 0, footer.file_info_offset),
+        Part::Header => have_same_bytes(bytes, written, 0, footer.file_info_offset),
         Part::FileSection => {
-            same(
+            have_same_bytes(
                 bytes,
                 written,
                 footer.file_info_offset,
@@ -405,7 +405,7 @@ fn is_same_part(
             )
         }
         Part::XorbSection => {
-            same(
+            have_same_bytes(
                 bytes,
                 written,
                 footer.xorb_info_offset,
@@ -413,7 +413,7 @@ fn is_same_part(
             )
         }
         Part::FileTable => {
-            same(
+            have_same_bytes(
                 bytes,
                 written,
                 footer.file_lookup_offset,
@@ -421,7 +421,7 @@ fn is_same_part(
             )
         }
         Part::XorbTable => {
-            same(
+            have_same_bytes(
                 bytes,
                 written,
                 footer.xorb_lookup_offset,
@@ -429,7 +429,7 @@ fn is_same_part(
             )
         }
         Part::ChunkTable => {
-            same(
+            have_same_bytes(
                 bytes,
                 written,
                 footer.chunk_lookup_offset,
@@ -441,7 +441,7 @@ fn is_same_part(
 }
 
 // Whether two byte strings have the same bytes from one offset up to another, as far as they go.
-fn same(bytes: &[u8], written: &[u8], start: u64, end: u64) -> bool
+fn have_same_bytes(bytes: &[u8], written: &[u8], start: u64, end: u64) -> bool
     ensures { IsTrue result
         ↔ (slice_range bytes.now start end ≡ slice_range written.now start end) }
 {

@@ -26,7 +26,7 @@ ghost use Rattle.xet_shards.specs.Lookup.WrittenChunks.{RowsAmong};
 ghost use Rattle.xet_shards.specs.Write.Section.{StartsAt};
 ghost use Rattle.xet_shards.specs.Write.Tables.{starts};
 ghost use Rattle.shard_bytes.specs.Finding.{FindsFile, RefusesFile};
-ghost use Rattle.shard_bytes.specs.Parts.{HasFileIn, RefusesFileIn, HasXorbIn, RefusesXorbIn, FindsPlaces, FindsRowsIn, RefusesPlaces, RefusesRows, CollidesAmong, IsCut};
+ghost use Rattle.shard_bytes.specs.Parts.{HasFileIn, RefusesFileIn, HasXorbIn, RefusesXorbIn, FindsPlaces, FindsRowsIn, RefusesPlaces, RefusesTableRows, CollidesAmong, IsCut};
 ghost use Rattle.shard_bytes.specs.Query.{AnswersQuery};
 ghost use Rattle.shard_bytes.specs.RangeReads.{HasRowsWith, IsAround, FindsFileInParts, FindsXorbInParts, QueriesInParts, chunk_table_in, file_table_in, xorb_table_in};
 ghost use Rattle.shard_bytes.specs.Walking.{HasFileAt, HasXorbAt};
@@ -52,7 +52,7 @@ use xet_core_structures::xorb_structs::MDBXorbInfo;
 /// `TruncatedHashCollision` with the word if eight or more rows have it.
 pub fn find_rows(alloc: Global, table: &[u8], word: u64, rows: &mut [u32; 8]) -> Result<usize>
     ensures table { MatchResult result (FindsRowsIn table.now word rows.old rows.new)
-        (RefusesRows table.now word) }
+        (RefusesTableRows table.now word) }
     ensures files { (s : Shard) → (shard : List ℕ) → (info : MDBShardInfo) → IsBytesWithInfo s shard info
         → HasRowsWith (file_table_in info.metadata shard) table.now word
         → MatchResult result (StartsAmong file_records (finite.values s.files) word rows.new)
@@ -68,7 +68,7 @@ pub fn find_rows(alloc: Global, table: &[u8], word: u64, rows: &mut [u32; 8]) ->
 // Searches a file table or a xorb table.
 fn search_starts(alloc: Global, table: &[u8], word: u64, rows: &mut [u32; 8]) -> Result<usize>
     ensures { MatchResult result (FindsRowsIn table.now word rows.old rows.new)
-        (RefusesRows table.now word) }
+        (RefusesTableRows table.now word) }
 {
     let mut info = MDBShardInfo::default();
     info.metadata.file_lookup_num_entry = row_count_of(table, START_ROW_SIZE as u64)?;
@@ -149,7 +149,7 @@ pub fn parts_are_enough()
     ensures any_collision { (shard : List ℕ) → (info : MDBShardInfo) → (hash : DataHash)
         → (table : List ℕ) → (e : CoreError) → length shard < 2 ^ 64 → HasHeaderAndFooter shard info
         → HasRowsWith (file_table_in info.metadata shard) table hash.word0
-        → RefusesRows table hash.word0 e → RefusesFile shard hash e }
+        → RefusesTableRows table hash.word0 e → RefusesFile shard hash e }
     ensures file { (s : Shard) → (shard : List ℕ) → (info : MDBShardInfo) → (hash : DataHash)
         → (answer : Option MDBFileInfo) → IsBytesWithInfo s shard info
         → FindsFileInParts info.metadata shard hash answer → FoundInShard s hash answer }

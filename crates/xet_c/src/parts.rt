@@ -11,7 +11,7 @@ ghost use Rattle.xet_core_structures.specs.FileRecord.{file_records};
 ghost use Rattle.xet_core_structures.specs.Shard.{Shard};
 ghost use Rattle.xet_core_structures.specs.WrittenShard.{IsBytesWithInfo};
 ghost use Rattle.xet_core_structures.specs.XorbRecord.{xorb_records};
-ghost use Rattle.shard_bytes.specs.Parts.{AreStartsWith, CollidesAmong, RefusesRows, RefusesPlaces};
+ghost use Rattle.shard_bytes.specs.Parts.{AreStartsWith, CollidesAmong, RefusesTableRows, RefusesPlaces};
 ghost use Rattle.shard_bytes.specs.RangeReads.{HasRowsWith, chunk_table_in, file_table_in, xorb_table_in};
 ghost use Rattle.xet_c.specs.Output.{Outcome};
 ghost use Rattle.xet_c.specs.Parts.{AreChunksWith, AreRowsWith, ArePlacesWith, c_chunk_place, IsFileIn, IsXorbIn};
@@ -46,7 +46,7 @@ pub extern "C" fn xet_find_rows(
     written: &mut usize,
 ) -> u32
     ensures table { Outcome (AreRowsWith table.now word)
-        (λ e. (e ≡ CoreError.OutOfMemory) ⊎ RefusesRows table.now word e) rows.old rows.new
+        (λ e. (e ≡ CoreError.OutOfMemory) ⊎ RefusesTableRows table.now word e) rows.old rows.new
         written.new result }
     ensures files { (s : Shard) → (shard : List ℕ) → (info : MDBShardInfo) → IsBytesWithInfo s shard info
         → HasRowsWith (file_table_in info.metadata shard) table.now word
@@ -67,7 +67,7 @@ pub extern "C" fn xet_find_rows(
 
 fn rows_with(alloc: Global, table: &[u8], word: u64) -> Result<Vec<u32>>
     ensures table { MatchResult result (λ found. AreRowsWith table.now word found.items)
-        (λ e. (e ≡ CoreError.OutOfMemory) ⊎ RefusesRows table.now word e) }
+        (λ e. (e ≡ CoreError.OutOfMemory) ⊎ RefusesTableRows table.now word e) }
     ensures files { (s : Shard) → (shard : List ℕ) → (info : MDBShardInfo) → IsBytesWithInfo s shard info
         → HasRowsWith (file_table_in info.metadata shard) table.now word
         → MatchResult result

@@ -25,7 +25,7 @@ use Rattle.xet_core_structures.specs.declared.set_operations.agreement.RecordHas
 use Rattle.xet_core_structures.specs.declared.set_operations.agreement.RecordHash.TheVariants.{File, Xorb}
 use Rattle.xet_core_structures.specs.declared.set_operations.agreement.differing.Differing.{Differing}
 use Rattle.xet_core_structures.specs.declared.set_operations.trees.inputs.OpenShard.{OpenShard}
-use Rattle.xet_core_structures.specs.Agreement.Agreement.{HoldsAt, InputsAgree, InputsDisagree, AgreeOn, HasAllDisagreements, InputsRefusal, WellFormedRefusal, HoldShards, AgreeingRefusal, disagreement_of}
+use Rattle.xet_core_structures.specs.Agreement.Agreement.{HoldsAt, InputsAgree, InputsDisagree, AgreeUnderHash, HasAllDisagreements, InputsRefusal, WellFormedRefusal, HoldShards, AgreeingRefusal, disagreement_of}
 use Rattle.xet_core_structures.specs.Steps.Agreement.{AreEqual, AgreedRefusal}
 use Rattle.xet_core_structures.specs.Steps.ByteResults.{Records}
 use Rattle.xet_core_structures.specs.Records.RecordPairs.{key_of_record, with_hash}
@@ -197,7 +197,7 @@ module _ (shards : List OpenShard) (inputs : List (List ℕ)) (all : AreOpened i
       let d = mapped_back (λ (e : Differing). e.hash) xorbs q has in
       subst (λ h. Contains (map (λ (e : Disagreement). e.record_hash) all_found) (Xorb h)) d.2 (hash_in (of_xorb d.0) (Contains-append_right (map of_file files) (map of_xorb xorbs) (of_xorb d.0) (has_mapped of_xorb xorbs d.0 d.1)))
 
-  others : (h : RecordHash) → ¬ Contains (map (λ d. d.record_hash) all_found) h → AgreeOn inputs h
+  others : (h : RecordHash) → ¬ Contains (map (λ d. d.record_hash) all_found) h → AgreeUnderHash inputs h
   others (File q) none = agree_in (λ (r : Records). r.files) file_records Agree (λ s. s.files) (λ records. refl) files_ascend shards inputs all q (files_found.others q (λ has. none (file_in q has)))
   others (Xorb q) none = agree_in (λ (r : Records). r.xorbs) xorb_records AreEqual (λ s. s.xorbs) (λ records. refl) xorbs_ascend shards inputs all q (xorbs_found.others q (λ has. none (xorb_in q has)))
 

@@ -105,11 +105,11 @@ record IsCovered (s u : Shard) : Type 0 where
   files : (q : DataHash) (a : MDBFileInfo) → get s.files q ≡ Some a → (c : MDBFileInfo) × (get u.files q ≡ Some c) × Covers Agree c a
   xorbs : (q : DataHash) (a : MDBXorbInfo) → get s.xorbs q ≡ Some a → get u.xorbs q ≡ Some a
 
-itself : (s : Shard) → IsCovered s s
-itself s = record { files = λ q a at. (a, at, λ t agrees. agrees); xorbs = λ q a at. at }
+covers_itself : (s : Shard) → IsCovered s s
+covers_itself s = record { files = λ q a at. (a, at, λ t agrees. agrees); xorbs = λ q a at. at }
 
-further : (s t u : Shard) → IsCovered s t → IsCovered t u → IsCovered s u
-further s t u one other = record {
+covers_further : (s t u : Shard) → IsCovered s t → IsCovered t u → IsCovered s u
+covers_further s t u one other = record {
   files = λ q a at.
       let first = one.files q a at in
       let second = other.files q first.0 first.1 in
@@ -193,14 +193,14 @@ module _ (inputs : List (List ℕ)) where
     of (inl none) = absurd (omega (arith, none.1))
     of (inr is) =
         let here : out ≡ x = same_Some out x (sym writes ∙ ap (slice_get inputs) is ∙ x_at) in
-        subst (IsCovered s) (sym (only_shard x s u holds (subst (HasShard u) here has))) (itself s)
+        subst (IsCovered s) (sym (only_shard x s u holds (subst (HasShard u) here has))) (covers_itself s)
   leaf_covered (Both' p left q right) out u (x, y, x_written, y_written, unites, agree) has k s member held =
       let parts = has_united x y out unites in
       let agreed = agree parts.one parts.other parts.has_one parts.has_other in
       let union_is : parts.union ≡ u = only_shard out u parts.union has parts.has_union in
       elim (Contains-append_cases (leaves left) (leaves right) k member) [
-        | inl here ↦ further s parts.one u (leaf_covered left x parts.one x_written parts.has_one k s here held) (subst (IsCovered parts.one) union_is (first_covered parts.one parts.other parts.union parts.is agreed))
-        | inr here ↦ further s parts.other u (leaf_covered right y parts.other y_written parts.has_other k s here held) (subst (IsCovered parts.other) union_is (second_covered parts.one parts.other parts.union parts.is agreed))
+        | inl here ↦ covers_further s parts.one u (leaf_covered left x parts.one x_written parts.has_one k s here held) (subst (IsCovered parts.one) union_is (first_covered parts.one parts.other parts.union parts.is agreed))
+        | inr here ↦ covers_further s parts.other u (leaf_covered right y parts.other y_written parts.has_other k s here held) (subst (IsCovered parts.other) union_is (second_covered parts.one parts.other parts.union parts.is agreed))
       ]
 
   -- so the shards at two leaves agree
@@ -251,13 +251,13 @@ module _ (inputs : List (List ℕ)) where
   }
 
 -- lists whose records agree wherever both have a hash
-weaker : {H R : Type 0} (K : RecordKind H R) (agree : R → R → Type 0) (makes : Option R → Option R → Option R → Type 0) (xs ys zs : List R) → Combines K (MadeIfAgreed agree makes) xs ys zs → Combines K makes xs ys zs
-weaker K agree makes xs ys zs combines = record { ascends = combines.ascends; each = λ q. (combines.each q).1; stored = combines.stored }
+agreed_combine : {H R : Type 0} (K : RecordKind H R) (agree : R → R → Type 0) (makes : Option R → Option R → Option R → Type 0) (xs ys zs : List R) → Combines K (MadeIfAgreed agree makes) xs ys zs → Combines K makes xs ys zs
+agreed_combine K agree makes xs ys zs combines = record { ascends = combines.ascends; each = λ q. (combines.each q).1; stored = combines.stored }
 
 pub combined_too : (one other made : Records) → AreCombined (MadeIfAgreed Agree IsEitherFile) (MadeIfAgreed AreEqual IsEitherXorb) one other made → AreCombined IsEitherFile IsEitherXorb one other made
 combined_too one other made combined = record {
-  files = weaker file_records Agree IsEitherFile one.files other.files made.files combined.files;
-  xorbs = weaker xorb_records AreEqual IsEitherXorb one.xorbs other.xorbs made.xorbs combined.xorbs;
+  files = agreed_combine file_records Agree IsEitherFile one.files other.files made.files combined.files;
+  xorbs = agreed_combine xorb_records AreEqual IsEitherXorb one.xorbs other.xorbs made.xorbs combined.xorbs;
   few_files = combined.few_files;
   few_xorbs = combined.few_xorbs;
 }

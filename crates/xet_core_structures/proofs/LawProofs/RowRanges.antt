@@ -40,7 +40,7 @@ use Rattle.xet_core_structures.proofs.Records.ListMaps.{list_map, values-list_ma
 use Rattle.xet_core_structures.proofs.Records.RangeLists.{AreIn, all_of, each_has_its_own, all_ascend}
 use Rattle.xet_core_structures.proofs.Records.ShardContents.{rows_handed}
 use Rattle.xet_core_structures.proofs.Records.Within.{list_map-those}
-use Rattle.xet_core_structures.proofs.Trees.RowLists.{behind}
+use Rattle.xet_core_structures.proofs.Trees.RowLists.{rest_behind}
 use Rattle.xet_core_structures.proofs.Trees.RowParts.{map_alone}
 
 -- one section
@@ -95,7 +95,7 @@ module _ {H R : Type 0} (K : RecordKind H R) (laws : KindLaws K) (section : List
       let later = remains (Some k) ks end ms on in
       let rows : first + total_rows K has.stored ≡ end = omega (arith, has.rows, ap (total_rows K) has.returned, rows_handed K laws has.stored) in
       let next : has.rest ≡ flat_map K.record_bytes later.stored ++ later.rest =
-      sym (behind K laws (record { from = from; to = Some k }) section first end has.stored has.rest has.records.are_stored has.records.bytes_are rows) ∙ later.bytes_are in
+      sym (rest_behind K laws (record { from = from; to = Some k }) section first end has.stored has.rest has.records.are_stored has.records.bytes_are rows) ∙ later.bytes_are in
       record {
         stored = has.stored ++ later.stored;
         rest = later.rest;

@@ -28,7 +28,7 @@ use Rattle.xet_core_structures.specs.Trees.MergeTrees.{leaves, HasUnion}
 use Rattle.xet_core_structures.specs.Trees.RowTrees.{HasInRows, IsRowsOf, RowsWrite}
 use Rattle.xet_core_structures.proofs.LawProofs.UnionSizes.{rows_in_front, rows_united, bytes_united, bytes_at_both, bytes_of_one, input_there}
 use Rattle.xet_core_structures.proofs.Records.ShardContents.{rows_handed, only_shard}
-use Rattle.xet_core_structures.proofs.Trees.RowParts.{alone, section_alone}
+use Rattle.xet_core_structures.proofs.Trees.RowParts.{section_of_rows, section_alone}
 
 module _ {H R : Type 0} (K : RecordKind H R) (laws : KindLaws K) (range : HashRange) (section : List ℕ) (first end : ℕ) where
   size_in_rows : (found : List R) (has : HasInRows K range section first end found) → length (flat_map K.record_bytes has.stored) + 48 * first ≡ 48 * end
@@ -49,7 +49,7 @@ module _ {H R : Type 0} (K : RecordKind H R) (laws : KindLaws K) (range : HashRa
       let size : length two ≡ length one = omega (arith, size_in_rows found has, size_in_rows other also) in
       let same : two ≡ one = sym (front_is (length one) (drop (48 * first) section) two also.rest size also.records.bytes_are) ∙ front_is (length one) (drop (48 * first) section) one has.rest refl has.records.bytes_are in
       let stored : has.stored ≡ also.stored =
-      only_list K laws (alone K laws range section first end found has) has.stored also.stored (section_alone K laws range section first end found has)
+      only_list K laws (section_of_rows K laws range section first end found has) has.stored also.stored (section_alone K laws range section first end found has)
       (subst (λ b. IsSection K b also.stored) (ap (λ b. b ++ K.header_bytes K.bookend) same) (section_alone K laws range section first end other also)) in
       sym has.returned ∙ ap (map K.as_read) stored ∙ also.returned
 

@@ -37,9 +37,9 @@ cond-some : {X : Type 0} (b : Bool) (o : Option X) (x : X) → b ≡ true → o 
 cond-some b o x passes are = ap (λ c. if c then o else None) passes ∙ are
 
 -- what is read of nothing is nothing
-strict : {X Y : Type 0} (f : Option X → Option Y) → f None ≡ None → (b : Bool) (o : Option X) → f (if b then o else None) ≡ (if b then f o else None)
-strict f none true o = refl
-strict f none false o = none
+if_mapped : {X Y : Type 0} (f : Option X → Option Y) → f None ≡ None → (b : Bool) (o : Option X) → f (if b then o else None) ≡ (if b then f o else None)
+if_mapped f none true o = refl
+if_mapped f none false o = none
 
 module _ (passes : DataHash → Bool) (shards parts : List Shard) (join part : Shard) (are : AllZip (IsPartOf passes) shards parts) (is : IsPartOf passes join part) where
   has_what : {X : Type 0} (q : DataHash) (f : Shard → Option X) → ((s t : Shard) → IsPartOf passes s t → f t ≡ (if passes q then f s else None))
@@ -61,8 +61,8 @@ module _ (passes : DataHash → Bool) (shards parts : List Shard) (join part : S
   pub join_of_parts : IsJoinOf (Contains shards) join → IsJoinOf (Contains parts) part
   join_of_parts whole = record {
     xorbs = λ q. has_what q (λ s. get s.xorbs q) (λ s t part. part.xorbs q) (whole.xorbs q);
-    segments = λ q. has_what q (segments_under q) (λ s t part. ap (option_map (λ (r : MDBFileInfo). r.segments)) (part.files q) ∙ strict (option_map (λ (r : MDBFileInfo). r.segments)) refl (passes q) (get s.files q)) (whole.segments q);
-    parts = λ p q. has_what q (part_under p q) (λ s t part. ap (option_and_then (part_in p)) (part.files q) ∙ strict (option_and_then (part_in p)) refl (passes q) (get s.files q)) (whole.parts p q);
+    segments = λ q. has_what q (segments_under q) (λ s t part. ap (option_map (λ (r : MDBFileInfo). r.segments)) (part.files q) ∙ if_mapped (option_map (λ (r : MDBFileInfo). r.segments)) refl (passes q) (get s.files q)) (whole.segments q);
+    parts = λ p q. has_what q (part_under p q) (λ s t part. ap (option_and_then (part_in p)) (part.files q) ∙ if_mapped (option_and_then (part_in p)) refl (passes q) (get s.files q)) (whole.parts p q);
     follows = λ q r there. whole.follows q r (cond-is_some (passes q) (get join.files q) r (sym (is.files q) ∙ there)).1;
   }
 

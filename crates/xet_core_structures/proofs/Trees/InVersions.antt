@@ -36,7 +36,7 @@ use Rattle.xet_core_structures.specs.TwoShards.ByteResults.{keyed_options}
 use Rattle.xet_core_structures.specs.Trees.InVersions.{HasNewFiles, MadeIn, RefusedIn, TreeWritesIn, TreeRefusalIn}
 use Rattle.xet_core_structures.specs.Trees.MergeTrees.{HasUnion, TreeWrites, TreeRefusal}
 use Rattle.xet_core_structures.specs.Steps.InVersions.{with_number_2, AreNumbered, IsPartIn, IsNotWritten, GetsNumber}
-use Rattle.xet_core_structures.specs.Steps.Parts.{IsPart, IsUnionPart, IsPartOf}
+use Rattle.xet_core_structures.specs.Steps.Parts.{IsPart, IsUnionPart, IsPartOfTree}
 use Rattle.xet_core_structures.specs.Steps.Placed.{PlacesAll}
 use Rattle.xet_core_structures.proofs.Trees.Parts.{no_memory_after}
 use Rattle.xet_core_structures.proofs.Trees.PlacedUnions.{header_placed}
@@ -174,7 +174,7 @@ module _ (Makes : List ℕ → Type 0) (Refuses : CoreError → Type 0) (bytes :
 
 -- what is made of what a tree gives
 module _ (inputs : List (List ℕ)) where
-  pub made_of_tree : (version : FormatVersion) (plan : MergePlan) (bytes : List ℕ) (part : TreePart) (out : List ℕ) → TreeWrites inputs plan bytes → IsPartOf plan bytes part → IsPartIn version part bytes out
+  pub made_of_tree : (version : FormatVersion) (plan : MergePlan) (bytes : List ℕ) (part : TreePart) (out : List ℕ) → TreeWrites inputs plan bytes → IsPartOfTree plan bytes part → IsPartIn version part bytes out
       → TreeWritesIn version inputs plan out
   made_of_tree V3 plan bytes part out writes is same = subst (TreeWrites inputs plan) (sym same) writes
   made_of_tree V2 (Leaf i) bytes (Input x placed) out writes is same = subst (TreeWrites inputs (Leaf i)) (sym same) writes
@@ -182,7 +182,7 @@ module _ (inputs : List (List ℕ)) where
   made_of_tree V2 (Both' p left q right) bytes part out writes is made =
       made_of_union (TreeWrites inputs (Both' p left q right)) (TreeRefusal inputs (Both' p left q right)) bytes writes (no_memory_after inputs (Both' p left q right) bytes writes) V2 part out is made
 
-  pub refused_of_tree : (version : FormatVersion) (plan : MergePlan) (bytes : List ℕ) (part : TreePart) (e : CoreError) → TreeWrites inputs plan bytes → IsPartOf plan bytes part → IsNotWritten version part bytes e
+  pub refused_of_tree : (version : FormatVersion) (plan : MergePlan) (bytes : List ℕ) (part : TreePart) (e : CoreError) → TreeWrites inputs plan bytes → IsPartOfTree plan bytes part → IsNotWritten version part bytes e
       → TreeRefusalIn version inputs plan e
   refused_of_tree V3 plan bytes part e writes is (inl lacks) = subst (TreeRefusal inputs plan) (sym lacks) (no_memory_after inputs plan bytes writes)
   refused_of_tree V3 plan bytes part e writes is (inr (invalid, new)) = absurd new

@@ -10,7 +10,7 @@ use Rattle.xet_core_structures.specs.declared.set_operations.MergePlan.TheVarian
 use Rattle.xet_core_structures.specs.declared.set_operations.trees.inputs.OpenShard.{OpenShard}
 use Rattle.xet_core_structures.specs.declared.set_operations.trees.parts.TreePart.{TreePart}
 use Rattle.xet_core_structures.specs.Trees.MergeTrees.{TreeWrites, TreeRefusal}
-use Rattle.xet_core_structures.specs.Steps.Parts.{IsOpenOf, AreOpened, IsPartOf}
+use Rattle.xet_core_structures.specs.Steps.Parts.{IsOpenOf, AreOpened, IsPartOfTree}
 use Rattle.xet_core_structures.proofs.Records.Zipped.{zipped_append}
 
 -- the first inputs, one more
@@ -23,7 +23,7 @@ one_more_opened inputs i x old new shard are at is more =
     subst (λ xs. AreOpened xs new) (taken_more inputs i x at) (subst (AreOpened (take i inputs ++ x ∷ [])) (sym more) (zipped_append IsOpenOf old (shard ∷ []) (take i inputs) (x ∷ []) are (is, tt)))
 
 -- a leaf whose input is opened
-pub leaf_part : (inputs : List (List ℕ)) (i : ℕ) (r : Result TreePart CoreError) → MatchResult r (λ part. (bytes : List ℕ) × (slice_get inputs i ≡ Some bytes) × IsPartOf (Leaf i) bytes part) (λ e. (e ≡ InvalidArguments) × (length inputs ≤ i))
-    → MatchResult r (λ part. (bytes : List ℕ) × TreeWrites inputs (Leaf i) bytes × IsPartOf (Leaf i) bytes part) (TreeRefusal inputs (Leaf i))
+pub leaf_part : (inputs : List (List ℕ)) (i : ℕ) (r : Result TreePart CoreError) → MatchResult r (λ part. (bytes : List ℕ) × (slice_get inputs i ≡ Some bytes) × IsPartOfTree (Leaf i) bytes part) (λ e. (e ≡ InvalidArguments) × (length inputs ≤ i))
+    → MatchResult r (λ part. (bytes : List ℕ) × TreeWrites inputs (Leaf i) bytes × IsPartOfTree (Leaf i) bytes part) (TreeRefusal inputs (Leaf i))
 leaf_part inputs i (Ok part) is = is
 leaf_part inputs i (Err e) is = inl is

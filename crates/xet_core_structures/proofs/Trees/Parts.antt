@@ -38,7 +38,7 @@ use Rattle.xet_core_structures.specs.Records.ShardContents.{IsSectionOf, HasFile
 use Rattle.xet_core_structures.specs.Steps.ShardContents.{IsListOf, HoldsLists}
 use Rattle.xet_core_structures.specs.Trees.MergeTrees.{TreeWrites, TreeRefusal}
 use Rattle.xet_core_structures.specs.Trees.Parts.{SectionsRefusal}
-use Rattle.xet_core_structures.specs.Steps.Parts.{PlacesRecords, MayBeUnited, MayBeWritten, PlacesShard, HaveNoRecordUnion, IsUnited, IsPart, IsUnionPart, IsPartOf}
+use Rattle.xet_core_structures.specs.Steps.Parts.{PlacesRecords, MayBeUnited, MayBeWritten, PlacesShard, HaveNoRecordUnion, IsUnited, IsPart, IsUnionPart, IsPartOfTree}
 use Rattle.xet_core_structures.specs.Steps.Placed.{HaveNoListUnion}
 use Rattle.xet_core_structures.specs.Steps.Placed.{PlacesAll}
 use Rattle.xet_core_structures.specs.Steps.MergeJoin.{SectionRefusal}
@@ -223,7 +223,7 @@ part_of_union bytes (Input x placed) is = absurd is
 part_of_union bytes (United shard) is = is
 
 -- so is what a tree gives
-pub part_of_tree : (plan : MergePlan) (bytes : List ℕ) (part : TreePart) → IsPartOf plan bytes part → IsPart bytes part
+pub part_of_tree : (plan : MergePlan) (bytes : List ℕ) (part : TreePart) → IsPartOfTree plan bytes part → IsPart bytes part
 part_of_tree (Leaf i) bytes (Input x placed) is = is
 part_of_tree (Leaf i) bytes (United shard) is = absurd is
 part_of_tree (Both' p left q right) bytes part is = part_of_union bytes part is

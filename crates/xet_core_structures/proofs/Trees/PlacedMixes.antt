@@ -16,8 +16,8 @@ use Rattle.xet_core_structures.proofs.TwoShards.Readable.{IsReadableAs, handed_t
 use Rattle.xet_core_structures.proofs.TwoShards.UnitedFiles.{makes_mix}
 
 -- a record that is placed is read again as it is
-readable : (p : PlacedRecord FileDataSequenceHeader) (q : DataHash) (r : MDBFileInfo) → q ≡ p.header.file_hash → Places file_records p r → IsReadableAs file_records q r
-readable p q r hash places = record {
+placed_readable : (p : PlacedRecord FileDataSequenceHeader) (q : DataHash) (r : MDBFileInfo) → q ≡ p.header.file_hash → Places file_records p r → IsReadableAs file_records q r
+placed_readable p q r hash places = record {
   keyed = hash ∙ ap (λ (k : FileDataSequenceHeader). k.file_hash) (sym (header_placed file_records file_laws p r places));
   stored = stored_placed file_records file_laws p r places;
   unchanged = ap as_read (sym places.rows.returned) ∙ handed_twice places.rows.stored ∙ places.rows.returned;
@@ -36,7 +36,7 @@ module _ (g h : PlacedRecord FileDataSequenceHeader) where
         → Places file_records g r → Places file_records h s → p.rows.now ≡ file_rows_bytes (mixed_file r s) → Places file_records p (mixed_file r s)
     mix_placed count p header r s one other rows =
         let same_count : r.metadata.num_entries ≡ s.metadata.num_entries = ap (λ (k : FileDataSequenceHeader). k.num_entries) (sym (header_1 r one)) ∙ count ∙ ap (λ (k : FileDataSequenceHeader). k.num_entries) (header_2 s other) in
-        let mix = mixed_readable g.header.file_hash r s (readable g g.header.file_hash r refl one) (readable h g.header.file_hash s hash other) same_count in
+        let mix = mixed_readable g.header.file_hash r s (placed_readable g g.header.file_hash r refl one) (placed_readable h g.header.file_hash s hash other) same_count in
         let header_is : (mixed_file r s).metadata ≡ p.header = (λ i. mixed_header (sym (header_1 r one) i) (sym (header_2 s other) i)) ∙ sym header in
         record {
           header = subst (IsRecordHeader file_records) header_is (record { is_record = file_laws.is_record (mixed_file r s) mix.stored; fits = file_laws.header_fits (mixed_file r s) mix.stored });

@@ -105,8 +105,8 @@ module _ {H R : Type 0} (K : RecordKind H R) (laws : KindLaws K) (range : HashRa
     from_first = drop (48 * first) section
 
     -- what is behind records in these rows is what is at the end row
-    pub behind : (stored : List R) (rest : List ℕ) → All K.IsStored stored → from_first ≡ flat_map K.record_bytes stored ++ rest → first + total_rows K stored ≡ end → drop (48 * end) section ≡ rest
-    behind stored rest are_stored bytes_are rows =
+    pub rest_behind : (stored : List R) (rest : List ℕ) → All K.IsStored stored → from_first ≡ flat_map K.record_bytes stored ++ rest → first + total_rows K stored ≡ end → drop (48 * end) section ≡ rest
+    rest_behind stored rest are_stored bytes_are rows =
         let size : length (flat_map K.record_bytes stored) ≡ 48 * total_rows K stored = length-all_record_bytes K.record_bytes K.row_count K.IsStored (length-record_bytes K laws) stored are_stored in
         let there : 48 * end ≡ 48 * first + 48 * total_rows K stored = omega (arith, rows) in
         ap (λ n. drop n section) there ∙ sym (drop-drop (48 * total_rows K stored) (48 * first) section) ∙ rest_is (48 * total_rows K stored) from_first (flat_map K.record_bytes stored) rest size bytes_are
@@ -126,7 +126,7 @@ module _ {H R : Type 0} (K : RecordKind H R) (laws : KindLaws K) (range : HashRa
           rows = omega (arith, all.rows, left_is);
           fits = few;
           starts = starts;
-          ends = λ none. subst (BeginsWithBookend K) (behind all.stored all.rest all.are_stored all.bytes_are (omega (arith, stored_rows, all.rows, left_is))) (ends none);
+          ends = λ none. subst (BeginsWithBookend K) (rest_behind all.stored all.rest all.are_stored all.bytes_are (omega (arith, stored_rows, all.rows, left_is))) (ends none);
         }
 
     module _ (found : List R) (has : HasInRows K range section first end found) where
@@ -140,4 +140,4 @@ module _ {H R : Type 0} (K : RecordKind H R) (laws : KindLaws K) (range : HashRa
       pub ends_at_bookend : range.to ≡ None → BeginsWithBookend K (drop (48 * end) section)
       ends_at_bookend none =
           let stored_rows : total_rows K found ≡ total_rows K has.stored = ap (total_rows K) (sym has.returned) ∙ rows_handed K laws has.stored in
-          subst (BeginsWithBookend K) (sym (behind has.stored has.rest has.records.are_stored has.records.bytes_are (omega (arith, stored_rows, has.rows)))) (has.ends none)
+          subst (BeginsWithBookend K) (sym (rest_behind has.stored has.rest has.records.are_stored has.records.bytes_are (omega (arith, stored_rows, has.rows)))) (has.ends none)

@@ -34,21 +34,21 @@ use Rattle.xet_core_structures.proofs.TwoShards.Readable.{IsReadable, IsReadable
 
 module _ {H R : Type 0} (K : RecordKind H R) (laws : KindLaws K) (range : HashRange) (section : List ℕ) (first end : ℕ) (found : List R) (has : HasInRows K range section first end found) where
   -- the records alone, as a section
-  abbrev pub alone : List ℕ
-  alone = flat_map K.record_bytes has.stored ++ K.header_bytes K.bookend
+  abbrev pub section_of_rows : List ℕ
+  section_of_rows = flat_map K.record_bytes has.stored ++ K.header_bytes K.bookend
 
-  pub section_alone : IsSection K alone has.stored
+  pub section_alone : IsSection K section_of_rows has.stored
   section_alone = record {
     rest = K.header_bytes K.bookend;
     records = record { are_stored = has.records.are_stored; rows = has.records.rows; bytes_are = refl };
     bookend = record { header = K.bookend; rest = []; widths = laws.bookend_fits; is_bookend = laws.bookend_hash; bytes_are = sym (append-nil (K.header_bytes K.bookend)) };
   }
 
-  pub map_alone : IsSectionOf K alone (list_map K found)
-  map_alone = section_of_list K found has.ascends alone has.stored section_alone has.returned
+  pub map_alone : IsSectionOf K section_of_rows (list_map K found)
+  map_alone = section_of_list K found has.ascends section_of_rows has.stored section_alone has.returned
 
   pub readable_alone : ((r : R) → K.as_read (K.as_read r) ≡ K.as_read r) → (q : DataHash) (r : R) → get (list_map K found) q ≡ Some r → IsReadableAs K q r
-  readable_alone twice = section_readable K laws twice alone (list_map K found) map_alone
+  readable_alone twice = section_readable K laws twice section_of_rows (list_map K found) map_alone
 
 module _ (range : HashRange) (start end : SectionRows) (x : List ℕ) (info : MDBShardInfo) (ends : HasHeaderAndFooter x info) where
   module _ (files : List MDBFileInfo) (xorbs : List MDBXorbInfo) (in_files : HasInRows (files_of info) range (files_at x info) start.file end.file files)

@@ -50,8 +50,8 @@ module _ {H R : Type 0} (K : RecordKind H R) (laws : KindLaws K) (range : HashRa
       ap K.header_of (sym next.returned) ∙ laws.same_header next.stored
       ∙ (same_front K laws bytes h (K.header_of next.stored) after (K.bytes_after next.stored ++ rest) begins.widths begins.bytes_are (stored_begins K laws bytes next.stored rest next.is_stored next.bytes_are)).0
 
-  pub outside : (before : Option H) (left : ℕ) (bytes : List ℕ) (h : H) (after : List ℕ) → BeginsWithHeader K bytes h after → is_within range (K.hash_of h) ≡ false → (r : R) (rest : List ℕ) → ¬ NextIs K range before left bytes r rest
-  outside before left bytes h after begins out r rest next =
+  pub outside_not_next : (before : Option H) (left : ℕ) (bytes : List ℕ) (h : H) (after : List ℕ) → BeginsWithHeader K bytes h after → is_within range (K.hash_of h) ≡ false → (r : R) (rest : List ℕ) → ¬ NextIs K range before left bytes r rest
+  outside_not_next before left bytes h after begins out r rest next =
       true≢false (sym next.within ∙ ap (λ (g : H). is_within range (K.hash_of g)) (header_is before left bytes r rest next h after begins) ∙ out)
 
 -- there is no next record
@@ -112,7 +112,7 @@ module _ {H R : Type 0} (K : RecordKind H R) (laws : KindLaws K) (version : Form
     consumed = ReadsBytes-consumes (in_memory old) (in_memory mid) (K.header_bytes h) begun.read.taken
 
     pub header_outside : is_within range (K.hash_of h) ≡ false → NoNext
-    header_outside out = outside V (laws_in K laws version) range before left there h (bytes_left (in_memory mid)) (record { widths = begun.read.widths; is_record = begun.read.is_record; bytes_are = consumed }) out
+    header_outside out = outside_not_next V (laws_in K laws version) range before left there h (bytes_left (in_memory mid)) (record { widths = begun.read.widths; is_record = begun.read.is_record; bytes_are = consumed }) out
 
     pub next_placed : left ≤ 4294967296 → Follows V before h → is_within range (K.hash_of h) ≡ true → (new : MemorySource) (found : R) → ReadsRowsAfter K h (ReadsBytes (in_memory mid) (in_memory new)) found
         → (p : PlacedRecord H) → p.header ≡ h → (rest : List ℕ) → p.rows.now ≡ drop 48 there → rest ≡ drop (48 * K.rows_after h) p.rows.now → PlacesNext K version range before left after there p rest

@@ -97,11 +97,11 @@ pub record InputsDisagree (inputs : List (List ℕ)) (d : Disagreement) : Type 0
   pub differ : DisagreeShards one other d.record_hash
 
 -- each two records with this hash of the shards that inputs hold agree
-abbrev pub AgreeOn : List (List ℕ) → RecordHash → Type 0
-AgreeOn inputs (File q) =
+abbrev pub AgreeUnderHash : List (List ℕ) → RecordHash → Type 0
+AgreeUnderHash inputs (File q) =
     (i j : ℕ) (s t : Shard) (a b : MDBFileInfo) → HoldsAt inputs i s → HoldsAt inputs j t
     → get s.files q ≡ Some a → get t.files q ≡ Some b → Agree a b
-AgreeOn inputs (Xorb q) =
+AgreeUnderHash inputs (Xorb q) =
     (i j : ℕ) (s t : Shard) (a b : MDBXorbInfo) → HoldsAt inputs i s → HoldsAt inputs j t
     → get s.xorbs q ≡ Some a → get t.xorbs q ≡ Some b → a ≡ b
 
@@ -123,7 +123,7 @@ pub record HasAllDisagreements (inputs : List (List ℕ)) (found : List Disagree
   pub held : AllBelow (length inputs) (HasShardAt inputs)
   pub each : (d : Disagreement) → Contains found d → InputsDisagree inputs d
   pub in_order : AreInOrder found
-  pub others : (h : RecordHash) → ¬ Contains (map (λ d. d.record_hash) found) h → AgreeOn inputs h
+  pub others : (h : RecordHash) → ¬ Contains (map (λ d. d.record_hash) found) h → AgreeUnderHash inputs h
 
 -- an allocation failed; or no shard is read from an input, and a property holds of each before it
 abbrev pub FirstRefusal : List (List ℕ) → (ℕ → Type 0) → CoreError → Type 0

@@ -27,7 +27,7 @@ use Rattle.xet_core_structures.specs.Agreement.Agreement.{HasMalformed, HoldShar
 use Rattle.xet_core_structures.specs.Records.ShardContents.{HasShard}
 use Rattle.xet_core_structures.specs.Trees.MergeTrees.{TreeWrites, TreeRefusal}
 use Rattle.xet_core_structures.specs.TwoShards.ByteResults.{UnitesBytes}
-use Rattle.xet_core_structures.specs.Steps.Parts.{AreOpened, IsPartOf}
+use Rattle.xet_core_structures.specs.Steps.Parts.{AreOpened, IsPartOfTree}
 use Rattle.xet_core_structures.specs.Steps.Placed.{PlacesAll}
 
 -- two xorbs agree if they are equal
@@ -97,7 +97,7 @@ WritesAgreeing inputs (Both' p left q right) out =
 -- the inputs agree, and this is what the tree writes
 abbrev pub IsAgreed : List (List ℕ) → MergePlan → TreePart → Type 0
 IsAgreed inputs plan part =
-    InputsAgree inputs × ((bytes : List ℕ) × TreeWrites inputs plan bytes × IsPartOf plan bytes part)
+    InputsAgree inputs × ((bytes : List ℕ) × TreeWrites inputs plan bytes × IsPartOfTree plan bytes part)
 
 -- an allocation failed, or the inputs agree and their tree fails
 abbrev pub AgreedRefusal : List (List ℕ) → MergePlan → CoreError → Type 0

@@ -97,10 +97,10 @@ IsUnionPart bytes (Input x placed) = ⊥
 IsUnionPart bytes (United shard) = IsPart bytes (United shard)
 
 -- a part that a tree gives stands for these bytes: that of a leaf is an input, any other a union
-abbrev pub IsPartOf : MergePlan → List ℕ → TreePart → Type 0
-IsPartOf (Leaf i) bytes (Input x placed) = IsPart bytes (Input x placed)
-IsPartOf (Leaf i) bytes (United shard) = ⊥
-IsPartOf (Both' p left q right) bytes part = IsUnionPart bytes part
+abbrev pub IsPartOfTree : MergePlan → List ℕ → TreePart → Type 0
+IsPartOfTree (Leaf i) bytes (Input x placed) = IsPart bytes (Input x placed)
+IsPartOfTree (Leaf i) bytes (United shard) = ⊥
+IsPartOfTree (Both' p left q right) bytes part = IsUnionPart bytes part
 
 -- a part stands for these bytes, in which these are the header and the footer
 abbrev pub IsOpened : List ℕ → MDBShardInfo → OpenPart → Type 0

@@ -18,11 +18,11 @@ pub returns-in-Err-clause-whole : goal.returns-in-Err-clause-whole
 returns-in-Err-clause-whole c =
     let bytes = c.args.bytes.now in
     let f = c.load_finding.result in
-    IfOk-weaker c.only.result (λ found. found.items ≡ f ∷ []) (λ found. (found.items ≡ []) ↔ IsWhole bytes)
+    IfOk-weaker c.single_finding.result (λ found. found.items ≡ f ∷ []) (λ found. (found.items ≡ []) ↔ IsWhole bytes)
     (λ found one.
     let report : IsReport bytes found.items = not_loaded bytes f found.items c.load_finding.ensures one in
     (report.none, λ whole. nothing_wrong bytes whole found.items report.each))
-    c.only.ensures.ok
+    c.single_finding.ensures.ok
 
 pub returns-in-Ok-clause-intact : goal.returns-in-Ok-clause-intact
 returns-in-Ok-clause-intact c =
@@ -34,11 +34,11 @@ pub returns-in-Err-clause-intact : goal.returns-in-Err-clause-intact
 returns-in-Err-clause-intact c =
     let bytes = c.args.bytes.now in
     let f = c.load_finding.result in
-    IfOk-weaker c.only.result (λ found. found.items ≡ f ∷ []) (λ found. All IsNote found.items ↔ IsIntact bytes)
+    IfOk-weaker c.single_finding.result (λ found. found.items ≡ f ∷ []) (λ found. All IsNote found.items ↔ IsIntact bytes)
     (λ found one.
     let report : IsReport bytes found.items = not_loaded bytes f found.items c.load_finding.ensures one in
     (report.notes, λ intact. nothing_lost bytes intact found.items report.each))
-    c.only.ensures.ok
+    c.single_finding.ensures.ok
 
 pub returns-in-Ok-clause-shard : goal.returns-in-Ok-clause-shard
 returns-in-Ok-clause-shard c =
@@ -50,24 +50,24 @@ pub returns-in-Err-clause-shard : goal.returns-in-Err-clause-shard
 returns-in-Err-clause-shard c =
     let bytes = c.args.bytes.now in
     let f = c.load_finding.result in
-    IfOk-weaker c.only.result (λ found. found.items ≡ f ∷ []) (λ found. All IsNote found.items → HoldsSomeShard bytes)
+    IfOk-weaker c.single_finding.result (λ found. found.items ≡ f ∷ []) (λ found. All IsNote found.items → HoldsSomeShard bytes)
     (λ found one notes.
     let report : IsReport bytes found.items = not_loaded bytes f found.items c.load_finding.ensures one in
     holds_one bytes (report.notes notes))
-    c.only.ensures.ok
+    c.single_finding.ensures.ok
 
 pub returns-in-Err-clause-each : goal.returns-in-Err-clause-each
 returns-in-Err-clause-each c =
     let bytes = c.args.bytes.now in
     let f = c.load_finding.result in
-    IfOk-weaker c.only.result (λ found. found.items ≡ f ∷ []) (λ found. All (IsFinding bytes) found.items)
+    IfOk-weaker c.single_finding.result (λ found. found.items ≡ f ∷ []) (λ found. All (IsFinding bytes) found.items)
     (λ found one. (not_loaded bytes f found.items c.load_finding.ensures one).each)
-    c.only.ensures.ok
+    c.single_finding.ensures.ok
 
 pub returns-in-Err-clause-all : goal.returns-in-Err-clause-all
 returns-in-Err-clause-all c =
     let bytes = c.args.bytes.now in
     let f = c.load_finding.result in
-    IfOk-weaker c.only.result (λ found. found.items ≡ f ∷ []) (λ found. (g : Finding) → IsFinding bytes g → Contains found.items g)
+    IfOk-weaker c.single_finding.result (λ found. found.items ≡ f ∷ []) (λ found. (g : Finding) → IsFinding bytes g → Contains found.items g)
     (λ found one. (not_loaded bytes f found.items c.load_finding.ensures one).all)
-    c.only.ensures.ok
+    c.single_finding.ensures.ok

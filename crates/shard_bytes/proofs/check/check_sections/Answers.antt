@@ -19,20 +19,20 @@ use Rattle.shard_bytes.proofs.check.check_sections.Goals.{In-Ok-read_all_xorb_bl
 pub returns-in-Err-clause-report : goal.returns-in-Err-clause-report
 returns-in-Err-clause-report c =
     let e = c.in-Err.error in
-    IfOk-weaker c.unreadable.result (λ found. IsUnreadable Files e found.items) (λ found. IsReport c.args.bytes.now found.items)
+    IfOk-weaker c.section_findings.result (λ found. IsUnreadable Files e found.items) (λ found. IsReport c.args.bytes.now found.items)
     (λ found unreadable. files_unread c.args.bytes.now c.args.info.now (in_memory c.new-source.result) (in_memory c.read_file_info_ranges.new.source) e found.items c.requires c.new-source.ensures
     (λ failed. absurd (omega (arith, failed.0))) c.in-Err.ensures.read unreadable)
-    c.unreadable.ensures.report
+    c.section_findings.ensures.report
 
 pub returns-in-Err-read_all_xorb_blocks-clause-report : goal.returns-in-Err-read_all_xorb_blocks-clause-report
 returns-in-Err-read_all_xorb_blocks-clause-report c =
     let e = c.in-Err-read_all_xorb_blocks.error in
     let at = c.in_ok-xorbs_start.ensures in
-    IfOk-weaker c.unreadable-in-Err-read_all_xorb_blocks.result (λ found. IsUnreadable Xorbs e found.items) (λ found. IsReport c.args.bytes.now found.items)
+    IfOk-weaker c.section_findings-in-Err-read_all_xorb_blocks.result (λ found. IsUnreadable Xorbs e found.items) (λ found. IsReport c.args.bytes.now found.items)
     (λ found unreadable. xorbs_unread c.args.bytes.now (in_memory c.new-source.result) (in_memory c.read_file_info_ranges.new.source) (in_memory c.position.new.self) c.in-Ok.files.items
     c.in_ok-xorbs_start.xorbs_start c.new-source.ensures c.in-Ok.ensures.read at.0 at.1 c.args.info.now c.requires (in_memory c.read_all_xorb_blocks.new.source) e found.items
     (λ failed. absurd (omega (arith, failed.0))) c.in-Err-read_all_xorb_blocks.ensures.read unreadable)
-    c.unreadable-in-Err-read_all_xorb_blocks.ensures.report
+    c.section_findings-in-Err-read_all_xorb_blocks.ensures.report
 
 -- what was read of both sections
 module _ (c : In-Ok-read_all_xorb_blocks) where

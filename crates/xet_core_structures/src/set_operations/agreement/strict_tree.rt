@@ -8,7 +8,7 @@ ghost use Rattle.xet_core_structures.specs.Records.ByteUnion.{IsEitherFile, IsEi
 ghost use Rattle.xet_core_structures.specs.Trees.MergeTrees.{leaves};
 ghost use Rattle.xet_core_structures.specs.TwoShards.ByteResults.{UnitesBytes};
 ghost use Rattle.xet_core_structures.specs.Steps.Agreement.{AreEqual, MadeIfAgreed, BytesAgree, WritesAgreeing};
-ghost use Rattle.xet_core_structures.specs.Steps.Parts.{AreOpened, IsPart, IsUnionPart, IsPartOf};
+ghost use Rattle.xet_core_structures.specs.Steps.Parts.{AreOpened, IsPart, IsUnionPart, IsPartOfTree};
 ghost use Rattle.xet_core_structures.specs.Steps.Placed.{MakesPlaced, MakesNothing};
 
 use super::kinds::Agreement;
@@ -36,7 +36,7 @@ pub fn place_agreeing_tree<'a>(
 ) -> Result<TreePart<'a>>
     ensures { (inputs : List (List ℕ)) → AreOpened inputs opened.now → IfOk result
         (λ part. (bytes : List ℕ) × WritesAgreeing inputs plan.now bytes
-        × IsPartOf plan.now bytes part) }
+        × IsPartOfTree plan.now bytes part) }
 {
     match plan {
         MergePlan::Leaf(index) => open_leaf(opened, *index),

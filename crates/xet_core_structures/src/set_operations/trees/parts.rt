@@ -13,7 +13,7 @@ ghost use Rattle.xet_core_structures.specs.Steps.ByteResults.{Records, AreCombin
 ghost use Rattle.xet_core_structures.specs.Trees.Filling.{Fills, FillsWith};
 ghost use Rattle.xet_core_structures.specs.Trees.MergeTrees.{TreeWrites, TreeRefusal};
 ghost use Rattle.xet_core_structures.specs.Trees.Parts.{SectionsRefusal};
-ghost use Rattle.xet_core_structures.specs.Steps.Parts.{PlacesRecords, MayBeUnited, MayBeWritten, PlacesShard, HaveNoRecordUnion, AreOpened, IsPart, IsUnionPart, IsPartOf, IsOpened, AreListed, shard_in};
+ghost use Rattle.xet_core_structures.specs.Steps.Parts.{PlacesRecords, MayBeUnited, MayBeWritten, PlacesShard, HaveNoRecordUnion, AreOpened, IsPart, IsUnionPart, IsPartOfTree, IsOpened, AreListed, shard_in};
 
 use super::filling::{frame_of, put_shard};
 use super::inputs::OpenShard;
@@ -82,7 +82,7 @@ pub fn place_tree<'a>(
 ) -> Result<TreePart<'a>>
     ensures { MatchResult result
         (λ part. (bytes : List ℕ) × TreeWrites (map (λ x. x.now) inputs.now) plan.now bytes
-        × IsPartOf plan.now bytes part)
+        × IsPartOfTree plan.now bytes part)
         (TreeRefusal (map (λ x. x.now) inputs.now) plan.now) }
 {
     match plan {
@@ -109,7 +109,7 @@ pub fn place_tree_of<'a>(
 ) -> Result<TreePart<'a>>
     ensures { (inputs : List (List ℕ)) → AreOpened inputs opened.now → MatchResult result
         (λ part. (bytes : List ℕ) × TreeWrites inputs plan.now bytes
-        × IsPartOf plan.now bytes part)
+        × IsPartOfTree plan.now bytes part)
         (TreeRefusal inputs plan.now) }
 {
     match plan {
@@ -126,7 +126,7 @@ pub fn place_tree_of<'a>(
 pub fn open_leaf<'a>(opened: &'a [OpenShard<'a>], index: usize) -> Result<TreePart<'a>>
     ensures { (inputs : List (List ℕ)) → AreOpened inputs opened.now → MatchResult result
         (λ part. (bytes : List ℕ) × (slice_get inputs index ≡ Some bytes)
-        × IsPartOf (Leaf index) bytes part)
+        × IsPartOfTree (Leaf index) bytes part)
         (λ e. (e ≡ InvalidArguments) × (length inputs ≤ index)) }
 {
     if index >= opened.len() {

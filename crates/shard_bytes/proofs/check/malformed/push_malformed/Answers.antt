@@ -1,17 +1,17 @@
 use Rattle.std.proofs.Common.{◌+◌, ◌*◌, ◌≤◌, length, take, drop, sym, ◌∙◌, subst, arith}
 use Rattle.shard_bytes.specs.Steps.Checking.{HasRows}
-use Rattle.shard_bytes.proofs.Malformed.{HasLeft, none_before, one_more_judged, all_judged, all_left_of, enough, enough_rows, has_rows, left_after, record_at, the_record}
+use Rattle.shard_bytes.proofs.Malformed.{HasLeft, none_before, one_more_judged, all_judged, all_left_of, header_fits_rest, enough_rows, has_rows, left_after, record_at, the_record}
 use Rattle.shard_bytes.proofs.check.malformed.push_malformed.Goals as goal
 
 pub row-header-requires : goal.row-header-requires
 row-header-requires g c =
     let rs = c.requires.0 in
-    enough g.R.SectionRecord.kind c.laws.ensures c.args.stored.now rs c.args.count c.requires.1 c.loop-index.index c.loop-index-test.true c.loop-index.rest.now (c.loop-index.invariant rs c.requires.1).0
+    header_fits_rest g.R.SectionRecord.kind c.laws.ensures c.args.stored.now rs c.args.count c.requires.1 c.loop-index.index c.loop-index-test.true c.loop-index.rest.now (c.loop-index.invariant rs c.requires.1).0
 
 pub split_at-requires : goal.split_at-requires
 split_at-requires g c =
     let rs = c.requires.0 in
-    enough g.R.SectionRecord.kind c.laws.ensures c.args.stored.now rs c.args.count c.requires.1 c.loop-index.index c.loop-index-test.true c.loop-index.rest.now (c.loop-index.invariant rs c.requires.1).0
+    header_fits_rest g.R.SectionRecord.kind c.laws.ensures c.args.stored.now rs c.args.count c.requires.1 c.loop-index.index c.loop-index-test.true c.loop-index.rest.now (c.loop-index.invariant rs c.requires.1).0
 
 pub split_at-requires-in-loop-index : goal.split_at-requires-in-loop-index
 split_at-requires-in-loop-index g c =

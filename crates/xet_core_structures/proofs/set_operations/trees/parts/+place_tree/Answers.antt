@@ -2,7 +2,7 @@ use Rattle.std.proofs.Common.{ℕ, List, [], None, map, get_or, rules, refl, sym
 use Rattle.std.specs.Borrow.{Bor}
 use Rattle.std.specs.Prelude.{MatchResult}
 use Rattle.xet_core_structures.specs.Trees.MergeTrees.{TreeWrites, TreeRefusal}
-use Rattle.xet_core_structures.specs.Steps.Parts.{IsPartOf, IsUnionPart}
+use Rattle.xet_core_structures.specs.Steps.Parts.{IsPartOfTree, IsUnionPart}
 use Rattle.xet_core_structures.specs.declared.set_operations.trees.parts.TreePart.TheVariants.{Input}
 use Rattle.xet_core_structures.proofs.Trees.Parts.{both_parts, part_of_tree}
 use Rattle.xet_core_structures.proofs.Trees.RangeTrees.{at_input}
@@ -13,7 +13,7 @@ returns-in_ok-other-in-Both t c =
     let inputs : List (List ℕ) = map (λ (x : Bor (List ℕ)). x.now) c.args.inputs.now in
     let left = c.in_ok-one-in-Both.ensures in
     let right = c.in_ok-other-in-Both.ensures in
-    subst (λ plan. MatchResult c.unite_parts.result (λ part. (bytes : List ℕ) × TreeWrites inputs plan bytes × IsPartOf plan bytes part) (TreeRefusal inputs plan)) (sym c.in-Both.is)
+    subst (λ plan. MatchResult c.unite_parts.result (λ part. (bytes : List ℕ) × TreeWrites inputs plan bytes × IsPartOfTree plan bytes part) (TreeRefusal inputs plan)) (sym c.in-Both.is)
     (both_parts IsUnionPart inputs c.in-Both.left.value c.in-Both.right.value left.0 right.0 c.unite_parts.result
     (subst (λ plan. TreeWrites inputs plan left.0) c.deref.ensures left.1) (subst (λ plan. TreeWrites inputs plan right.0) c.deref-in-Both.ensures right.1) (c.unite_parts.ensures left.0 right.0 (part_of_tree _ left.0 _ left.2) (part_of_tree _ right.0 _ right.2)))
 
@@ -21,4 +21,4 @@ pub returns-else-index-inputs : goal.returns-else-index-inputs
 returns-else-index-inputs t c =
     let inputs : List (List ℕ) = map (λ (x : Bor (List ℕ)). x.now) c.args.inputs.now in
     let input : Bor (List ℕ) = get_or c.args.inputs.now c.in-Leaf.index (record { ref_ptr = (0, 0); now = [] }) in
-    subst (λ plan. (x : List ℕ) × TreeWrites inputs plan x × IsPartOf plan x (Input input None)) (sym c.in-Leaf.is) (input.now, at_input c.args.inputs.now c.in-Leaf.index (record { ref_ptr = (0, 0); now = [] }) (search rules), (refl, tt))
+    subst (λ plan. (x : List ℕ) × TreeWrites inputs plan x × IsPartOfTree plan x (Input input None)) (sym c.in-Leaf.is) (input.now, at_input c.args.inputs.now c.in-Leaf.index (record { ref_ptr = (0, 0); now = [] }) (search rules), (refl, tt))
