@@ -1,7 +1,7 @@
 use Rattle.std.proofs.Common.{sym, ◌∙◌, true≢false}
 use Rattle.std.proofs.lemmas.Result.{MatchResult-weaker}
 use Rattle.xet_core_structures.proofs.Agreement.StrictTrees.{nothing_made, made_if_agreed}
-use Rattle.xet_core_structures.proofs.set_operations.agreement.strict_tree.make_of_agreeing.Goals as goal
+use Rattle.xet_core_structures.proofs.set_operations.agreement.strict_tree.OfAgreeingPlacedUnion.make.Goals as goal
 
 pub returns-then-not-branch : goal.returns-then-not-branch
 returns-then-not-branch g c =
