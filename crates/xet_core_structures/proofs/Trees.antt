@@ -1,6 +1,7 @@
 -- Trees of unions.
 
 pub mod Sides
+pub mod UnionTrees
 pub mod MergeTrees
 pub mod RangeTrees
 pub mod RangeParts

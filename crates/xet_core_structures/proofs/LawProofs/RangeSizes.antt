@@ -1,18 +1,17 @@
 -- The bytes that a tree of unions writes of a range are bounded by those of its inputs.
-use Rattle.std.proofs.Common.{◌≡◌, ℕ, ◌+◌, ◌*◌, ◌≤◌, List, length, ap, subst, arith}
+use Rattle.std.proofs.Common.{◌≡◌, ℕ, ◌+◌, ◌*◌, ◌≤◌, List, [], ◌∷◌, length, ap, subst, arith}
 use Rattle.xet_records.specs.FileRecord.{file_records}
 use Rattle.xet_records.specs.XorbRecord.{xorb_records}
 use Rattle.xet_shards.specs.Content.Shard.{Shard}
 use Rattle.xet_core_structures.specs.declared.set_operations.MergePlan.{MergePlan}
-use Rattle.xet_core_structures.specs.declared.set_operations.MergePlan.TheVariants.{Leaf, Both'}
 use Rattle.xet_core_structures.specs.declared.set_operations.ranges.HashRange.{HashRange}
 use Rattle.xet_core_structures.specs.TwoShards.ByteResults.{UnitesBytes}
 use Rattle.xet_core_structures.specs.Records.Ranges.{IsPartOf, is_within}
 use Rattle.xet_core_structures.specs.Records.ShardContents.{HasShard}
 use Rattle.xet_core_structures.specs.Records.Sizes.{rows_of_shard, bytes_at}
 use Rattle.xet_core_structures.specs.Trees.MergeTrees.{leaves, HasUnion}
-use Rattle.xet_core_structures.specs.Trees.RangeTrees.{IsRangeOf, RangeWrites}
-use Rattle.xet_core_structures.proofs.LawProofs.UnionSizes.{rows_held, rows_united, bytes_united, bytes_at_both, bytes_of_one, input_there}
+use Rattle.xet_core_structures.specs.Trees.RangeTrees.{IsRangeOf, LeafWritesRange, RangeWrites}
+use Rattle.xet_core_structures.proofs.LawProofs.UnionSizes.{rows_held, bytes_made, bytes_of_one, input_there}
 use Rattle.xet_core_structures.proofs.Records.ShardContents.{only_shard}
 use Rattle.xet_core_structures.proofs.Records.Within.{sum_of_part, one_part}
 
@@ -21,8 +20,8 @@ rows_of_part range s t part =
     omega (arith, sum_of_part (is_within range) file_records.row_count s.files t.files part.files, sum_of_part (is_within range) xorb_records.row_count s.xorbs t.xorbs part.xorbs)
 
 module _ (range : HashRange) (inputs : List (List ℕ)) where
-  rows_of_range : (plan : MergePlan) (out : List ℕ) (s : Shard) → RangeWrites range inputs plan out → HasShard s out → 48 * rows_of_shard s ≤ 2 * bytes_at inputs (leaves plan)
-  rows_of_range (Leaf i) out s (x, at, is) has =
+  rows_of_input : (i : ℕ) (out : List ℕ) (s : Shard) → LeafWritesRange range inputs i out → HasShard s out → 48 * rows_of_shard s ≤ 2 * bytes_at inputs (i ∷ [])
+  rows_of_input i out s (x, at, is) has =
       omega (
         arith,
         rows_held x is.whole is.has,
@@ -30,13 +29,9 @@ module _ (range : HashRange) (inputs : List (List ℕ)) where
         ap rows_of_shard (only_shard out s is.part has is.holds),
         ap length (input_there inputs i x at),
       )
-  rows_of_range (Both' p left q right) out s (x, y, x_written, y_written, unites) has =
-      omega (arith, rows_united x y out s _ _ (λ t. rows_of_range left x t x_written) (λ t. rows_of_range right y t y_written) unites has, bytes_at_both inputs left right)
 
   pub bytes_of_range : (plan : MergePlan) (out : List ℕ) → HasUnion plan → RangeWrites range inputs plan out → 3 * length out ≤ 1032 + 8 * bytes_at inputs (leaves plan)
-  bytes_of_range (Leaf i) out none writes = absurd none
-  bytes_of_range (Both' p left q right) out union (x, y, x_written, y_written, unites) =
-      bytes_united x y out _ unites (λ s. rows_of_range (Both' p left q right) out s (x, y, x_written, y_written, unites))
+  bytes_of_range = bytes_made inputs (LeafWritesRange range inputs) rows_of_input
 
 -- a range of one input, united with itself
 pub bytes_of_repeated_range : (range : HashRange) (input x y out : List ℕ) → IsRangeOf range input x → IsRangeOf range input y → UnitesBytes x y out → 3 * length out ≤ 1032 + 8 * length input

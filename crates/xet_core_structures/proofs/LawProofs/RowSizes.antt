@@ -1,5 +1,5 @@
 -- Rows of a shard hold one list of records, and what a tree of unions writes of them is bounded by its inputs.
-use Rattle.std.proofs.Common.{◌≡◌, ℕ, ◌+◌, ◌*◌, ◌≤◌, List, ◌++◌, length, map, flat_map, drop, refl, sym, ap, ◌∙◌, subst, arith}
+use Rattle.std.proofs.Common.{◌≡◌, ℕ, ◌+◌, ◌*◌, ◌≤◌, List, [], ◌∷◌, ◌++◌, length, map, flat_map, drop, refl, sym, ap, ◌∙◌, subst, arith}
 use Rattle.std.specs.FinMap.{values}
 use Rattle.std.proofs.lemmas.List.{length-drop}
 use Rattle.xet_base.proofs.Lists.{front_is}
@@ -17,7 +17,6 @@ use Rattle.xet_shards.proofs.Read.SectionUnique.{only_list}
 use Rattle.xet_shards.proofs.Write.SameBytes.{same_values}
 use Rattle.xet_shards.proofs.Write.Sections.{files_laws}
 use Rattle.xet_core_structures.specs.declared.set_operations.MergePlan.{MergePlan}
-use Rattle.xet_core_structures.specs.declared.set_operations.MergePlan.TheVariants.{Leaf, Both'}
 use Rattle.xet_core_structures.specs.declared.set_operations.ranges.HashRange.{HashRange}
 use Rattle.xet_core_structures.specs.declared.set_operations.rows.SectionRows.{SectionRows}
 use Rattle.xet_core_structures.specs.TwoShards.ByteResults.{keyed_layout, key_of, UnitesBytes}
@@ -25,8 +24,8 @@ use Rattle.xet_core_structures.specs.Records.RecordPairs.{key_of_record}
 use Rattle.xet_core_structures.specs.Records.ShardContents.{HasShard, files_at, xorbs_at}
 use Rattle.xet_core_structures.specs.Records.Sizes.{rows_of_shard, bytes_at}
 use Rattle.xet_core_structures.specs.Trees.MergeTrees.{leaves, HasUnion}
-use Rattle.xet_core_structures.specs.Trees.RowTrees.{HasInRows, IsRowsOf, RowsWrite}
-use Rattle.xet_core_structures.proofs.LawProofs.UnionSizes.{rows_in_front, rows_united, bytes_united, bytes_at_both, bytes_of_one, input_there}
+use Rattle.xet_core_structures.specs.Trees.RowTrees.{HasInRows, IsRowsOf, LeafWritesRows, RowsWrite}
+use Rattle.xet_core_structures.proofs.LawProofs.UnionSizes.{rows_in_front, bytes_made, bytes_of_one, input_there}
 use Rattle.xet_core_structures.proofs.Records.ShardContents.{rows_handed, only_shard}
 use Rattle.xet_core_structures.proofs.Trees.RowParts.{section_of_rows, section_alone}
 
@@ -93,16 +92,12 @@ module _ (range : HashRange) (start end : SectionRows) (x : List ℕ) where
     one_result = is.bytes_are ∙ (λ i. keyed_layout (same_part i) (key_of (sym same_info i))) ∙ sym also.bytes_are
 
 module _ (range : HashRange) (inputs : List (List ℕ)) (starts ends : List SectionRows) where
-  rows_of_rows : (plan : MergePlan) (out : List ℕ) (s : Shard) → RowsWrite range starts ends inputs plan out → HasShard s out → 48 * rows_of_shard s ≤ 2 * bytes_at inputs (leaves plan)
-  rows_of_rows (Leaf i) out s (start, end, x, start_at, end_at, at, is) has =
+  rows_of_input : (i : ℕ) (out : List ℕ) (s : Shard) → LeafWritesRows range starts ends inputs i out → HasShard s out → 48 * rows_of_shard s ≤ 2 * bytes_at inputs (i ∷ [])
+  rows_of_input i out s (start, end, x, start_at, end_at, at, is) has =
       omega (arith, rows_read range start end x out is, ap rows_of_shard (only_shard out s is.part has is.holds), ap length (input_there inputs i x at))
-  rows_of_rows (Both' p left q right) out s (x, y, x_written, y_written, unites) has =
-      omega (arith, rows_united x y out s _ _ (λ t. rows_of_rows left x t x_written) (λ t. rows_of_rows right y t y_written) unites has, bytes_at_both inputs left right)
 
   pub bytes_of_rows : (plan : MergePlan) (out : List ℕ) → HasUnion plan → RowsWrite range starts ends inputs plan out → 3 * length out ≤ 1032 + 8 * bytes_at inputs (leaves plan)
-  bytes_of_rows (Leaf i) out none writes = absurd none
-  bytes_of_rows (Both' p left q right) out union (x, y, x_written, y_written, unites) =
-      bytes_united x y out _ unites (λ s. rows_of_rows (Both' p left q right) out s (x, y, x_written, y_written, unites))
+  bytes_of_rows = bytes_made inputs (LeafWritesRows range starts ends inputs) rows_of_input
 
 -- the rows of one input, united with themselves
 pub bytes_of_repeated_rows : (range : HashRange) (start end : SectionRows) (input x y out : List ℕ) → IsRowsOf range start end input x → IsRowsOf range start end input y → UnitesBytes x y out

@@ -36,7 +36,7 @@ use Rattle.xet_core_structures.specs.declared.set_operations.MergePlan.TheVarian
 use Rattle.xet_core_structures.specs.TwoShards.ByteResults.{keyed_options, keyed_info, keyed_layout, key_of, HaveResult, UnitesBytes}
 use Rattle.xet_core_structures.specs.Records.ByteUnion.{mixed_file, IsUnitedFile, IsEitherFile, IsEitherXorb, IsByteUnion}
 use Rattle.xet_core_structures.specs.Records.ShardContents.{IsSectionOf, HasShard}
-use Rattle.xet_core_structures.specs.Trees.MergeTrees.{leaves, HasUnion, TreeWrites}
+use Rattle.xet_core_structures.specs.Trees.MergeTrees.{leaves, HasUnion, TreeMakes, LeafWrites, TreeWrites}
 use Rattle.xet_core_structures.specs.TwoShards.Readable.{IsBytesUnderKey}
 use Rattle.xet_core_structures.specs.Records.Sizes.{rows_of_shard, bytes_at}
 use Rattle.xet_core_structures.proofs.Records.ShardContents.{rows_handed, only_shard}
@@ -219,14 +219,20 @@ bytes_united x y out n (i, j, c, x_ends, y_ends, result, is) rows =
 pub bytes_at_both : (inputs : List (List ℕ)) (left right : MergePlan) → bytes_at inputs (leaves left ++ leaves right) ≡ bytes_at inputs (leaves left) + bytes_at inputs (leaves right)
 bytes_at_both inputs left right = sum_by-append (λ k. length (slice_index_or inputs k [])) (leaves left) (leaves right)
 
--- a tree of unions
-module _ (inputs : List (List ℕ)) where
-  rows_of_tree : (plan : MergePlan) (out : List ℕ) (s : Shard) → TreeWrites inputs plan out → HasShard s out → 48 * rows_of_shard s ≤ 2 * bytes_at inputs (leaves plan)
-  rows_of_tree (Leaf i) out s is has = omega (arith, rows_held out s has, ap length (input_there inputs i out is))
-  rows_of_tree (Both' p left q right) out s (x, y, x_written, y_written, unites) has =
-      omega (arith, rows_united x y out s _ _ (λ t. rows_of_tree left x t x_written) (λ t. rows_of_tree right y t y_written) unites has, bytes_at_both inputs left right)
+-- a tree of unions whose leaves make at most the rows of their inputs
+module _ (inputs : List (List ℕ)) (Makes : ℕ → List ℕ → Type 0) (rows_of_leaf : (i : ℕ) (out : List ℕ) (s : Shard) → Makes i out → HasShard s out → 48 * rows_of_shard s ≤ 2 * bytes_at inputs (i ∷ [])) where
+  rows_of_tree : (plan : MergePlan) (out : List ℕ) (s : Shard) → TreeMakes Makes plan out → HasShard s out → 48 * rows_of_shard s ≤ 2 * bytes_at inputs (leaves plan)
+  rows_of_tree (Leaf i) out s made has = rows_of_leaf i out s made has
+  rows_of_tree (Both' p left q right) out s (x, y, x_made, y_made, unites) has =
+      omega (arith, rows_united x y out s _ _ (λ t. rows_of_tree left x t x_made) (λ t. rows_of_tree right y t y_made) unites has, bytes_at_both inputs left right)
 
-  pub bytes_of_tree : (plan : MergePlan) (out : List ℕ) → HasUnion plan → TreeWrites inputs plan out → 3 * length out ≤ 1032 + 8 * bytes_at inputs (leaves plan)
-  bytes_of_tree (Leaf i) out none writes = absurd none
-  bytes_of_tree (Both' p left q right) out union (x, y, x_written, y_written, unites) =
-      bytes_united x y out _ unites (λ s. rows_of_tree (Both' p left q right) out s (x, y, x_written, y_written, unites))
+  pub bytes_made : (plan : MergePlan) (out : List ℕ) → HasUnion plan → TreeMakes Makes plan out → 3 * length out ≤ 1032 + 8 * bytes_at inputs (leaves plan)
+  bytes_made (Leaf i) out none made = absurd none
+  bytes_made (Both' p left q right) out union (x, y, x_made, y_made, unites) =
+      bytes_united x y out _ unites (λ s. rows_of_tree (Both' p left q right) out s (x, y, x_made, y_made, unites))
+
+rows_of_input : (inputs : List (List ℕ)) (i : ℕ) (out : List ℕ) (s : Shard) → LeafWrites inputs i out → HasShard s out → 48 * rows_of_shard s ≤ 2 * bytes_at inputs (i ∷ [])
+rows_of_input inputs i out s is has = omega (arith, rows_held out s has, ap length (input_there inputs i out is))
+
+pub bytes_of_tree : (inputs : List (List ℕ)) (plan : MergePlan) (out : List ℕ) → HasUnion plan → TreeWrites inputs plan out → 3 * length out ≤ 1032 + 8 * bytes_at inputs (leaves plan)
+bytes_of_tree inputs = bytes_made inputs (LeafWrites inputs) (rows_of_input inputs)

@@ -38,7 +38,7 @@ use Rattle.xet_core_structures.specs.Trees.MergeTrees.{HasUnion, TreeWrites, Tre
 use Rattle.xet_core_structures.specs.Steps.InVersions.{with_number_2, AreNumbered, IsPartIn, IsNotWritten, GetsNumber}
 use Rattle.xet_core_structures.specs.Steps.Parts.{IsPart, IsUnionPart, IsPartOfTree}
 use Rattle.xet_core_structures.specs.Steps.Placed.{PlacesAll}
-use Rattle.xet_core_structures.proofs.Trees.Parts.{no_memory_after}
+use Rattle.xet_core_structures.proofs.Trees.Parts.{no_memory_after_tree}
 use Rattle.xet_core_structures.proofs.Trees.PlacedUnions.{header_placed}
 use Rattle.xet_core_structures.proofs.Trees.TreeXorbs.{shard_under}
 
@@ -180,17 +180,17 @@ module _ (inputs : List (List ℕ)) where
   made_of_tree V2 (Leaf i) bytes (Input x placed) out writes is same = subst (TreeWrites inputs (Leaf i)) (sym same) writes
   made_of_tree V2 (Leaf i) bytes (United shard) out writes is same = absurd is
   made_of_tree V2 (Both' p left q right) bytes part out writes is made =
-      made_of_union (TreeWrites inputs (Both' p left q right)) (TreeRefusal inputs (Both' p left q right)) bytes writes (no_memory_after inputs (Both' p left q right) bytes writes) V2 part out is made
+      made_of_union (TreeWrites inputs (Both' p left q right)) (TreeRefusal inputs (Both' p left q right)) bytes writes (no_memory_after_tree inputs (Both' p left q right) bytes writes) V2 part out is made
 
   pub refused_of_tree : (version : FormatVersion) (plan : MergePlan) (bytes : List ℕ) (part : TreePart) (e : CoreError) → TreeWrites inputs plan bytes → IsPartOfTree plan bytes part → IsNotWritten version part bytes e
       → TreeRefusalIn version inputs plan e
-  refused_of_tree V3 plan bytes part e writes is (inl lacks) = subst (TreeRefusal inputs plan) (sym lacks) (no_memory_after inputs plan bytes writes)
+  refused_of_tree V3 plan bytes part e writes is (inl lacks) = subst (TreeRefusal inputs plan) (sym lacks) (no_memory_after_tree inputs plan bytes writes)
   refused_of_tree V3 plan bytes part e writes is (inr (invalid, new)) = absurd new
-  refused_of_tree V2 (Leaf i) bytes part e writes is (inl lacks) = subst (TreeRefusal inputs (Leaf i)) (sym lacks) (no_memory_after inputs (Leaf i) bytes writes)
+  refused_of_tree V2 (Leaf i) bytes part e writes is (inl lacks) = subst (TreeRefusal inputs (Leaf i)) (sym lacks) (no_memory_after_tree inputs (Leaf i) bytes writes)
   refused_of_tree V2 (Leaf i) bytes (Input x placed) e writes is (inr (invalid, new)) = absurd new
   refused_of_tree V2 (Leaf i) bytes (United shard) e writes is (inr (invalid, new)) = absurd is
   refused_of_tree V2 (Both' p left q right) bytes part e writes is refused =
-      refused_of_union (TreeWrites inputs (Both' p left q right)) (TreeRefusal inputs (Both' p left q right)) bytes writes (no_memory_after inputs (Both' p left q right) bytes writes) V2 part e is refused
+      refused_of_union (TreeWrites inputs (Both' p left q right)) (TreeRefusal inputs (Both' p left q right)) bytes writes (no_memory_after_tree inputs (Both' p left q right) bytes writes) V2 part e is refused
 
   -- a tree with a union, as any call that makes bytes
   pub made_by_tree : (version : FormatVersion) (plan : MergePlan) (out : List ℕ) → HasUnion plan → TreeWritesIn version inputs plan out → MadeIn version (TreeWrites inputs plan) out

@@ -1,26 +1,25 @@
 -- A tree of unions over bytes that hold shards that agree pairwise, under one key, writes the layout of their join under
 -- this key.
-use Rattle.std.proofs.Common.{◌≡◌, inl, inr, ℕ, List, [], ◌∷◌, Ok, Err, sym, ◌∙◌, subst}
+use Rattle.std.proofs.Common.{◌≡◌, inl, inr, ℕ, List, Ok, Err, sym, ◌∙◌, subst}
 use Rattle.std.specs.List.{AllZip}
-use Rattle.std.specs.Prelude.{Contains, MatchResult}
+use Rattle.std.specs.Prelude.{⊤, Contains, MatchResult}
 use Rattle.std.specs.declared.result.Result.{Result}
 use Rattle.std.specs.declared.vec.Vec.{Vec}
 use Rattle.std.proofs.lemmas.Option.{same_Some, none-some, slice_get_past}
 use Rattle.xet_base.specs.declared.error.CoreError.{CoreError}
+use Rattle.xet_base.specs.declared.error.CoreError.TheVariants.{OutOfMemory}
 use Rattle.xet_base.specs.declared.merklehash.DataHash.{DataHash}
 use Rattle.xet_base.specs.KeyedHash.{no_key}
 use Rattle.xet_shards.specs.Content.Joins.{IsJoinOf, AgreePairwise}
 use Rattle.xet_shards.specs.Content.Shard.{Shard}
 use Rattle.xet_shards.specs.Write.WrittenShard.{IsBytesOf, IsBytesWithoutExpiry}
-use Rattle.xet_shards.proofs.Content.Joins.{join-unique, join-one, follows_parts}
 use Rattle.xet_core_structures.specs.declared.set_operations.MergePlan.{MergePlan}
-use Rattle.xet_core_structures.specs.declared.set_operations.MergePlan.TheVariants.{Leaf, Both'}
 use Rattle.xet_core_structures.specs.TwoShards.ByteResults.{keyed_layout}
 use Rattle.xet_core_structures.specs.Records.ShardContents.{HoldsShard}
-use Rattle.xet_core_structures.specs.Trees.MergeTrees.{leaves, HasUnion, TreeWrites, TreeRefusal, InputIs, IsMergeUnder, IsMerge, IsMergeOfWritten, MergeRefused}
+use Rattle.xet_core_structures.specs.Trees.MergeTrees.{leaves, LeafWrites, LeafRefusal, TreeWrites, TreeRefusal, InputIs, IsMergeUnder, IsMerge, IsMergeOfWritten, MergeRefused}
 use Rattle.xet_core_structures.proofs.Records.ByteUnions.{written_held}
 use Rattle.xet_core_structures.proofs.Records.Zipped.{zipped_as}
-use Rattle.xet_core_structures.proofs.Trees.Sides.{sides_of, side_refused}
+use Rattle.xet_core_structures.proofs.Trees.UnionTrees.{tree_made, tree_refused as refused}
 
 module _ (inputs : List (List ℕ)) (key : DataHash) where
   -- the input at an index holds a shard under the key
@@ -31,49 +30,22 @@ module _ (inputs : List (List ℕ)) (key : DataHash) where
   abbrev AreInputs : MergePlan → List Shard → Type 0
   AreInputs plan shards = AllZip HoldsAt (leaves plan) shards
 
-  -- what a tree writes holds the join of its leaves under the key, and is the layout of it unless the tree is a leaf
-  tree_written : (plan : MergePlan) (shards : List Shard) (c : Shard) (out : List ℕ) → AreInputs plan shards → AgreePairwise (Contains shards) → IsJoinOf (Contains shards) c
-      → TreeWrites inputs plan out → HoldsShard key c out × (HasUnion plan → out ≡ keyed_layout c key)
-  tree_written (Leaf i) [] c out are agree join writes = absurd are
-  tree_written (Leaf i) (s ∷ t ∷ ss) c out (here, rest) agree join writes = absurd rest
-  tree_written (Leaf i) (s ∷ []) c out ((bytes, at, here), rest) agree join writes =
-      let same_shard = join-unique (Contains (s ∷ [])) s c (join-one s (follows_parts s here.shard)) join in
-      let same_bytes = same_Some bytes out (sym at ∙ writes) in
-      (subst (λ p. p) (λ k. HoldsShard key (same_shard k) (same_bytes k)) here, λ none. absurd none)
-  tree_written (Both' p left q right) shards c out are agree join (x, y, x_written, y_written, unites) =
-      let both = sides_of key HoldsAt left right shards c are agree join in
-      let l = both.first in
-      let r = both.second in
-      let x_holds = (tree_written left l.shards l.join x l.are_at l.agree l.is_join x_written).0 in
-      let y_holds = (tree_written right r.shards r.join y r.are_at r.agree r.is_join y_written).0 in
-      let written = both.united x y out x_holds y_holds unites in
-      (written.1, λ union. written.0)
+  leaf_written : (i : ℕ) (s : Shard) (out : List ℕ) → HoldsAt i s → LeafWrites inputs i out → HoldsShard key s out × ⊤
+  leaf_written i s out (bytes, at, here) writes = (subst (HoldsShard key s) (same_Some bytes out (sym at ∙ writes)) here, tt)
 
-  -- it refuses only if an allocation fails or the join has too many rows
-  pub tree_refused : (plan : MergePlan) (shards : List Shard) (c : Shard) (err : CoreError) → AreInputs plan shards → AgreePairwise (Contains shards) → IsJoinOf (Contains shards) c
-      → TreeRefusal inputs plan err → MergeRefused c err
-  tree_refused (Leaf i) [] c err are agree join refusal = absurd are
-  tree_refused (Leaf i) (s ∷ ss) c err ((bytes, at, here), rest) agree join (inl (is, past)) = absurd (none-some bytes (sym (slice_get_past inputs i past) ∙ at))
-  tree_refused (Leaf i) (s ∷ ss) c err are agree join (inr (no_memory, within)) = inl no_memory
-  tree_refused (Both' p left q right) shards c err are agree join (inl refusal) =
-      let l = (sides_of key HoldsAt left right shards c are agree join).first in
-      side_refused key HoldsAt left c err l (tree_refused left l.shards l.join err l.are_at l.agree l.is_join refusal)
-  tree_refused (Both' p left q right) shards c err are agree join (inr (x, x_written, inl refusal)) =
-      let r = (sides_of key HoldsAt left right shards c are agree join).second in
-      side_refused key HoldsAt right c err r (tree_refused right r.shards r.join err r.are_at r.agree r.is_join refusal)
-  tree_refused (Both' p left q right) shards c err are agree join (inr (x, x_written, inr (y, y_written, refusal))) =
-      let both = sides_of key HoldsAt left right shards c are agree join in
-      let l = both.first in
-      let r = both.second in
-      let x_holds = (tree_written left l.shards l.join x l.are_at l.agree l.is_join x_written).0 in
-      let y_holds = (tree_written right r.shards r.join y r.are_at r.agree r.is_join y_written).0 in
-      both.refused x y err x_holds y_holds refusal
+  leaf_refused : (i : ℕ) (s : Shard) (e : CoreError) → HoldsAt i s → LeafRefusal inputs i e → e ≡ OutOfMemory
+  leaf_refused i s e (bytes, at, here) (inl (invalid, past)) = absurd (none-some bytes (sym (slice_get_past inputs i past) ∙ at))
+  leaf_refused i s e held (inr (no_memory, within)) = no_memory
+
+  pub tree_refused : (plan : MergePlan) (shards : List Shard) (c : Shard) (e : CoreError) → AreInputs plan shards → AgreePairwise (Contains shards) → IsJoinOf (Contains shards) c
+      → TreeRefusal inputs plan e → MergeRefused c e
+  tree_refused = refused (LeafWrites inputs) (LeafRefusal inputs) key HoldsAt (λ s out. ⊤) leaf_written (λ s. tt) leaf_refused
 
   pub keyed_tree : (plan : MergePlan) (shards : List Shard) (c : Shard) (out : List ℕ) → IsMergeUnder key inputs plan shards c → TreeWrites inputs plan out
       → (out ≡ keyed_layout c key) × HoldsShard key c out
   keyed_tree plan shards c out merge writes =
-      let found = tree_written plan shards c out merge.inputs_are merge.agree merge.is_join writes in
-      (found.1 merge.union, found.0)
+      let found = tree_made (LeafWrites inputs) (LeafRefusal inputs) key HoldsAt (λ s out. ⊤) leaf_written (λ s. tt) plan shards c out merge.inputs_are merge.agree merge.is_join writes in
+      (found.2 merge.union, found.0)
 
 -- the bytes of shards, in either version, are such inputs
 pub merge_of_written : (inputs : List (List ℕ)) (plan : MergePlan) (shards : List Shard) (c : Shard) → IsMergeOfWritten inputs plan shards c → IsMerge inputs plan shards c

@@ -1,9 +1,7 @@
 -- Shards in memory whose records stay where they are, and the unions of two.
-use Rattle.std.proofs.Common.{◌≡◌, ◌⊎◌, inl, inr, ℕ, ◌<◌, ◌≤◌, List, map, Option, Some, Ok, Err, refl, sym, ap, ◌∙◌, subst, arith}
-use Rattle.std.specs.Prelude.{Contains, MatchResult}
+use Rattle.std.proofs.Common.{◌≡◌, ◌⊎◌, inl, inr, ℕ, ◌<◌, ◌≤◌, List, map, Option, Some, refl, sym, ap, ◌∙◌, subst, arith}
+use Rattle.std.specs.Prelude.{Contains}
 use Rattle.std.specs.FinMap.{FinMap, get, values}
-use Rattle.std.specs.declared.result.Result.{Result}
-use Rattle.std.specs.declared.vec.Vec.{Vec}
 use Rattle.std.proofs.lemmas.Option.{slice_get_within}
 use Rattle.xet_base.specs.declared.error.CoreError.{CoreError}
 use Rattle.xet_base.specs.declared.error.CoreError.TheVariants.{OutOfMemory}
@@ -31,12 +29,12 @@ use Rattle.xet_core_structures.specs.declared.set_operations.trees.parts.PlacedS
 use Rattle.xet_core_structures.specs.declared.set_operations.trees.parts.TreePart.{TreePart}
 use Rattle.xet_core_structures.specs.declared.set_operations.trees.parts.TreePart.TheVariants.{Input, United}
 use Rattle.xet_core_structures.specs.Records.ByteUnion.{IsEitherFile, IsEitherXorb, IsByteUnion}
-use Rattle.xet_core_structures.specs.TwoShards.ByteResults.{keyed_layout, keyed_info, key_of, HaveResult, HaveNoUnionOf, HaveNoUnion, InputRefusal, UnitesBytes, BytesRefusal}
+use Rattle.xet_core_structures.specs.TwoShards.ByteResults.{keyed_layout, keyed_info, key_of, HaveResult, HaveNoUnionOf, HaveNoUnion, InputRefusal, UnitesBytes}
 use Rattle.xet_core_structures.specs.Steps.ByteResults.{Records, HaveInputs, AreCombined}
 use Rattle.xet_core_structures.specs.Records.RecordPairs.{key_of_record, with_hash, Combines}
 use Rattle.xet_core_structures.specs.Records.ShardContents.{IsSectionOf, HasFiles, files_at, xorbs_at}
 use Rattle.xet_core_structures.specs.Steps.ShardContents.{IsListOf, HoldsLists}
-use Rattle.xet_core_structures.specs.Trees.MergeTrees.{TreeWrites, TreeRefusal}
+use Rattle.xet_core_structures.specs.Trees.MergeTrees.{LeafWrites, LeafRefusal, TreeWrites, TreeRefusal}
 use Rattle.xet_core_structures.specs.Trees.Parts.{SectionsRefusal}
 use Rattle.xet_core_structures.specs.Steps.Parts.{PlacesRecords, MayBeUnited, MayBeWritten, PlacesShard, HaveNoRecordUnion, IsUnited, IsPart, IsUnionPart, IsPartOfTree}
 use Rattle.xet_core_structures.specs.Steps.Placed.{HaveNoListUnion}
@@ -49,6 +47,7 @@ use Rattle.xet_core_structures.proofs.LawProofs.FileLookups.{union_under}
 use Rattle.xet_core_structures.proofs.TwoShards.Refusals.{mapped_at}
 use Rattle.xet_core_structures.proofs.TwoShards.Results.{files_unique, xorbs_unique}
 use Rattle.xet_core_structures.proofs.Trees.TreeXorbs.{held_under}
+use Rattle.xet_core_structures.proofs.Trees.UnionTrees.{no_memory_after}
 
 -- why the sections of an input are not read
 module _ (x : List ℕ) (i : MDBShardInfo) (e : CoreError) where
@@ -228,22 +227,9 @@ part_of_tree (Leaf i) bytes (Input x placed) is = is
 part_of_tree (Leaf i) bytes (United shard) is = absurd is
 part_of_tree (Both' p left q right) bytes part is = part_of_union bytes part is
 
--- both sides of a tree give a part, and so does their union, or it is refused
-module _ (Is : List ℕ → TreePart → Type 0) where
-  pub both_parts : (inputs : List (List ℕ)) (left right : MergePlan) (x y : List ℕ) (r : Result TreePart CoreError) → TreeWrites inputs left x → TreeWrites inputs right y
-      → MatchResult r (λ part. (bytes : List ℕ) × UnitesBytes x y bytes × Is bytes part) (BytesRefusal x y)
-      → MatchResult r
-      (λ part. (bytes : List ℕ) × ((x y : List ℕ) × TreeWrites inputs left x × TreeWrites inputs right y × UnitesBytes x y bytes) × Is bytes part)
-      (λ e. TreeRefusal inputs left e
-      ⊎ ((x : List ℕ) × TreeWrites inputs left x × (TreeRefusal inputs right e ⊎ ((y : List ℕ) × TreeWrites inputs right y × BytesRefusal x y e))))
-  both_parts inputs left right x y (Ok part) x_written y_written (bytes, unites, is) = (bytes, (x, y, x_written, y_written, unites), is)
-  both_parts inputs left right x y (Err e) x_written y_written refusal = inr (x, x_written, inr (y, y_written, refusal))
-
 -- an allocation may fail after a tree is done
-pub no_memory_after : (inputs : List (List ℕ)) (plan : MergePlan) (bytes : List ℕ) → TreeWrites inputs plan bytes → TreeRefusal inputs plan OutOfMemory
-no_memory_after inputs (Leaf i) bytes is = inr (refl, slice_get_within inputs i bytes is)
-no_memory_after inputs (Both' p left q right) bytes (x, y, x_written, y_written, (i, j, c, x_ends, y_ends, have, is)) =
-    inr (x, x_written, inr (y, y_written, inr (inr (i, j, x_ends, y_ends, inr (have.same_key, inl (inl refl))))))
+pub no_memory_after_tree : (inputs : List (List ℕ)) (plan : MergePlan) (bytes : List ℕ) → TreeWrites inputs plan bytes → TreeRefusal inputs plan OutOfMemory
+no_memory_after_tree inputs = no_memory_after (LeafWrites inputs) (LeafRefusal inputs) (λ i out is. inr (refl, slice_get_within inputs i out is))
 
 -- what a part stands for may be written
 pub union_may_be_written : (bytes : List ℕ) (info : MDBShardInfo) (shard : PlacedShard) (is : IsUnited bytes info shard) → MayBeWritten shard (record { files = values is.union.files; xorbs = values is.union.xorbs })
@@ -252,9 +238,3 @@ union_may_be_written bytes info shard is = record {
   files = is.written.files.fits;
   xorbs = is.written.xorbs.fits;
 }
-
--- the bytes of what a tree gives are written, or an allocation fails
-pub tree_written : {Z : Type 0} (inputs : List (List ℕ)) (plan : MergePlan) (bytes : List ℕ) (r : Result (Vec ℕ Z) CoreError) → TreeWrites inputs plan bytes → MatchResult r (λ written. written.items ≡ bytes) (λ e. e ≡ OutOfMemory)
-    → MatchResult r (λ written. TreeWrites inputs plan written.items) (TreeRefusal inputs plan)
-tree_written inputs plan bytes (Ok written) writes is = subst (TreeWrites inputs plan) (sym is) writes
-tree_written inputs plan bytes (Err e) writes is = subst (TreeRefusal inputs plan) (sym is) (no_memory_after inputs plan bytes writes)

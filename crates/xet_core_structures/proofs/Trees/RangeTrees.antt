@@ -1,6 +1,6 @@
 -- A tree of unions over bytes that hold shards that agree pairwise, under one key, writes of a range the layout of the
 -- records of their join that are in it.
-use Rattle.std.proofs.Common.{◌≡◌, ◌⊎◌, inl, inr, ℕ, zero, suc, ◌<◌, List, [], ◌∷◌, length, get_or, map, Bor, Some, Ok, Err, refl, sym, ap, ◌∙◌, subst, arith}
+use Rattle.std.proofs.Common.{◌≡◌, inl, inr, ℕ, zero, suc, ◌<◌, List, [], ◌∷◌, length, get_or, map, Bor, Some, Ok, Err, refl, sym, ap, ◌∙◌, subst, arith}
 use Rattle.std.specs.List.{AllZip}
 use Rattle.std.specs.Prelude.{Contains, MatchResult, slice_get}
 use Rattle.std.specs.declared.result.Result.{Result}
@@ -10,26 +10,25 @@ use Rattle.xet_base.specs.declared.error.CoreError.TheVariants.{OutOfMemory}
 use Rattle.xet_base.specs.declared.merklehash.DataHash.{DataHash}
 use Rattle.xet_shards.specs.Content.Joins.{IsJoinOf, AgreePairwise}
 use Rattle.xet_shards.specs.Content.Shard.{Shard, IsShard}
-use Rattle.xet_shards.proofs.Content.Joins.{join-unique, join-one, follows_parts}
 use Rattle.xet_shards.proofs.Write.Sections.{files_fit}
 use Rattle.xet_core_structures.specs.declared.set_operations.MergePlan.{MergePlan}
-use Rattle.xet_core_structures.specs.declared.set_operations.MergePlan.TheVariants.{Leaf, Both'}
+use Rattle.xet_core_structures.specs.declared.set_operations.MergePlan.TheVariants.{Leaf}
 use Rattle.xet_core_structures.specs.declared.set_operations.trees.parts.TreePart.{TreePart}
 use Rattle.xet_core_structures.specs.declared.set_operations.ranges.HashRange.{HashRange}
 use Rattle.xet_core_structures.specs.Steps.Parts.{IsUnionPart}
-use Rattle.xet_core_structures.specs.TwoShards.ByteResults.{keyed_options, keyed_layout, key_of, UnitesBytes, BytesRefusal}
+use Rattle.xet_core_structures.specs.TwoShards.ByteResults.{keyed_options, keyed_layout, key_of}
 use Rattle.xet_core_structures.specs.Trees.ExportTrees.{FitsOptions}
 use Rattle.xet_core_structures.specs.Records.Ranges.{IsPartOf, is_within}
 use Rattle.xet_core_structures.specs.Records.ShardContents.{HoldsShard, IsTruncated, IsMalformed}
 use Rattle.xet_core_structures.specs.Trees.MergeTrees.{leaves, InputIs, MergeRefused}
 use Rattle.xet_core_structures.specs.Trees.Parts.{ShardRefusal}
-use Rattle.xet_core_structures.specs.Trees.RangeTrees.{IsRangeOf, RangeWrites, RangeRefusal, IsRangeMerge, IsHeldLayout}
+use Rattle.xet_core_structures.specs.Trees.RangeTrees.{IsRangeOf, LeafWritesRange, LeafRangeRefusal, RangeWrites, RangeRefusal, IsRangeMerge, IsHeldLayout}
 use Rattle.xet_core_structures.proofs.Records.ByteUnions.{held_with_options, info_found, loads_well, fits_key}
 use Rattle.xet_core_structures.proofs.Records.ShardContents.{only_shard, held_whole, held_well}
 use Rattle.xet_core_structures.proofs.Records.Within.{part_is_shard, one_part, part_of, part_of_is, part_of-preserves}
 use Rattle.xet_core_structures.proofs.Records.Zipped.{zipped_with}
 use Rattle.xet_core_structures.proofs.Trees.MappedJoins.{mapped_agree}
-use Rattle.xet_core_structures.proofs.Trees.Sides.{sides_of, side_refused}
+use Rattle.xet_core_structures.proofs.Trees.UnionTrees.{no_memory_after, tree_made, tree_refused}
 
 module _ (range : HashRange) (inputs : List (List ℕ)) (key : DataHash) where
   -- the bytes hold a shard under the key, and this is its part in the range
@@ -55,55 +54,21 @@ module _ (range : HashRange) (inputs : List (List ℕ)) (key : DataHash) where
       let fits : FitsOptions (keyed_options key) = record { key = fits_key key s x held; creation = omega arith; expiry = omega arith } in
       (subst (HoldsShard key t) (sym out_is) (held_with_options t (keyed_options key) shard fits (files_fit t shard)), out_is)
 
-  part_shard : (t : Shard) (x : List ℕ) → HoldsWhole t x → IsShard t
-  part_shard t x (s, held, part) = part_is_shard (is_within range) s t part held.shard
+  leaf_written : (i : ℕ) (t : Shard) (out : List ℕ) → HasPartAt i t → LeafWritesRange range inputs i out → HoldsShard key t out × (out ≡ keyed_layout t key)
+  leaf_written i t out (bytes, at, here) (x, x_at, is) = part_written t bytes out here (subst (λ b. IsRangeOf range b out) (same_Some x bytes (sym x_at ∙ at)) is)
 
   -- it is read, unless an allocation fails
-  part_read : (t c : Shard) (x : List ℕ) (e : CoreError) → HoldsWhole t x → ShardRefusal x e → MergeRefused c e
-  part_read t c x e (s, held, part) (inl load) = absurd (loads_well key s x held e load)
-  part_read t c x e (s, held, part) (inr (info, ends, inl no_memory)) = inl no_memory
-  part_read t c x e (s, held, part) (inr (info, ends, inr (inl (end, cut)))) =
+  part_read : (t : Shard) (x : List ℕ) (e : CoreError) → HoldsWhole t x → ShardRefusal x e → e ≡ OutOfMemory
+  part_read t x e (s, held, part) (inl load) = absurd (loads_well key s x held e load)
+  part_read t x e (s, held, part) (inr (info, ends, inl no_memory)) = no_memory
+  part_read t x e (s, held, part) (inr (info, ends, inr (inl (end, cut)))) =
       absurd (held_whole x held.has.info s held.has.holds (subst (IsTruncated x) (info_found key s x held info ends) cut))
-  part_read t c x e (s, held, part) (inr (info, ends, inr (inr (invalid, bad)))) =
+  part_read t x e (s, held, part) (inr (info, ends, inr (inr (invalid, bad)))) =
       absurd (held_well x held.has.info s held.has.holds (subst (IsMalformed x) (info_found key s x held info ends) bad))
 
-  range_written : (plan : MergePlan) (parts : List Shard) (c : Shard) (out : List ℕ) → AreWhole plan parts → AgreePairwise (Contains parts) → IsJoinOf (Contains parts) c
-      → RangeWrites range inputs plan out → HoldsShard key c out × (out ≡ keyed_layout c key)
-  range_written (Leaf i) [] c out are agree join writes = absurd are
-  range_written (Leaf i) (t ∷ u ∷ us) c out (here, rest) agree join writes = absurd rest
-  range_written (Leaf i) (t ∷ []) c out ((bytes, at, here), rest) agree join (x, x_at, is) =
-      let same = same_Some x bytes (sym x_at ∙ at) in
-      let found = part_written t bytes out here (subst (λ b. IsRangeOf range b out) same is) in
-      let c_is = join-unique (Contains (t ∷ [])) t c (join-one t (follows_parts t (part_shard t bytes here))) join in
-      (subst (λ d. HoldsShard key d out) c_is found.0, found.1 ∙ ap (λ d. keyed_layout d key) c_is)
-  range_written (Both' p left q right) parts c out are agree join (x, y, x_written, y_written, unites) =
-      let both = sides_of key HasPartAt left right parts c are agree join in
-      let l = both.first in
-      let r = both.second in
-      let x_holds = (range_written left l.shards l.join x l.are_at l.agree l.is_join x_written).0 in
-      let y_holds = (range_written right r.shards r.join y r.are_at r.agree r.is_join y_written).0 in
-      let written = both.united x y out x_holds y_holds unites in
-      (written.1, written.0)
-
-  range_refused : (plan : MergePlan) (parts : List Shard) (c : Shard) (err : CoreError) → AreWhole plan parts → AgreePairwise (Contains parts) → IsJoinOf (Contains parts) c
-      → RangeRefusal range inputs plan err → MergeRefused c err
-  range_refused (Leaf i) [] c err are agree join refusal = absurd are
-  range_refused (Leaf i) (t ∷ ts) c err ((bytes, at, here), rest) agree join (inl (is, past)) = absurd (none-some bytes (sym (slice_get_past inputs i past) ∙ at))
-  range_refused (Leaf i) (t ∷ ts) c err ((bytes, at, here), rest) agree join (inr (x, x_at, refusal)) =
-      part_read t c bytes err here (subst (λ b. ShardRefusal b err) (same_Some x bytes (sym x_at ∙ at)) refusal)
-  range_refused (Both' p left q right) parts c err are agree join (inl refusal) =
-      let l = (sides_of key HasPartAt left right parts c are agree join).first in
-      side_refused key HasPartAt left c err l (range_refused left l.shards l.join err l.are_at l.agree l.is_join refusal)
-  range_refused (Both' p left q right) parts c err are agree join (inr (x, x_written, inl refusal)) =
-      let r = (sides_of key HasPartAt left right parts c are agree join).second in
-      side_refused key HasPartAt right c err r (range_refused right r.shards r.join err r.are_at r.agree r.is_join refusal)
-  range_refused (Both' p left q right) parts c err are agree join (inr (x, x_written, inr (y, y_written, refusal))) =
-      let both = sides_of key HasPartAt left right parts c are agree join in
-      let l = both.first in
-      let r = both.second in
-      let x_holds = (range_written left l.shards l.join x l.are_at l.agree l.is_join x_written).0 in
-      let y_holds = (range_written right r.shards r.join y r.are_at r.agree r.is_join y_written).0 in
-      both.refused x y err x_holds y_holds refusal
+  leaf_refused : (i : ℕ) (t : Shard) (e : CoreError) → HasPartAt i t → LeafRangeRefusal inputs i e → e ≡ OutOfMemory
+  leaf_refused i t e (bytes, at, here) (inl (invalid, past)) = absurd (none-some bytes (sym (slice_get_past inputs i past) ∙ at))
+  leaf_refused i t e (bytes, at, here) (inr (x, x_at, refusal)) = part_read t bytes e here (subst (λ b. ShardRefusal b e) (same_Some x bytes (sym x_at ∙ at)) refusal)
 
   -- of inputs that hold shards that agree
   module _ (plan : MergePlan) (shards : List Shard) (join part : Shard) (merge : IsRangeMerge range key inputs plan shards join part) where
@@ -122,10 +87,13 @@ module _ (range : HashRange) (inputs : List (List ℕ)) (key : DataHash) where
         ((part_of-preserves (is_within range)).join shards join merge.is_join)
 
     pub one_layout : (out : List ℕ) → RangeWrites range inputs plan out → IsHeldLayout key part out
-    one_layout out writes = let found = range_written plan (map range_of shards) part out are_whole agree is_join writes in record { bytes_are = found.1; holds = found.0 }
+    one_layout out writes =
+        let found = tree_made (LeafWritesRange range inputs) (LeafRangeRefusal inputs) key HasPartAt (λ t out. out ≡ keyed_layout t key) leaf_written (λ t. refl) plan (map range_of shards) part out are_whole agree is_join writes in
+        record { bytes_are = found.1; holds = found.0 }
 
     pub one_refusal : (e : CoreError) → RangeRefusal range inputs plan e → MergeRefused part e
-    one_refusal e = range_refused plan (map range_of shards) part e are_whole agree is_join
+    one_refusal e =
+        tree_refused (LeafWritesRange range inputs) (LeafRangeRefusal inputs) key HasPartAt (λ t out. out ≡ keyed_layout t key) leaf_written (λ t. refl) leaf_refused plan (map range_of shards) part e are_whole agree is_join
 
 -- the bytes that a reference to an input refers to
 pub at_input : (xs : List (Bor (List ℕ))) (i : ℕ) (d : Bor (List ℕ)) → i < length xs → slice_get (map (λ x. x.now) xs) i ≡ Some (get_or xs i d).now
@@ -140,18 +108,6 @@ module _ (range : HashRange) (inputs : List (List ℕ)) where
   leaf_part i x (Ok part) at (out, is, of_part) = (out, (x, at, is), of_part)
   leaf_part i x (Err e) at refusal = inr (x, at, refusal)
 
-  -- both sides of a tree give a part, and so does their union, or it is refused
-  pub both_parts : (left right : MergePlan) (x y : List ℕ) (r : Result TreePart CoreError) → RangeWrites range inputs left x → RangeWrites range inputs right y
-      → MatchResult r (λ part. (bytes : List ℕ) × UnitesBytes x y bytes × IsUnionPart bytes part) (BytesRefusal x y)
-      → MatchResult r
-      (λ part. (bytes : List ℕ) × ((x y : List ℕ) × RangeWrites range inputs left x × RangeWrites range inputs right y × UnitesBytes x y bytes) × IsUnionPart bytes part)
-      (λ e. RangeRefusal range inputs left e
-      ⊎ ((x : List ℕ) × RangeWrites range inputs left x × (RangeRefusal range inputs right e ⊎ ((y : List ℕ) × RangeWrites range inputs right y × BytesRefusal x y e))))
-  both_parts left right x y (Ok part) x_written y_written (bytes, unites, is) = (bytes, (x, y, x_written, y_written, unites), is)
-  both_parts left right x y (Err e) x_written y_written refusal = inr (x, x_written, inr (y, y_written, refusal))
-
   -- an allocation may fail after a tree is done
-  pub no_memory_after : (plan : MergePlan) (bytes : List ℕ) → RangeWrites range inputs plan bytes → RangeRefusal range inputs plan OutOfMemory
-  no_memory_after (Leaf i) bytes (x, at, is) = inr (x, at, inr (is.has.info, is.has.ends, inl refl))
-  no_memory_after (Both' p left q right) bytes (x, y, x_written, y_written, (i, j, c, x_ends, y_ends, have, is)) =
-      inr (x, x_written, inr (y, y_written, inr (inr (i, j, x_ends, y_ends, inr (have.same_key, inl (inl refl))))))
+  pub no_memory_after_range : (plan : MergePlan) (bytes : List ℕ) → RangeWrites range inputs plan bytes → RangeRefusal range inputs plan OutOfMemory
+  no_memory_after_range = no_memory_after (LeafWritesRange range inputs) (LeafRangeRefusal inputs) (λ i out made. let (x, at, is) = made in inr (x, at, inr (is.has.info, is.has.ends, inl refl)))

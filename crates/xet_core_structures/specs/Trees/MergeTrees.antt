@@ -27,23 +27,41 @@ abbrev pub HasUnion : MergePlan → Type 0
 HasUnion (Leaf i) = ⊥
 HasUnion (Both' p left q right) = ⊤
 
--- what a tree writes: at a leaf the input's bytes, else the union of what both sides write
-abbrev pub TreeWrites : List (List ℕ) → MergePlan → List ℕ → Type 0
-TreeWrites inputs (Leaf i) out = slice_get inputs i ≡ Some out
-TreeWrites inputs (Both' p left q right) out =
-    (x y : List ℕ) × TreeWrites inputs left x × TreeWrites inputs right y × UnitesBytes x y out
+-- what a tree makes, if `Makes` says what each leaf makes: at a leaf that, else the union of what
+-- both sides make
+abbrev pub TreeMakes : (ℕ → List ℕ → Type 0) → MergePlan → List ℕ → Type 0
+TreeMakes Makes (Leaf i) out = Makes i out
+TreeMakes Makes (Both' p left q right) out =
+    (x y : List ℕ) × TreeMakes Makes left x × TreeMakes Makes right y × UnitesBytes x y out
 
--- why a tree writes nothing: a leaf has no input, or it has one and an allocation failed; else the
--- left side writes nothing, or it does and the right side writes nothing, or both do and there is
--- no union of what they write
-abbrev pub TreeRefusal : List (List ℕ) → MergePlan → CoreError → Type 0
-TreeRefusal inputs (Leaf i) e =
+-- why a tree makes nothing, if `Refuses` says why a leaf makes nothing: at a leaf that; else the
+-- left side makes nothing, or it does and the right side makes nothing, or both do and there is no
+-- union of what they make
+abbrev pub TreeRefuses : (ℕ → List ℕ → Type 0) → (ℕ → CoreError → Type 0) → MergePlan → CoreError
+    → Type 0
+TreeRefuses Makes Refuses (Leaf i) e = Refuses i e
+TreeRefuses Makes Refuses (Both' p left q right) e =
+    TreeRefuses Makes Refuses left e
+    ⊎ ((x : List ℕ) × TreeMakes Makes left x
+    × (TreeRefuses Makes Refuses right e
+    ⊎ ((y : List ℕ) × TreeMakes Makes right y × BytesRefusal x y e)))
+
+-- what a leaf writes: the input's bytes
+abbrev pub LeafWrites : List (List ℕ) → ℕ → List ℕ → Type 0
+LeafWrites inputs i out = slice_get inputs i ≡ Some out
+
+-- why a leaf writes nothing: it has no input, or it has one and an allocation failed
+abbrev pub LeafRefusal : List (List ℕ) → ℕ → CoreError → Type 0
+LeafRefusal inputs i e =
     ((e ≡ InvalidArguments) × (length inputs ≤ i)) ⊎ ((e ≡ OutOfMemory) × (i < length inputs))
-TreeRefusal inputs (Both' p left q right) e =
-    TreeRefusal inputs left e
-    ⊎ ((x : List ℕ) × TreeWrites inputs left x
-    × (TreeRefusal inputs right e
-    ⊎ ((y : List ℕ) × TreeWrites inputs right y × BytesRefusal x y e)))
+
+-- what a tree of unions writes
+abbrev pub TreeWrites : List (List ℕ) → MergePlan → List ℕ → Type 0
+TreeWrites inputs = TreeMakes (LeafWrites inputs)
+
+-- why a tree of unions writes nothing
+abbrev pub TreeRefusal : List (List ℕ) → MergePlan → CoreError → Type 0
+TreeRefusal inputs = TreeRefuses (LeafWrites inputs) (LeafRefusal inputs)
 
 -- there is an input at an index, and `Is` holds of it
 abbrev pub InputIs : List (List ℕ) → (List ℕ → Type 0) → ℕ → Type 0

@@ -10,12 +10,11 @@ use Rattle.xet_shards.specs.Content.Shard.{Shard, IsShard}
 use Rattle.xet_shards.specs.Export.InARow.{ShardPart, bytes_of_part, IsPartUnder, files_in, xorbs_in, options_under, ArePartsInARow}
 use Rattle.xet_shards.specs.Write.Layout.{layout_of}
 use Rattle.xet_core_structures.specs.declared.set_operations.MergePlan.{MergePlan}
-use Rattle.xet_core_structures.specs.declared.set_operations.MergePlan.TheVariants.{Leaf, Both'}
 use Rattle.xet_core_structures.specs.declared.set_operations.ranges.HashRange.{HashRange}
 use Rattle.xet_core_structures.specs.Records.Ranges.{IsPartOf, is_within}
 use Rattle.xet_core_structures.specs.Records.ShardContents.{HasShard, HoldsShard}
-use Rattle.xet_core_structures.specs.TwoShards.ByteResults.{keyed_layout, key_of, UnitesBytes, BytesRefusal}
-use Rattle.xet_core_structures.specs.Trees.MergeTrees.{leaves, InputIs}
+use Rattle.xet_core_structures.specs.TwoShards.ByteResults.{keyed_layout, key_of}
+use Rattle.xet_core_structures.specs.Trees.MergeTrees.{leaves, TreeMakes, TreeRefuses, InputIs}
 use Rattle.xet_core_structures.specs.Trees.Parts.{ShardRefusal}
 
 -- bytes hold a shard, and other bytes are the layout, under its key, of its records in a range
@@ -29,24 +28,22 @@ pub record IsRangeOf (range : HashRange) (x out : List ℕ) : Type 0 where
   pub bytes_are : out ≡ keyed_layout part (key_of has.info)
   pub holds : HasShard part out
 
--- what a tree writes of a range: at a leaf the layout of the input's records in it, else the union
--- of what both sides write
-abbrev pub RangeWrites : HashRange → List (List ℕ) → MergePlan → List ℕ → Type 0
-RangeWrites range inputs (Leaf i) out = InputIs inputs (λ x. IsRangeOf range x out) i
-RangeWrites range inputs (Both' p left q right) out =
-    (x y : List ℕ) × RangeWrites range inputs left x × RangeWrites range inputs right y × UnitesBytes x y out
+-- what a leaf writes of a range: the layout of the input's records in it
+abbrev pub LeafWritesRange : HashRange → List (List ℕ) → ℕ → List ℕ → Type 0
+LeafWritesRange range inputs i out = InputIs inputs (λ x. IsRangeOf range x out) i
 
--- why a tree writes nothing of a range: a leaf has no input, or one from which no shard is read;
--- else the left side writes nothing, or it does and the right side writes nothing, or both do and
--- there is no union of what they write
-abbrev pub RangeRefusal : HashRange → List (List ℕ) → MergePlan → CoreError → Type 0
-RangeRefusal range inputs (Leaf i) e =
+-- why a leaf writes nothing of a range: it has no input, or one from which no shard is read
+abbrev pub LeafRangeRefusal : List (List ℕ) → ℕ → CoreError → Type 0
+LeafRangeRefusal inputs i e =
     ((e ≡ InvalidArguments) × (length inputs ≤ i)) ⊎ InputIs inputs (λ x. ShardRefusal x e) i
-RangeRefusal range inputs (Both' p left q right) e =
-    RangeRefusal range inputs left e
-    ⊎ ((x : List ℕ) × RangeWrites range inputs left x
-    × (RangeRefusal range inputs right e
-    ⊎ ((y : List ℕ) × RangeWrites range inputs right y × BytesRefusal x y e)))
+
+-- what a tree of unions writes of a range
+abbrev pub RangeWrites : HashRange → List (List ℕ) → MergePlan → List ℕ → Type 0
+RangeWrites range inputs = TreeMakes (LeafWritesRange range inputs)
+
+-- why a tree of unions writes nothing of a range
+abbrev pub RangeRefusal : HashRange → List (List ℕ) → MergePlan → CoreError → Type 0
+RangeRefusal range inputs = TreeRefuses (LeafWritesRange range inputs) (LeafRangeRefusal inputs)
 
 -- the inputs at the leaves of a tree hold these well-formed shards under one key, from left to
 -- right; each two of the shards agree, `join` is their join, and `part` has its records in a range

@@ -13,14 +13,14 @@ use Rattle.xet_shards.specs.Read.SectionReading.{files_of, HoldsRecords, BeginsW
 use Rattle.xet_shards.specs.Write.Section.{total_rows}
 use Rattle.xet_shards.specs.Write.WithOptions.{Ascends}
 use Rattle.xet_core_structures.specs.declared.set_operations.MergePlan.{MergePlan}
-use Rattle.xet_core_structures.specs.declared.set_operations.MergePlan.TheVariants.{Leaf, Both'}
 use Rattle.xet_core_structures.specs.declared.set_operations.ranges.HashRange.{HashRange}
 use Rattle.xet_core_structures.specs.declared.set_operations.rows.SectionRows.{SectionRows}
 use Rattle.xet_core_structures.specs.Records.Ranges.{is_within}
 use Rattle.xet_core_structures.specs.Records.RecordPairs.{key_of_record}
 use Rattle.xet_core_structures.specs.Records.ShardContents.{HasShard, files_at, xorbs_at}
+use Rattle.xet_core_structures.specs.Trees.MergeTrees.{TreeMakes, TreeRefuses}
 use Rattle.xet_core_structures.specs.Trees.RangeTrees.{IsRangeOf}
-use Rattle.xet_core_structures.specs.TwoShards.ByteResults.{keyed_layout, key_of, UnitesBytes, LoadRefusal, BytesRefusal}
+use Rattle.xet_core_structures.specs.TwoShards.ByteResults.{keyed_layout, key_of, LoadRefusal}
 
 -- a section has these records of a range, as reading returns them, in its rows from `first` on and
 -- before `end`: whole records, whose hashes strictly ascend. A range without a lower bound starts
@@ -65,30 +65,30 @@ InputRowsAre starts ends inputs Is i =
     (start end : SectionRows) × (x : List ℕ) × (slice_get starts i ≡ Some start)
     × (slice_get ends i ≡ Some end) × (slice_get inputs i ≡ Some x) × Is start end x
 
--- what a tree writes of rows: at a leaf the layout of the input's records in them, else the union
--- of what both sides write
-abbrev pub RowsWrite : HashRange → (starts ends : List SectionRows) → List (List ℕ) → MergePlan
+-- what a leaf writes of rows: the layout of the input's records in them
+abbrev pub LeafWritesRows : HashRange → (starts ends : List SectionRows) → List (List ℕ) → ℕ
     → List ℕ → Type 0
-RowsWrite range starts ends inputs (Leaf i) out =
+LeafWritesRows range starts ends inputs i out =
     InputRowsAre starts ends inputs (λ start end x. IsRowsOf range start end x out) i
-RowsWrite range starts ends inputs (Both' p left q right) out =
-    (x y : List ℕ) × RowsWrite range starts ends inputs left x
-    × RowsWrite range starts ends inputs right y × UnitesBytes x y out
 
--- why a tree writes nothing of rows: a leaf has no input or no rows, or its records in them are not
--- read; else the left side writes nothing, or it does and the right side writes nothing, or both do
--- and there is no union of what they write
-abbrev pub RowsRefusal : HashRange → (starts ends : List SectionRows) → List (List ℕ) → MergePlan
+-- why a leaf writes nothing of rows: it has no input or no rows, or the records in them are not read
+abbrev pub LeafRowsRefusal : HashRange → (starts ends : List SectionRows) → List (List ℕ) → ℕ
     → CoreError → Type 0
-RowsRefusal range starts ends inputs (Leaf i) e =
+LeafRowsRefusal range starts ends inputs i e =
     ((e ≡ InvalidArguments)
     × ((length inputs ≤ i) ⊎ (length starts ≤ i) ⊎ (length ends ≤ i)))
     ⊎ InputRowsAre starts ends inputs (λ start end x. RowReadRefusal range start end x e) i
-RowsRefusal range starts ends inputs (Both' p left q right) e =
-    RowsRefusal range starts ends inputs left e
-    ⊎ ((x : List ℕ) × RowsWrite range starts ends inputs left x
-    × (RowsRefusal range starts ends inputs right e
-    ⊎ ((y : List ℕ) × RowsWrite range starts ends inputs right y × BytesRefusal x y e)))
+
+-- what a tree of unions writes of rows
+abbrev pub RowsWrite : HashRange → (starts ends : List SectionRows) → List (List ℕ) → MergePlan
+    → List ℕ → Type 0
+RowsWrite range starts ends inputs = TreeMakes (LeafWritesRows range starts ends inputs)
+
+-- why a tree of unions writes nothing of rows
+abbrev pub RowsRefusal : HashRange → (starts ends : List SectionRows) → List (List ℕ) → MergePlan
+    → CoreError → Type 0
+RowsRefusal range starts ends inputs =
+    TreeRefuses (LeafWritesRows range starts ends inputs) (LeafRowsRefusal range starts ends inputs)
 
 -- the rows are those of a range in bytes: what they have is the layout of its records
 abbrev pub AreRowsOfRange : HashRange → (start end : SectionRows) → List ℕ → Type 0

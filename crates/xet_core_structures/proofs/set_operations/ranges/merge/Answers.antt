@@ -4,7 +4,7 @@ use Rattle.std.proofs.lemmas.Result.{err_from_is_err_and}
 use Rattle.xet_core_structures.specs.Trees.RangeTrees.{RangeWrites, RangeRefusal}
 use Rattle.xet_core_structures.proofs.Trees.InVersions.{made_of_union, refused_of_union, refused_in_version, if_written}
 use Rattle.xet_core_structures.proofs.Trees.Parts.{part_of_union}
-use Rattle.xet_core_structures.proofs.Trees.RangeTrees.{no_memory_after}
+use Rattle.xet_core_structures.proofs.Trees.RangeTrees.{no_memory_after_range}
 use Rattle.xet_core_structures.proofs.set_operations.ranges.merge.Goals as goal
 
 pub returns-in_err-part : goal.returns-in_err-part
@@ -24,7 +24,7 @@ returns c =
     let plan = c.args.plan.now in
     let range = c.args.range.now in
     let part = c.in_ok-part.ensures in
-    let no_memory = no_memory_after range inputs plan part.0 part.1 in
+    let no_memory = no_memory_after_range range inputs plan part.0 part.1 in
     if_written _ _ _ _ c.part_bytes_in.result (λ out. made_of_union (RangeWrites range inputs plan) (RangeRefusal range inputs plan) part.0 part.1 no_memory c.args.version c.in_ok-part.part out part.2)
     (λ e. refused_of_union (RangeWrites range inputs plan) (RangeRefusal range inputs plan) part.0 part.1 no_memory c.args.version c.in_ok-part.part e part.2)
     (c.part_bytes_in.ensures part.0 (part_of_union part.0 c.in_ok-part.part part.2))

@@ -4,7 +4,7 @@ use Rattle.std.proofs.lemmas.Result.{err_from_is_err_and}
 use Rattle.xet_core_structures.specs.Trees.RowTrees.{RowsWrite, RowsRefusal}
 use Rattle.xet_core_structures.proofs.Trees.InVersions.{made_of_union, refused_of_union, refused_in_version, if_filled}
 use Rattle.xet_core_structures.proofs.Trees.Parts.{part_of_union}
-use Rattle.xet_core_structures.proofs.Trees.RowTrees.{no_memory_after}
+use Rattle.xet_core_structures.proofs.Trees.RowTrees.{no_memory_after_rows}
 use Rattle.xet_core_structures.proofs.set_operations.rows.fill_with_rows.Goals as goal
 
 pub returns-in_err-part : goal.returns-in_err-part
@@ -29,7 +29,7 @@ returns c =
     let writes : List ℕ → Type 0 = RowsWrite c.args.range.now c.args.starts.now c.args.ends.now inputs plan in
     let refuses = RowsRefusal c.args.range.now c.args.starts.now c.args.ends.now inputs plan in
     let part = c.in_ok-part.ensures in
-    let no_memory = no_memory_after c.args.range.now c.args.starts.now c.args.ends.now inputs plan part.0 part.1 in
+    let no_memory = no_memory_after_rows c.args.range.now c.args.starts.now c.args.ends.now inputs plan part.0 part.1 in
     if_filled _ _ _ _ c.args.out.now c.fill_with_part_in.new.out c.fill_with_part_in.result
     (λ out. made_of_union writes refuses part.0 part.1 no_memory c.args.version c.in_ok-part.part out part.2)
     (λ e. refused_of_union writes refuses part.0 part.1 no_memory c.args.version c.in_ok-part.part e part.2)
