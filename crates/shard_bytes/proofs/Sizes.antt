@@ -1,5 +1,5 @@
 -- How large unions and differences of byte strings are.
-use Rattle.std.proofs.Common.{◌≡◌, inl, inr, ℕ, zero, suc, ◌+◌, ◌-◌, ◌/◌, List, [], ◌∷◌, length, Some, Ok, Err, refl, sym, ap, subst, arith}
+use Rattle.std.proofs.Common.{◌≡◌, inl, inr, ℕ, zero, suc, ◌+◌, ◌-◌, ◌*◌, ◌/◌, ◌≤◌, List, [], ◌∷◌, length, Some, Ok, Err, refl, sym, ap, subst, arith}
 use Rattle.std.specs.Prelude.{IfErr, IfOk, MatchResult, sum_by, slice_get, slice_index_or}
 use Rattle.std.specs.declared.result.Result.{Result}
 use Rattle.std.proofs.lemmas.List.Sums.{sum_by-append, sum_by-cons}
@@ -8,12 +8,12 @@ use Rattle.xet_core_structures.specs.declared.set_operations.MergePlan.{MergePla
 use Rattle.xet_core_structures.specs.declared.set_operations.MergePlan.TheVariants.{Leaf, Both'}
 use Rattle.xet_core_structures.specs.TwoShards.ByteResults.{UnitesBytes}
 use Rattle.xet_core_structures.specs.Trees.Filling.{FillsWith}
-use Rattle.xet_core_structures.specs.Trees.MergeTrees.{leaves, TreeWrites}
+use Rattle.xet_core_structures.specs.Trees.MergeTrees.{leaves, HasUnion, TreeMakes, LeafWrites, TreeWrites}
 use Rattle.xet_core_structures.specs.Records.Sizes.{bytes_at}
 use Rattle.xet_core_structures.specs.declared.set_operations.ranges.HashRange.{HashRange}
-use Rattle.xet_core_structures.specs.Trees.RangeTrees.{IsRangeOf, RangeWrites}
+use Rattle.xet_core_structures.specs.Trees.RangeTrees.{IsRangeOf, LeafWritesRange, RangeWrites}
 use Rattle.xet_core_structures.specs.declared.set_operations.rows.SectionRows.{SectionRows}
-use Rattle.xet_core_structures.specs.Trees.RowTrees.{IsRowsOf, RowsWrite}
+use Rattle.xet_core_structures.specs.Trees.RowTrees.{IsRowsOf, LeafWritesRows, RowsWrite}
 use Rattle.xet_core_structures.proofs.LawProofs.RangeSizes.{bytes_of_range, bytes_of_repeated_range}
 use Rattle.xet_core_structures.proofs.LawProofs.RowSizes.{bytes_of_rows, bytes_of_repeated_rows}
 use Rattle.xet_core_structures.proofs.LawProofs.UnionSizes.{bytes_of_union, bytes_of_tree, bytes_of_difference, bytes_of_repetition}
@@ -70,15 +70,21 @@ only_input (y ∷ z ∷ zs) x one is = absurd (omega (arith, one))
 same_item : {X : Type 0} (xs : List X) (x y : X) → slice_get xs 0 ≡ Some x → slice_get xs 0 ≡ Some y → y ≡ x
 same_item xs x y first second = cc
 
+-- what a tree over all inputs makes is bounded by their bytes, if that is so of a union, and of one that unites the only input with itself
+module _ (inputs : List (List ℕ)) (Makes : ℕ → List ℕ → Type 0) (bytes_made : (plan : MergePlan) (out : List ℕ) → HasUnion plan → TreeMakes Makes plan out → 3 * length out ≤ 1032 + 8 * bytes_at inputs (leaves plan))
+    (bytes_of_one : (x y out : List ℕ) → length inputs ≡ 1 → Makes 0 x → Makes 0 y → UnitesBytes x y out → 3 * length out ≤ 1032 + 8 * sum_by length inputs) where
+  size_made : (plan : MergePlan) (out : List ℕ) → IsMergePlan (length inputs) plan → TreeMakes Makes plan out → IsResultSize inputs (length out)
+  size_made (Leaf i) out (inl (one, none)) made = absurd none
+  size_made (Leaf i) out (inr (more, (one, is))) made = absurd (omega arith)
+  size_made (Both' p left q right) out (inl (one, (first, second))) (x, y, x_made, y_made, unites) =
+      bytes_of_one x y out one (subst (λ l. TreeMakes Makes l x) first x_made) (subst (λ l. TreeMakes Makes l y) second y_made) unites
+  size_made (Both' p left q right) out (inr (more, balanced)) made =
+      omega (arith, bytes_made (Both' p left q right) out tt made, balanced_bytes inputs 0 (length inputs) (Both' p left q right) balanced, sizes_of_all inputs)
+
 pub size_of_merge : (inputs : List (List ℕ)) (plan : MergePlan) (out : List ℕ) → IsMergePlan (length inputs) plan → TreeWrites inputs plan out → IsResultSize inputs (length out)
-size_of_merge inputs (Leaf i) out (inl (one, none)) writes = absurd none
-size_of_merge inputs (Leaf i) out (inr (more, (one, is))) writes = absurd (omega arith)
-size_of_merge inputs (Both' p left q right) out (inl (one, (first, second))) (x, y, x_written, y_written, unites) =
-    let x_is = subst (λ l. TreeWrites inputs l x) first x_written in
-    let y_is = subst (λ l. TreeWrites inputs l y) second y_written in
-    omega (arith, bytes_of_repetition x out (subst (λ z. UnitesBytes x z out) (same_item inputs x y x_is y_is) unites), only_input inputs x one x_is)
-size_of_merge inputs (Both' p left q right) out (inr (more, balanced)) writes =
-    omega (arith, bytes_of_tree inputs (Both' p left q right) out tt writes, balanced_bytes inputs 0 (length inputs) (Both' p left q right) balanced, sizes_of_all inputs)
+size_of_merge inputs = size_made inputs (LeafWrites inputs) (bytes_of_tree inputs) of_one where
+  of_one : (x y out : List ℕ) → length inputs ≡ 1 → LeafWrites inputs 0 x → LeafWrites inputs 0 y → UnitesBytes x y out → 3 * length out ≤ 1032 + 8 * sum_by length inputs
+  of_one x y out one x_is y_is unites = omega (arith, bytes_of_repetition x out (subst (λ z. UnitesBytes x z out) (same_item inputs x y x_is y_is) unites), only_input inputs x one x_is)
 
 -- of two byte strings
 pub size_of_result : (operation : Operation) (x y out : List ℕ) → CombinesBytes (IsResultOf operation) x y out → IsResultSize (sources_of operation x y) (length out)
@@ -88,35 +94,22 @@ size_of_result Difference x y out (i, j, c, x_ends, y_ends, result, is) =
 
 -- a range of a merge has no more bytes than a merge may have
 pub size_of_range : (range : HashRange) (inputs : List (List ℕ)) (plan : MergePlan) (out : List ℕ) → IsMergePlan (length inputs) plan → RangeWrites range inputs plan out → IsResultSize inputs (length out)
-size_of_range range inputs (Leaf i) out (inl (one, none)) writes = absurd none
-size_of_range range inputs (Leaf i) out (inr (more, (one, is))) writes = absurd (omega arith)
-size_of_range range inputs (Both' p left q right) out (inl (one, (first, second))) (x, y, x_written, y_written, unites) =
-    let x_is = subst (λ l. RangeWrites range inputs l x) first x_written in
-    let y_is = subst (λ l. RangeWrites range inputs l y) second y_written in
-    let same = same_item inputs x_is.0 y_is.0 x_is.1 y_is.1 in
-    omega (arith, bytes_of_repeated_range range x_is.0 x y out x_is.2 (subst (λ b. IsRangeOf range b y) same y_is.2) unites, only_input inputs x_is.0 one x_is.1)
-size_of_range range inputs (Both' p left q right) out (inr (more, balanced)) writes =
-    omega (arith, bytes_of_range range inputs (Both' p left q right) out tt writes, balanced_bytes inputs 0 (length inputs) (Both' p left q right) balanced, sizes_of_all inputs)
+size_of_range range inputs = size_made inputs (LeafWritesRange range inputs) (bytes_of_range range inputs) of_one where
+  of_one : (x y out : List ℕ) → length inputs ≡ 1 → LeafWritesRange range inputs 0 x → LeafWritesRange range inputs 0 y → UnitesBytes x y out → 3 * length out ≤ 1032 + 8 * sum_by length inputs
+  of_one x y out one x_is y_is unites =
+      let same = same_item inputs x_is.0 y_is.0 x_is.1 y_is.1 in
+      omega (arith, bytes_of_repeated_range range x_is.0 x y out x_is.2 (subst (λ b. IsRangeOf range b y) same y_is.2) unites, only_input inputs x_is.0 one x_is.1)
 
 -- so have the rows of a merge
 pub size_of_rows : (range : HashRange) (starts ends : List SectionRows) (inputs : List (List ℕ)) (plan : MergePlan) (out : List ℕ) → IsMergePlan (length inputs) plan → RowsWrite range starts ends inputs plan out → IsResultSize inputs (length out)
-size_of_rows range starts ends inputs (Leaf i) out (inl (one, none)) writes = absurd none
-size_of_rows range starts ends inputs (Leaf i) out (inr (more, (one, is))) writes = absurd (omega arith)
-size_of_rows range starts ends inputs (Both' p left q right) out (inl (one, (first, second))) (x, y, x_written, y_written, unites) =
-    let leaf = subst (λ l. RowsWrite range starts ends inputs l x) first x_written in
-    let other = subst (λ l. RowsWrite range starts ends inputs l y) second y_written in
-    let start = same_item starts leaf.0 other.0 leaf.3 other.3 in
-    let end = same_item ends leaf.1 other.1 leaf.4 other.4 in
-    let input = same_item inputs leaf.2 other.2 leaf.5 other.5 in
-    let also : IsRowsOf range leaf.0 leaf.1 leaf.2 y = subst (λ t. t) (λ j. IsRowsOf range (start j) (end j) (input j) y) other.6 in
-    omega (arith, bytes_of_repeated_rows range leaf.0 leaf.1 leaf.2 x y out leaf.6 also unites, only_input inputs leaf.2 one leaf.5)
-size_of_rows range starts ends inputs (Both' p left q right) out (inr (more, balanced)) writes =
-    omega (
-      arith,
-      bytes_of_rows range inputs starts ends (Both' p left q right) out tt writes,
-      balanced_bytes inputs 0 (length inputs) (Both' p left q right) balanced,
-      sizes_of_all inputs,
-    )
+size_of_rows range starts ends inputs = size_made inputs (LeafWritesRows range starts ends inputs) (bytes_of_rows range inputs starts ends) of_one where
+  of_one : (x y out : List ℕ) → length inputs ≡ 1 → LeafWritesRows range starts ends inputs 0 x → LeafWritesRows range starts ends inputs 0 y → UnitesBytes x y out → 3 * length out ≤ 1032 + 8 * sum_by length inputs
+  of_one x y out one leaf other unites =
+      let start = same_item starts leaf.0 other.0 leaf.3 other.3 in
+      let end = same_item ends leaf.1 other.1 leaf.4 other.4 in
+      let input = same_item inputs leaf.2 other.2 leaf.5 other.5 in
+      let also : IsRowsOf range leaf.0 leaf.1 leaf.2 y = subst (λ t. t) (λ j. IsRowsOf range (start j) (end j) (input j) y) other.6 in
+      omega (arith, bytes_of_repeated_rows range leaf.0 leaf.1 leaf.2 x y out leaf.6 also unites, only_input inputs leaf.2 one leaf.5)
 
 -- a fact on each value that is made is one on the result
 pub if_made : {T E : Type 0} (r : Result T E) (P Q : T → Type 0) (Refused : E → Type 0) → ((v : T) → P v → Q v) → MatchResult r P Refused → IfOk r Q

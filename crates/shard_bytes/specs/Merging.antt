@@ -32,17 +32,24 @@ abbrev pub IsMergePlan : ℕ → MergePlan → Type 0
 IsMergePlan count plan =
     ((count ≡ 1) × IsPlanOfBoth (Leaf 0) (Leaf 0) plan) ⊎ ((1 < count) × IsBalanced 0 count plan)
 
--- what the tree by which the inputs are merged writes
-abbrev pub MergesBytes : List (List ℕ) → List ℕ → Type 0
-MergesBytes inputs out =
-    (plan : MergePlan) × IsMergePlan (length inputs) plan × TreeWrites inputs plan out
+-- what the tree by which so many inputs are merged makes, if `Makes` says what a tree makes
+abbrev pub PlanMakes : ℕ → (MergePlan → List ℕ → Type 0) → List ℕ → Type 0
+PlanMakes count Makes out = (plan : MergePlan) × IsMergePlan count plan × Makes plan out
 
--- why inputs are not merged: there are none, an allocation failed, or the tree by which they are
--- merged writes nothing
-abbrev pub RefusesMerge : List (List ℕ) → CoreError → Type 0
-RefusesMerge inputs e =
+-- why inputs are not merged, if `Refuses` says why a tree makes nothing: there are none, an
+-- allocation failed, or the tree by which they are merged makes nothing
+abbrev pub PlanRefuses : List (List ℕ) → (MergePlan → CoreError → Type 0) → CoreError → Type 0
+PlanRefuses inputs Refuses e =
     ((e ≡ InvalidArguments) × (inputs ≡ [])) ⊎ (e ≡ OutOfMemory)
-    ⊎ ((plan : MergePlan) × IsMergePlan (length inputs) plan × TreeRefusal inputs plan e)
+    ⊎ ((plan : MergePlan) × IsMergePlan (length inputs) plan × Refuses plan e)
+
+-- the bytes to which inputs are merged
+abbrev pub MergesBytes : List (List ℕ) → List ℕ → Type 0
+MergesBytes inputs = PlanMakes (length inputs) (TreeWrites inputs)
+
+-- why inputs are not merged
+abbrev pub RefusesMerge : List (List ℕ) → CoreError → Type 0
+RefusesMerge inputs = PlanRefuses inputs (TreeRefusal inputs)
 
 -- the byte strings hold these shards, without a key; there is at least one, each two of the shards
 -- agree, and this is their join
@@ -52,17 +59,13 @@ pub record IsMergeOfList (inputs : List (List ℕ)) (shards : List Shard) (join 
   pub agree : AgreePairwise (Contains shards)
   pub is_join : IsJoinOf (Contains shards) join
 
--- what the tree by which the inputs are merged writes of a range
+-- the bytes to which the records of inputs in a range are merged
 abbrev pub MergesRange : HashRange → List (List ℕ) → List ℕ → Type 0
-MergesRange range inputs out =
-    (plan : MergePlan) × IsMergePlan (length inputs) plan × RangeWrites range inputs plan out
+MergesRange range inputs = PlanMakes (length inputs) (RangeWrites range inputs)
 
--- why a range of inputs is not merged: there are none, an allocation failed, or the tree by which
--- they are merged writes nothing of it
+-- why the records of inputs in a range are not merged
 abbrev pub RefusesRange : HashRange → List (List ℕ) → CoreError → Type 0
-RefusesRange range inputs e =
-    ((e ≡ InvalidArguments) × (inputs ≡ [])) ⊎ (e ≡ OutOfMemory)
-    ⊎ ((plan : MergePlan) × IsMergePlan (length inputs) plan × RangeRefusal range inputs plan e)
+RefusesRange range inputs = PlanRefuses inputs (RangeRefusal range inputs)
 
 -- the byte strings, at least one, hold these well-formed shards under one key; each two of the
 -- shards agree, `join` is their join, and `part` has its records in a range

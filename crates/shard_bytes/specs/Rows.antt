@@ -1,9 +1,8 @@
 -- Merges of the records in given rows of byte strings.
-use Rattle.std.specs.Prelude.{◌≡◌, ◌⊎◌, ℕ, ◌+◌, ◌-◌, ◌*◌, ◌/◌, ◌<◌, ◌≤◌, List, [], length, take, drop, min, slice_get, All, Option, None, Some}
+use Rattle.std.specs.Prelude.{◌≡◌, ◌⊎◌, ℕ, ◌+◌, ◌-◌, ◌*◌, ◌/◌, ◌<◌, ◌≤◌, List, length, take, drop, min, slice_get, All, Option, None, Some}
 use Rattle.std.specs.List.{AllZip}
 use Rattle.xet_core_structures.specs.declared.error.CoreError.{CoreError}
-use Rattle.xet_core_structures.specs.declared.error.CoreError.TheVariants.{InvalidArguments, OutOfMemory}
-use Rattle.xet_core_structures.specs.declared.set_operations.MergePlan.{MergePlan}
+use Rattle.xet_core_structures.specs.declared.error.CoreError.TheVariants.{OutOfMemory}
 use Rattle.xet_core_structures.specs.declared.set_operations.ranges.HashRange.{HashRange}
 use Rattle.xet_core_structures.specs.declared.set_operations.rows.SectionRows.{SectionRows}
 use Rattle.xet_core_structures.specs.declared.shard_format.MDBShardInfo.{MDBShardInfo}
@@ -13,24 +12,18 @@ use Rattle.xet_core_structures.specs.TwoShards.ByteResults.{LoadRefusal}
 use Rattle.xet_core_structures.specs.declared.merklehash.DataHash.{DataHash}
 use Rattle.xet_base.specs.Bytes.{u32_bytes, u64_from_bytes}
 use Rattle.xet_records.specs.Limits.{MAX_ROWS}
-use Rattle.shard_bytes.specs.Merging.{IsMergePlan}
+use Rattle.shard_bytes.specs.Merging.{PlanMakes, PlanRefuses}
 use Rattle.shard_bytes.specs.Walking.{WithEnds}
 
--- what the tree by which the inputs are merged writes of the records of a range in these rows
+-- the bytes to which the records of inputs in these rows, those of a range, are merged
 abbrev pub MergesRows : HashRange → (starts ends : List SectionRows) → List (List ℕ) → List ℕ
     → Type 0
-MergesRows range starts ends inputs out =
-    (plan : MergePlan) × IsMergePlan (length inputs) plan
-    × RowsWrite range starts ends inputs plan out
+MergesRows range starts ends inputs = PlanMakes (length inputs) (RowsWrite range starts ends inputs)
 
--- why the records in rows are not merged: there are no inputs, an allocation failed, or the tree by
--- which they are merged writes nothing of them
+-- why the records of inputs in these rows are not merged
 abbrev pub RefusesRows : HashRange → (starts ends : List SectionRows) → List (List ℕ) → CoreError
     → Type 0
-RefusesRows range starts ends inputs e =
-    ((e ≡ InvalidArguments) × (inputs ≡ [])) ⊎ (e ≡ OutOfMemory)
-    ⊎ ((plan : MergePlan) × IsMergePlan (length inputs) plan
-    × RowsRefusal range starts ends inputs plan e)
+RefusesRows range starts ends inputs = PlanRefuses inputs (RowsRefusal range starts ends inputs)
 
 -- inputs are merged to these byte strings of ranges in rows
 abbrev pub MergeInRows : List (List ℕ) → List HashRange → List (List SectionRows) → List (List ℕ)
