@@ -26,9 +26,9 @@ use xet_core_structures::xorb_structs::MDBXorbInfo;
 /// About the memory for what is kept of a chunk, in bytes.
 const ITEM_SIZE: u64 = 192;
 
-/// A shard that was opened.
+/// A shard that was opened, and its brief.
 #[derive(Drop)]
-struct OpenShard<'a> {
+struct BriefShard<'a> {
     file: ShardFile<'a>,
     brief: Brief<'a>,
 }
@@ -121,7 +121,7 @@ fn open_all<'a, R: Files + Eprint + AllocGlobal>(
     rt: &R,
     inputs: &'a Inputs,
     overview: &mut Overview<'a>,
-) -> Result<Vec<OpenShard<'a>>, Failure<'a>> {
+) -> Result<Vec<BriefShard<'a>>, Failure<'a>> {
     let mut opened = Vec::new(rt.alloc());
     for path in &inputs.paths {
         match open_shard(rt, path.as_str()) {
@@ -135,14 +135,14 @@ fn open_all<'a, R: Files + Eprint + AllocGlobal>(
 fn open_shard<'a, R: Files + AllocGlobal>(
     rt: &R,
     path: &'a str,
-) -> Result<OpenShard<'a>, Failure<'a>> {
+) -> Result<BriefShard<'a>, Failure<'a>> {
     let file = ShardFile::open(rt, path)?;
     let brief = in_memory(Brief::of_info(rt.alloc(), path, &file.info, file.size()))?;
-    Ok(OpenShard { file, brief })
+    Ok(BriefShard { file, brief })
 }
 
 // How many parts of the hashes are kept one after another, so that each takes about so much memory.
-fn parts_of(opened: &[OpenShard<'_>], memory: u64) -> u64 {
+fn parts_of(opened: &[BriefShard<'_>], memory: u64) -> u64 {
     let mut bytes: u64 = 0;
     for shard in opened {
         bytes = bytes.saturating_add(shard.brief.bytes);
@@ -158,7 +158,7 @@ fn parts_of(opened: &[OpenShard<'_>], memory: u64) -> u64 {
 // left.
 fn read_all<'a, R: Files + Clock + Eprint + AllocGlobal>(
     rt: &R,
-    opened: Vec<OpenShard<'a>>,
+    opened: Vec<BriefShard<'a>>,
     overview: &mut Overview<'a>,
     parts: u64,
     progress: &mut Progress,
@@ -169,7 +169,7 @@ fn read_all<'a, R: Files + Clock + Eprint + AllocGlobal>(
     let all = opened.len();
     for (read, shard) in opened.into_iter().enumerate() {
         progress.show_after_pause(rt, Stage::Reading { read, all });
-        let OpenShard { file, mut brief } = shard;
+        let BriefShard { file, mut brief } = shard;
         match xorbs_of(rt, &file, HashPart { rest: 0, parts }) {
             Ok(found) => {
                 brief.xorbs = Some(found.xorbs);
