@@ -23,7 +23,8 @@ use Rattle.xet_records.specs.RecordKind.{RecordKind, in_version}
 use Rattle.shard_bytes.specs.Outcomes.{HasOutcome}
 use Rattle.shard_bytes.proofs.Combining.{in_memory}
 use Rattle.mdb_report.specs.FileReports.{HoldsFiles, FilesNotRead}
-use Rattle.mdb_report.specs.Unfit.{HoldsXorbs, XorbsNotRead}
+use Rattle.mdb_report.specs.Tables.{XorbsNotRead}
+use Rattle.mdb_report.specs.Unfit.{HoldsXorbs}
 use Rattle.xet_records.proofs.RecordKinds.{file_laws, xorb_laws, laws_in, stored_ever}
 use Rattle.xet_core_structures.proofs.Records.RecordsAsRead.{all_handed}
 
@@ -99,4 +100,4 @@ read_xorbs_whole old new at (Err e) reads = tt
 pub xorbs_in_memory : {Z : Type 0} (bytes : List ℕ) (info : MDBShardInfo) (old new : MemorySource) (result : CoreResult (Vec MDBXorbInfo Z)) → HasHeaderAndFooter bytes info → old.bytes.now ≡ bytes
     → ReadsXorbs info (in_memory old) (in_memory new) result → MatchResult result (λ xorbs. HoldsXorbs bytes xorbs.items) (XorbsNotRead bytes)
 xorbs_in_memory bytes info old new (Ok xorbs) ends same reads = outcome_in_memory bytes info old new ends same reads
-xorbs_in_memory bytes info old new (Err e) ends same fails = inr (inl (outcome_in_memory bytes info old new ends same fails))
+xorbs_in_memory bytes info old new (Err e) ends same fails = inr (outcome_in_memory bytes info old new ends same fails)

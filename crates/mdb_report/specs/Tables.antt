@@ -61,7 +61,7 @@ HasChunkTable bytes =
     ((info : MDBShardInfo) × HasHeaderAndFooter bytes info × (info.metadata.chunk_lookup_num_entry ≢ 0))
     ⊎ ((xorbs : List XorbAt) × HoldsXorbHeaders bytes xorbs × All HasNoChunks xorbs)
 
--- why the headers of xorbs are not read: header and footer are not read, or the xorb section is not
+-- why xorbs are not read: header and footer are not, or the xorb section is not
 abbrev pub XorbsNotRead : List ℕ → CoreError → Type 0
 XorbsNotRead bytes e =
     LoadRefusal bytes e

@@ -1,11 +1,8 @@
 -- What does not fit together in the records of a shard.
-use Rattle.std.specs.Prelude.{◌⊎◌, ◌≡◌, ℕ, List}
-use Rattle.xet_core_structures.specs.declared.error.CoreError.{CoreError}
-use Rattle.xet_core_structures.specs.declared.error.CoreError.TheVariants.{OutOfMemory}
+use Rattle.std.specs.Prelude.{ℕ, List}
 use Rattle.xet_core_structures.specs.declared.file_structs.MDBFileInfo.{MDBFileInfo}
 use Rattle.xet_core_structures.specs.declared.xorb_structs.MDBXorbInfo.{MDBXorbInfo}
-use Rattle.xet_core_structures.specs.TwoShards.ByteResults.{LoadRefusal}
-use Rattle.xet_core_structures.specs.SectionReading.{ReadsSection, SectionFails}
+use Rattle.xet_core_structures.specs.SectionReading.{ReadsSection}
 use Rattle.xet_core_structures.specs.XorbRecord.{xorb_records}
 use Rattle.shard_bytes.specs.Outcomes.{HasOutcome}
 use Rattle.shard_garbage.specs.declared.finding.Finding.{Finding}
@@ -19,15 +16,6 @@ HoldsXorbs bytes xorbs =
     HasOutcome bytes
     (λ info before after. ReadsSection xorb_records before after
     info.metadata.xorb_info_offset xorbs)
-
--- header and footer are not read, or the xorb section isn't, or memory is lacking
-abbrev pub XorbsNotRead : List ℕ → CoreError → Type 0
-XorbsNotRead bytes e =
-    LoadRefusal bytes e
-    ⊎ HasOutcome bytes
-    (λ info before after. SectionFails xorb_records before after
-    info.metadata.xorb_info_offset e)
-    ⊎ (e ≡ OutOfMemory)
 
 -- these are all findings in the records of the shard with these bytes
 abbrev pub HoldsUnfit : List ℕ → List Finding → Type 0

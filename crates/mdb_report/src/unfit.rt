@@ -3,7 +3,8 @@
 ghost use Rattle.std.specs.Prelude.{◌≡◌, ◌⊎◌, [], All, IfOk, IfErr, IsTrue, MatchResult};
 ghost use Rattle.xet_core_structures.specs.XorbRecord.{HasItsChunks};
 ghost use Rattle.mdb_report.specs.FileReports.{FilesNotRead};
-ghost use Rattle.mdb_report.specs.Unfit.{HoldsXorbs, XorbsNotRead, HoldsUnfit, IsFit};
+ghost use Rattle.mdb_report.specs.Tables.{XorbsNotRead};
+ghost use Rattle.mdb_report.specs.Unfit.{HoldsXorbs, HoldsUnfit, IsFit};
 
 use crate::files::read_files;
 use crate::inquiry::InquiryFault;
