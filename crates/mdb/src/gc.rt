@@ -12,10 +12,10 @@ use crate::rounds::shard_file::ShardFile;
 use crate::run::{Status, report_failure};
 use crate::terminals::Terminals;
 use mdb_report::fault::{Fault, section_fault};
+use mdb_report::garbage::print_findings;
 use mdb_report::section::SectionReader;
-use mdb_report::unfit::print_findings;
 use shard_bytes::check::Section;
-use shard_garbage::finding::Finding;
+use shard_garbage::finding::GarbageFinding;
 use shard_garbage::garbage::Garbage;
 use shard_garbage::range::HashRange;
 use shard_garbage::segments::Segments;
@@ -121,7 +121,7 @@ fn garbage_from<'a, R: Files + Clock + Eprint + AllocGlobal>(
     from: Option<MerkleHash>,
     most: usize,
     progress: &mut Progress,
-) -> Result<(Vec<Finding>, Option<MerkleHash>), Failure<'a>> {
+) -> Result<(Vec<GarbageFinding>, Option<MerkleHash>), Failure<'a>> {
     let alloc = rt.alloc();
     let mut segments = Segments::new(alloc, HashRange { from, to: None });
     let all = shards.len();

@@ -24,7 +24,7 @@ use Rattle.shard_bytes.specs.Outcomes.{HasOutcome}
 use Rattle.shard_bytes.proofs.Combining.{in_memory}
 use Rattle.mdb_report.specs.FileReports.{HoldsFiles, FilesNotRead}
 use Rattle.mdb_report.specs.Tables.{XorbsNotRead}
-use Rattle.mdb_report.specs.Unfit.{HoldsXorbs}
+use Rattle.mdb_report.specs.Garbage.{HoldsXorbs}
 use Rattle.xet_records.proofs.RecordKinds.{file_laws, xorb_laws, laws_in, stored_ever}
 use Rattle.xet_core_structures.proofs.Records.RecordsAsRead.{all_handed}
 

@@ -9,7 +9,7 @@ use Rattle.mdb_report.specs.declared.inquiry.Inquiry.TheVariants.{Summary, Brief
 use Rattle.mdb_report.specs.declared.parts.Parts.{Parts}
 use Rattle.mdb_report.specs.Parts.{PartsAscend}
 use Rattle.mdb_report.specs.Summary.{ArePartsOf}
-use Rattle.mdb_report.specs.Unfit.{IsFit}
+use Rattle.mdb_report.specs.Garbage.{IsFit}
 
 -- the inquiry may have findings: a summary, also in a line, or a check
 abbrev pub IsCheck : Inquiry → Type 0

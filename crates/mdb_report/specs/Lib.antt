@@ -7,7 +7,7 @@ pub mod Pages
 pub mod Parts
 pub mod FileFindings
 pub mod FileReports
+pub mod Garbage
 pub mod Sections
 pub mod Summary
 pub mod Tables
-pub mod Unfit

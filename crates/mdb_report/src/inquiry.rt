@@ -4,17 +4,17 @@ ghost use Rattle.std.specs.Prelude.{◌≡◌, ◌≢◌, ◌↔◌, [], All, is
 ghost use Rattle.mdb_report.specs.FileFindings.{IsFileNote};
 ghost use Rattle.mdb_report.specs.Parts.{PartsAscend};
 ghost use Rattle.mdb_report.specs.Answers.{IsCheck, LooksUp, IsClean, IsSound, HasAscendingParts, SaysNoMore};
-ghost use Rattle.mdb_report.specs.Unfit.{IsFit};
+ghost use Rattle.mdb_report.specs.Garbage.{IsFit};
 
 use crate::brief::Brief;
 use crate::file_finding::{FileFinding, FindingReport, findings_to_report};
 use crate::files::file_reports;
+use crate::garbage::print_garbage;
 use crate::lookup::{FoundReport, RunReport};
 use crate::name::print_name;
 use crate::summary::Summary;
 use crate::tables::{Table, lacks_chunk_table, lacks_file_table};
 use crate::tally::Tally;
-use crate::unfit::print_unfit;
 use crate::xorb_printing::{find_xorbs, print_lacking};
 use record_report::hex::{HashReport, Hex};
 use record_report::line::{Layout, Style, print};
@@ -346,7 +346,7 @@ fn fits_if<W: Write>(
     ensures { IfOk result (λ fits. IsTrue fits → IsTrue deep → IsFit bytes.now) }
 {
     if deep {
-        print_unfit(alloc, file, bytes, style, output)
+        print_garbage(alloc, file, bytes, style, output)
     } else {
         Ok(true)
     }

@@ -7,10 +7,10 @@ use Rattle.std.proofs.lemmas.Bool.Decides.{Decides-and, Decides-like, Decides-eq
 use Rattle.xet_base.proofs.HashOrder.{same_hash}
 use Rattle.shard_garbage.specs.declared.finding.Misfit.{Misfit}
 use Rattle.shard_garbage.specs.declared.finding.Misfit.TheVariants.{Unnamed, Total, Start, Lacking, Outside, Bytes}
-use Rattle.shard_garbage.specs.declared.finding.Finding.{Finding}
+use Rattle.shard_garbage.specs.declared.finding.GarbageFinding.{GarbageFinding}
 use Rattle.shard_garbage.specs.declared.finding.Segment.{Segment}
 use Rattle.shard_garbage.specs.contracts.finding.MisfitPartialEq as misfit_equality
-use Rattle.shard_garbage.specs.contracts.finding.FindingPartialEq as finding_equality
+use Rattle.shard_garbage.specs.contracts.finding.GarbageFindingPartialEq as finding_equality
 use Rattle.shard_garbage.specs.contracts.finding.SegmentPartialEq as segment_equality
 
 same_segments : (a b : Segment) → Decides ((segment_equality.TheImpl.ghosts).eq a b) (a ≡ b)
@@ -63,10 +63,10 @@ itself : (x : Bool) → Decides x (x ≡ true)
 itself x = (λ e. e, λ e. e)
 
 -- two findings that the derived test calls equal are equal
-same_findings : (a b : Finding) → (finding_equality.TheImpl.ghosts).eq a b ≡ true → a ≡ b
+same_findings : (a b : GarbageFinding) → (finding_equality.TheImpl.ghosts).eq a b ≡ true → a ≡ b
 same_findings a b e =
     let p = (Decides-and _ _ (same_hash a.xorb b.xorb) (itself ((misfit_equality.TheImpl.ghosts).eq a.misfit b.misfit))).0 e in
     λ i. record { xorb = p.0 i; misfit = same_misfits a.misfit b.misfit p.1 i }
 
-pub has_same : (fs : List Finding) (f : Finding) → Any (λ g. (finding_equality.TheImpl.ghosts).eq f g ≡ true) fs → Contains fs f
+pub has_same : (fs : List GarbageFinding) (f : GarbageFinding) → Any (λ g. (finding_equality.TheImpl.ghosts).eq f g ≡ true) fs → Contains fs f
 has_same fs f (k, g, below, at, same) = subst (Contains fs) (sym (same_findings f g same)) (k, below, at)

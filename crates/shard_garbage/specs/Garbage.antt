@@ -9,7 +9,7 @@ use Rattle.xet_records.specs.XorbRecord.{total_bytes}
 use Rattle.shard_garbage.specs.declared.finding.Segment.{Segment}
 use Rattle.shard_garbage.specs.declared.finding.Misfit.{Misfit}
 use Rattle.shard_garbage.specs.declared.finding.Misfit.TheVariants.{Unnamed, Total, Start, Lacking, Outside, Bytes}
-use Rattle.shard_garbage.specs.declared.finding.Finding.{Finding}
+use Rattle.shard_garbage.specs.declared.finding.GarbageFinding.{GarbageFinding}
 
 -- the segment at an index of a file
 abbrev pub segment_at : MDBFileInfo → ℕ → FileDataSequenceEntry → Segment
@@ -73,14 +73,14 @@ IsOfSegment s x (Bytes t sum) =
 IsOfSegment s x _ = ⊥
 
 -- a misfit of a xorb by itself, or of a segment that names it
-abbrev pub IsOfXorb : List MDBFileInfo → MDBXorbInfo → Finding → Type 0
+abbrev pub IsOfXorb : List MDBFileInfo → MDBXorbInfo → GarbageFinding → Type 0
 IsOfXorb files x f =
     (x.metadata.xorb_hash ≡ f.xorb)
     × (IsTotal x f.misfit ⊎ (IsStart x f.misfit ⊎ ((s : Segment) × IsSegment files s
     × (s.xorb ≡ x.metadata.xorb_hash) × IsOfSegment s x f.misfit)))
 
 -- a misfit of one of the xorbs, or of a segment that names it
-abbrev pub IsOfXorbs : List MDBFileInfo → List MDBXorbInfo → Finding → Type 0
+abbrev pub IsOfXorbs : List MDBFileInfo → List MDBXorbInfo → GarbageFinding → Type 0
 IsOfXorbs files xorbs f = (x : MDBXorbInfo) × Contains xorbs x × IsOfXorb files x f
 
 -- a misfit of a hash: no segment names it, but a xorb has it; or the other way round
@@ -92,5 +92,5 @@ IsOfHash files xorbs hash (Lacking s) =
 IsOfHash files xorbs hash _ = ⊥
 
 -- what does not fit together in files and xorbs
-abbrev pub IsGarbage : List MDBFileInfo → List MDBXorbInfo → Finding → Type 0
+abbrev pub IsGarbage : List MDBFileInfo → List MDBXorbInfo → GarbageFinding → Type 0
 IsGarbage files xorbs f = IsOfXorbs files xorbs f ⊎ IsOfHash files xorbs f.xorb f.misfit

@@ -6,7 +6,7 @@ use Rattle.std.specs.declared.cmp.Ordering.{Ordering}
 use Rattle.xet_base.specs.declared.merklehash.DataHash.{DataHash}
 use Rattle.xet_base.specs.Hash.{hash_cmp}
 use Rattle.shard_garbage.specs.declared.finding.Misfit.{Misfit}
-use Rattle.shard_garbage.specs.declared.finding.Finding.{Finding}
+use Rattle.shard_garbage.specs.declared.finding.GarbageFinding.{GarbageFinding}
 use Rattle.shard_garbage.specs.declared.finding.Segment.{Segment}
 use Rattle.shard_garbage.specs.contracts.finding.MisfitOrd as misfit_order
 
@@ -30,9 +30,9 @@ abbrev pub misfit_cmp : Misfit → Misfit → Ordering
 misfit_cmp = (misfit_order.TheImpl.ghosts).cmp
 
 -- findings in the order of their hashes, and then of their misfits
-abbrev pub finding_cmp : Finding → Finding → Ordering
+abbrev pub finding_cmp : GarbageFinding → GarbageFinding → Ordering
 finding_cmp f g = ordering_then (hash_cmp f.xorb g.xorb) (misfit_cmp f.misfit g.misfit)
 
 -- each finding is above the one before it
-abbrev pub Ascend : List Finding → Type 0
+abbrev pub Ascend : List GarbageFinding → Type 0
 Ascend found = IsStrictlySortedBy finding_cmp found

@@ -2,7 +2,7 @@
 use Rattle.std.specs.Prelude.{List, Contains}
 use Rattle.xet_records.specs.declared.file_structs.MDBFileInfo.{MDBFileInfo}
 use Rattle.xet_records.specs.declared.xorb_structs.MDBXorbInfo.{MDBXorbInfo}
-use Rattle.shard_garbage.specs.declared.finding.Finding.{Finding}
+use Rattle.shard_garbage.specs.declared.finding.GarbageFinding.{GarbageFinding}
 use Rattle.shard_garbage.specs.declared.garbage.Garbage.{Garbage}
 use Rattle.shard_garbage.specs.declared.range.HashRange.{HashRange}
 use Rattle.shard_garbage.specs.Garbage.{HasXorb, IsGarbage, IsOfXorbs}
@@ -11,16 +11,17 @@ use Rattle.shard_garbage.specs.Ranges.{Collects, HoldsSegments, InRange}
 
 -- the findings about hashes in a range, each once, in ascending order
 pub record Reports (range : HashRange) (files : List MDBFileInfo) (xorbs : List MDBXorbInfo)
-    (found : List Finding) : Type 0 where
-  pub each : (f : Finding) → Contains found f → IsGarbage files xorbs f × InRange range f.xorb
-  pub all : (f : Finding) → IsGarbage files xorbs f → InRange range f.xorb → Contains found f
+    (found : List GarbageFinding) : Type 0 where
+  pub each : (f : GarbageFinding) → Contains found f
+      → IsGarbage files xorbs f × InRange range f.xorb
+  pub all : (f : GarbageFinding) → IsGarbage files xorbs f → InRange range f.xorb → Contains found f
   pub ascend : Ascend found
 
 -- all findings, each once, in ascending order
-pub record ReportsAll (files : List MDBFileInfo) (xorbs : List MDBXorbInfo) (found : List Finding)
-    : Type 0 where
-  pub each : (f : Finding) → Contains found f → IsGarbage files xorbs f
-  pub all : (f : Finding) → IsGarbage files xorbs f → Contains found f
+pub record ReportsAll (files : List MDBFileInfo) (xorbs : List MDBXorbInfo)
+    (found : List GarbageFinding) : Type 0 where
+  pub each : (f : GarbageFinding) → Contains found f → IsGarbage files xorbs f
+  pub all : (f : GarbageFinding) → IsGarbage files xorbs f → Contains found f
   pub ascend : Ascend found
 
 -- of these files and xorbs all is kept that is about hashes in the range

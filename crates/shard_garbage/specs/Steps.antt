@@ -5,7 +5,7 @@ use Rattle.xet_records.specs.declared.file_structs.MDBFileInfo.{MDBFileInfo}
 use Rattle.xet_records.specs.declared.xorb_structs.MDBXorbInfo.{MDBXorbInfo}
 use Rattle.shard_garbage.specs.declared.finding.Misfit.{Misfit}
 use Rattle.shard_garbage.specs.declared.finding.Misfit.TheVariants.{Unnamed, Lacking}
-use Rattle.shard_garbage.specs.declared.finding.Finding.{Finding}
+use Rattle.shard_garbage.specs.declared.finding.GarbageFinding.{GarbageFinding}
 use Rattle.shard_garbage.specs.declared.finding.Segment.{Segment}
 use Rattle.shard_garbage.specs.declared.range.HashRange.{HashRange}
 use Rattle.shard_garbage.specs.Garbage.{IsAmong, IsTotal, IsStart, IsOfSegment}
@@ -30,11 +30,12 @@ pub record Adds {X : Type 0} (P : X → Type 0) (old new : List X) : Type 0 wher
   pub each : (x : X) → Contains new x → Contains old x ⊎ P x
 
 -- a finding is this misfit of the xorb with this hash, if there is a misfit
-abbrev pub IsFound : DataHash → Option Misfit → Finding → Type 0
+abbrev pub IsFound : DataHash → Option Misfit → GarbageFinding → Type 0
 IsFound hash misfit f = (f.xorb ≡ hash) × (misfit ≡ Some f.misfit)
 
 -- a finding is a misfit of one of these values, of the hash that belongs to the value
-abbrev pub IsOneOf : {T : Type 0} → (T → DataHash) → (T → Misfit → Type 0) → List T → Finding → Type 0
+abbrev pub IsOneOf : {T : Type 0} → (T → DataHash) → (T → Misfit → Type 0) → List T
+    → GarbageFinding → Type 0
 IsOneOf {T = T} hash_of F xs f = (x : T) × Contains xs x × (f.xorb ≡ hash_of x) × F x f.misfit
 
 -- none of these segments names a hash
@@ -47,7 +48,7 @@ abbrev pub IsLacking : List DataHash → Segment → Misfit → Type 0
 IsLacking hashes s misfit = (misfit ≡ Lacking s) × (¬ Contains hashes s.xorb)
 
 -- a misfit of a xorb by itself, or of one of these segments
-abbrev pub IsOfXorbAmong : List Segment → MDBXorbInfo → Finding → Type 0
+abbrev pub IsOfXorbAmong : List Segment → MDBXorbInfo → GarbageFinding → Type 0
 IsOfXorbAmong segments x f =
     (((f.xorb ≡ x.metadata.xorb_hash) × IsTotal x f.misfit)
     ⊎ ((f.xorb ≡ x.metadata.xorb_hash) × IsStart x f.misfit))
@@ -60,7 +61,7 @@ pub record KeepsInRange {X : Type 0} (range : HashRange) (hash_of : X → DataHa
   pub each : (x : X) → Contains new x → Contains old x × InRange range (hash_of x)
 
 -- a list has the findings of another about hashes in a range, each once, in ascending order
-pub record IsInOrder (range : HashRange) (old new : List Finding) : Type 0 where
-  pub kept : (f : Finding) → Contains old f → InRange range f.xorb → Contains new f
-  pub each : (f : Finding) → Contains new f → Contains old f × InRange range f.xorb
+pub record IsInOrder (range : HashRange) (old new : List GarbageFinding) : Type 0 where
+  pub kept : (f : GarbageFinding) → Contains old f → InRange range f.xorb → Contains new f
+  pub each : (f : GarbageFinding) → Contains new f → Contains old f × InRange range f.xorb
   pub ascend : Ascend new

@@ -6,7 +6,7 @@ ghost use Rattle.shard_garbage.specs.declared.finding.Misfit.{Misfit as AMisfit}
 ghost use Rattle.shard_garbage.specs.Garbage.{IsOfSegment};
 ghost use Rattle.shard_garbage.specs.Steps.{Adds, IsFound, IsOfXorbAmong, IsOneOf, IsUnnamed, IsLacking};
 
-use crate::finding::{Finding, Misfit, Segment};
+use crate::finding::{GarbageFinding, Misfit, Segment};
 use crate::misfit::{segment_misfit, start_misfit, total_misfit};
 use crate::sorted::{SortedHashes, SortedSegments};
 use std::alloc::AllocError;
@@ -15,7 +15,7 @@ use xet_records::xorb_structs::MDBXorbInfo;
 
 /// Adds the misfits of a xorb, and of these segments, which name it.
 pub(crate) fn add_xorb_misfits(
-    found: &mut Vec<Finding>,
+    found: &mut Vec<GarbageFinding>,
     segments: &[Segment],
     xorb: &MDBXorbInfo,
 ) -> Result<(), AllocError>
@@ -32,7 +32,7 @@ pub(crate) fn add_xorb_misfits(
 
 // Adds the misfits of segments that name a xorb.
 fn add_segment_misfits(
-    found: &mut Vec<Finding>,
+    found: &mut Vec<GarbageFinding>,
     segments: &[Segment],
     xorb: &MDBXorbInfo,
 ) -> Result<(), AllocError>
@@ -52,7 +52,7 @@ fn add_segment_misfits(
 
 /// Adds the hashes that no segment names.
 pub(crate) fn add_unnamed(
-    found: &mut Vec<Finding>,
+    found: &mut Vec<GarbageFinding>,
     hashes: &SortedHashes,
     segments: &SortedSegments,
 ) -> Result<(), AllocError>
@@ -72,7 +72,7 @@ pub(crate) fn add_unnamed(
 
 /// Adds the segments that name none of the hashes.
 pub(crate) fn add_lacking(
-    found: &mut Vec<Finding>,
+    found: &mut Vec<GarbageFinding>,
     hashes: &SortedHashes,
     segments: &SortedSegments,
 ) -> Result<(), AllocError>
@@ -116,7 +116,7 @@ fn lacking_misfit(hashes: &SortedHashes, segment: &Segment) -> Option<Misfit>
 
 // Adds a misfit, if there is one.
 fn add_misfit(
-    found: &mut Vec<Finding>,
+    found: &mut Vec<GarbageFinding>,
     xorb: MerkleHash,
     misfit: Option<Misfit>,
 ) -> Result<(), AllocError>
@@ -124,7 +124,7 @@ fn add_misfit(
 {
     match misfit {
         Some(misfit) => {
-            found.push(Finding { xorb, misfit })?;
+            found.push(GarbageFinding { xorb, misfit })?;
             Ok(())
         }
         None => Ok(()),

@@ -37,7 +37,7 @@ pub enum Misfit {
 
 /// A misfit, and the xorb that it is about.
 #[derive(Clone, Copy, PartialEq, Eq, PartialOrd, Ord)]
-pub struct Finding {
+pub struct GarbageFinding {
     pub xorb: MerkleHash,
     pub misfit: Misfit,
 }

@@ -15,7 +15,7 @@ ghost use Rattle.shard_garbage.specs.Reports.{HasSeen, Reports, ReportsAll};
 ghost use Rattle.shard_garbage.specs.Steps.{KeepsInRange, IsInOrder};
 
 use crate::adding::{add_lacking, add_unnamed, add_xorb_misfits};
-use crate::finding::Finding;
+use crate::finding::GarbageFinding;
 use crate::range::HashRange;
 use crate::segments::Segments;
 use crate::sorted::{SortedHashes, SortedSegments};
@@ -31,7 +31,7 @@ pub struct Garbage {
     pub(crate) segments: SortedSegments,
     /// The hashes of the xorbs.
     pub(crate) xorbs: Vec<MerkleHash>,
-    pub(crate) found: Vec<Finding>,
+    pub(crate) found: Vec<GarbageFinding>,
 }
 
 impl Garbage {
@@ -86,7 +86,7 @@ impl Garbage {
 
     /// All that does not fit together and is about hashes in the range, in ascending order. It fails
     /// only if memory is lacking.
-    pub fn finish(self) -> Result<Vec<Finding>, AllocError>
+    pub fn finish(self) -> Result<Vec<GarbageFinding>, AllocError>
         ensures { IfOk result (λ found. (files : List File) → (xorbs : List Xorb)
             → HasSeen files xorbs self → Reports self.range files xorbs found.items) }
     {
@@ -109,7 +109,7 @@ pub fn find_garbage(
     alloc: Global,
     files: &[MDBFileInfo],
     xorbs: &[MDBXorbInfo],
-) -> Result<Vec<Finding>, AllocError>
+) -> Result<Vec<GarbageFinding>, AllocError>
     requires { All HasItsChunks xorbs.now }
     ensures { IfOk result (λ found. ReportsAll files.now xorbs.now found.items) }
 {
@@ -155,18 +155,18 @@ fn keep_hashes(hashes: &mut Vec<MerkleHash>, range: HashRange)
     );
 }
 
-fn keep_findings(found: &mut Vec<Finding>, range: HashRange)
+fn keep_findings(found: &mut Vec<GarbageFinding>, range: HashRange)
     ensures { KeepsInRange range (λ f. f.xorb) found.old.items found.new.items }
 {
     found.retain(
-        |finding: &Finding| -> bool
+        |finding: &GarbageFinding| -> bool
             ensures { result ≡ in_range range finding.now.xorb }
         { range.has(&finding.xorb) },
     );
 }
 
 // The findings about hashes in a range, each once, in ascending order.
-fn in_order(mut found: Vec<Finding>, range: HashRange) -> Vec<Finding>
+fn in_order(mut found: Vec<GarbageFinding>, range: HashRange) -> Vec<GarbageFinding>
     ensures { IsInOrder range found.items result.items }
 {
     keep_findings(&mut found, range);

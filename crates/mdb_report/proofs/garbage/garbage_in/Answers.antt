@@ -1,6 +1,6 @@
 use Rattle.std.proofs.Common.{inr}
 use Rattle.std.proofs.lemmas.Result.{err_from_is_err_and}
-use Rattle.mdb_report.proofs.unfit.unfit_in.Goals as goal
+use Rattle.mdb_report.proofs.garbage.garbage_in.Goals as goal
 
 pub returns-in_err-xorbs-clause-refused : goal.returns-in_err-xorbs-clause-refused
 returns-in_err-xorbs-clause-refused c =

@@ -3,7 +3,7 @@ use Rattle.xet_core_structures.specs.Ends.{HasHeaderAndFooter}
 use Rattle.xet_core_structures.specs.Source.{Source}
 use Rattle.shard_bytes.proofs.Combining.{in_memory}
 use Rattle.mdb_report.proofs.Reading.{read_xorbs_whole, xorbs_in_memory}
-use Rattle.mdb_report.proofs.unfit.read_xorbs.Goals as goal
+use Rattle.mdb_report.proofs.garbage.read_xorbs.Goals as goal
 
 pub returns-clause-whole : goal.returns-clause-whole
 returns-clause-whole c =

@@ -4,7 +4,7 @@ ghost use Rattle.std.specs.Prelude.{◌≡◌, ◌⊎◌, [], All, IfOk, IfErr, 
 ghost use Rattle.xet_core_structures.specs.XorbRecord.{HasItsChunks};
 ghost use Rattle.mdb_report.specs.FileReports.{FilesNotRead};
 ghost use Rattle.mdb_report.specs.Tables.{XorbsNotRead};
-ghost use Rattle.mdb_report.specs.Unfit.{HoldsXorbs, HoldsUnfit, IsFit};
+ghost use Rattle.mdb_report.specs.Garbage.{HoldsXorbs, HoldsGarbage, IsFit};
 
 use crate::files::read_files;
 use crate::inquiry::InquiryFault;
@@ -12,7 +12,7 @@ use record_report::hex::Hex;
 use record_report::line::{Layout, Style, print};
 use record_report::shown::ShownText;
 use serde::{Described, Serialize, Serializer};
-use shard_garbage::finding::{Finding, Misfit, Segment};
+use shard_garbage::finding::{GarbageFinding, Misfit, Segment};
 use shard_garbage::garbage::find_garbage;
 use std::alloc::Global;
 use std::io::Write;
@@ -24,11 +24,11 @@ use xet_core_structures::xorb_structs::MDBXorbInfo;
 
 /// A finding, for `{}` to print.
 #[derive(Clone, Copy)]
-pub struct Unfit(pub Finding);
+pub struct GarbageInWords(pub GarbageFinding);
 
 /// A finding in a shard, or in some.
 #[derive(Clone, Copy, Serialize)]
-pub struct UnfitReport<'a> {
+pub struct GarbageReport<'a> {
     /// The name of the shard's file; `None` of some shards together.
     pub shard: Option<&'a str>,
     pub code: &'static str,
@@ -40,23 +40,23 @@ pub struct UnfitReport<'a> {
     #[serde(skip_serializing_if = "Option::is_none")]
     pub segment: Option<usize>,
     #[serde(rename = "problem")]
-    pub finding: Unfit,
+    pub finding: GarbageInWords,
 }
 
-impl<'a> UnfitReport<'a> {
+impl<'a> GarbageReport<'a> {
     /// The report of a finding in a shard, or in some.
-    pub fn of_finding(shard: Option<&'a str>, finding: Finding) -> UnfitReport<'a>
+    pub fn of_finding(shard: Option<&'a str>, finding: GarbageFinding) -> GarbageReport<'a>
         ensures shard { result.shard ≡ shard.entry }
         ensures finding { result.finding.0 ≡ finding }
     {
         let segment = segment_of(finding.misfit);
-        UnfitReport {
+        GarbageReport {
             shard,
             code: code_of(finding.misfit),
             xorb: Hex(finding.xorb),
             file: segment.map(|segment| Hex(segment.file)),
             segment: segment.map(|segment| segment.index),
-            finding: Unfit(finding),
+            finding: GarbageInWords(finding),
         }
     }
 }
@@ -85,7 +85,7 @@ fn segment_of(misfit: Misfit) -> Option<Segment> {
 
 /// Prints what does not fit together in the records of the shard in a file, from its bytes, and
 /// answers whether that is nothing. If they cannot be read, nothing is printed.
-pub(crate) fn print_unfit<W: Write>(
+pub(crate) fn print_garbage<W: Write>(
     alloc: Global,
     file: &str,
     bytes: &[u8],
@@ -94,7 +94,7 @@ pub(crate) fn print_unfit<W: Write>(
 ) -> Result<bool, InquiryFault>
     ensures { IfOk result (λ fits. IsTrue fits → IsFit bytes.now) }
 {
-    match unfit_in(alloc, bytes) {
+    match garbage_in(alloc, bytes) {
         Ok(found) => {
             let fits = found.is_empty();
             print_findings(alloc, Some(file), found.as_slice(), style, output)?;
@@ -109,12 +109,12 @@ pub(crate) fn print_unfit<W: Write>(
 pub fn print_findings<W: Write>(
     alloc: Global,
     shard: Option<&str>,
-    findings: &[Finding],
+    findings: &[GarbageFinding],
     style: Style,
     output: &mut W,
 ) -> io::Result<()> {
     for finding in findings {
-        let report = UnfitReport::of_finding(shard, *finding);
+        let report = GarbageReport::of_finding(shard, *finding);
         print(alloc, &report, Layout::plain(style), output)?;
     }
     Ok(())
@@ -124,8 +124,8 @@ pub fn print_findings<W: Write>(
 /// hashes of xorbs.
 ///
 /// The errors are those of loading the shard and of reading its sections.
-pub fn unfit_in(alloc: Global, bytes: &[u8]) -> Result<Vec<Finding>, CoreError>
-    ensures found { IfOk result (λ found. HoldsUnfit bytes.now found.items) }
+pub fn garbage_in(alloc: Global, bytes: &[u8]) -> Result<Vec<GarbageFinding>, CoreError>
+    ensures found { IfOk result (λ found. HoldsGarbage bytes.now found.items) }
     ensures refused { IfErr result (λ e. FilesNotRead bytes.now e ⊎ XorbsNotRead bytes.now e) }
 {
     let files = read_files(alloc, bytes)?;
@@ -144,7 +144,7 @@ fn read_xorbs(alloc: Global, bytes: &[u8]) -> Result<Vec<MDBXorbInfo>, CoreError
     info.read_all_xorb_blocks_full(alloc, &mut source)
 }
 
-impl fmt::Display for UnfitReport<'_> {
+impl fmt::Display for GarbageReport<'_> {
     fn fmt<W: fmt::Write>(&self, f: &mut fmt::Formatter<W>) -> fmt::Result {
         if let Some(shard) = self.shard {
             let shard = ShownText(shard);
@@ -155,15 +155,15 @@ impl fmt::Display for UnfitReport<'_> {
     }
 }
 
-impl Described for Unfit {}
+impl Described for GarbageInWords {}
 
-impl Serialize for Unfit {
+impl Serialize for GarbageInWords {
     fn serialize<S: Serializer>(&self, out: &mut S) -> std::result::Result<(), S::Error> {
         out.collect_str(self)
     }
 }
 
-impl fmt::Display for Unfit {
+impl fmt::Display for GarbageInWords {
     fn fmt<W: fmt::Write>(&self, f: &mut fmt::Formatter<W>) -> fmt::Result {
         let xorb = self.0.xorb;
         write!(f, "xorb {xorb}: ")?;

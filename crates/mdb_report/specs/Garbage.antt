@@ -5,7 +5,7 @@ use Rattle.xet_core_structures.specs.declared.xorb_structs.MDBXorbInfo.{MDBXorbI
 use Rattle.xet_core_structures.specs.SectionReading.{ReadsSection}
 use Rattle.xet_core_structures.specs.XorbRecord.{xorb_records}
 use Rattle.shard_bytes.specs.Outcomes.{HasOutcome}
-use Rattle.shard_garbage.specs.declared.finding.Finding.{Finding}
+use Rattle.shard_garbage.specs.declared.finding.GarbageFinding.{GarbageFinding}
 use Rattle.shard_garbage.specs.Garbage.{IsGarbage}
 use Rattle.shard_garbage.specs.Reports.{ReportsAll}
 use Rattle.mdb_report.specs.FileReports.{HoldsFiles}
@@ -18,8 +18,8 @@ HoldsXorbs bytes xorbs =
     info.metadata.xorb_info_offset xorbs)
 
 -- these are all findings in the records of the shard with these bytes
-abbrev pub HoldsUnfit : List ℕ → List Finding → Type 0
-HoldsUnfit bytes found =
+abbrev pub HoldsGarbage : List ℕ → List GarbageFinding → Type 0
+HoldsGarbage bytes found =
     (files : List MDBFileInfo) × (xorbs : List MDBXorbInfo) × HoldsFiles bytes files
     × HoldsXorbs bytes xorbs × ReportsAll files xorbs found
 
@@ -27,4 +27,4 @@ HoldsUnfit bytes found =
 abbrev pub IsFit : List ℕ → Type 0
 IsFit bytes =
     (files : List MDBFileInfo) × (xorbs : List MDBXorbInfo) × HoldsFiles bytes files
-    × HoldsXorbs bytes xorbs × ((f : Finding) → ¬ IsGarbage files xorbs f)
+    × HoldsXorbs bytes xorbs × ((f : GarbageFinding) → ¬ IsGarbage files xorbs f)
