@@ -173,7 +173,7 @@ pub fn in_memory<'a, T, E: Drop>(files: &[&'a str], made: Result<T, E>) -> Resul
 }
 
 /// What differs in the records of the inputs, or `None` if they agree.
-pub fn disagreement<'a>(
+pub fn disagreement_failure<'a>(
     alloc: Global,
     files: &[&'a str],
     inputs: &[&[u8]],

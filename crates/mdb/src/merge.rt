@@ -13,8 +13,8 @@ use crate::expiry::{new_expiry, report_expired_in, with_expiry_if_any, without_e
 use crate::failure::Failure;
 use crate::infos::{infos_of, keys_in};
 use crate::input_failure::{
-    combine_failure_in, disagreement, disagreement_under, failure_on_all, failure_on_malformed,
-    in_memory, lacks_files,
+    combine_failure_in, disagreement_failure, disagreement_under, failure_on_all,
+    failure_on_malformed, in_memory, lacks_files,
 };
 use crate::make::{contents_of, put};
 use crate::progress::{Progress, Stage};
@@ -327,7 +327,7 @@ fn unite_leniently<'a, R: Eprint + AllocGlobal>(
             unite_and_report(rt, files, inputs, target, &None, &choice, progress)
         }
         Ok(AgreeingMerge::Malformed(malformed)) => {
-            let choice = disagreement(alloc, files, inputs)?;
+            let choice = disagreement_failure(alloc, files, inputs)?;
             let malformed = Some(failure_on_malformed(files, &malformed));
             unite_and_report(rt, files, inputs, target, &malformed, &choice, progress)
         }

@@ -32,7 +32,7 @@ pub fn shard_of_lines<'a, R: Files + Input + AllocGlobal>(
     };
     match written {
         Ok(bytes) => Ok(bytes),
-        Err(CoreError::InvalidArguments) => Err(match refused_line(alloc, list) {
+        Err(CoreError::InvalidArguments) => Err(match line_fault(alloc, list) {
             None if target.version == FormatVersion::V2 => {
                 Failure::on_target(target.path, Fault::HasAuxRow)
             }
@@ -61,7 +61,7 @@ fn records_in(alloc: Global, list: &[u8]) -> Result<Records, Fault> {
 }
 
 // The first line whose record a shard of those before it does not take. `None` if it takes all.
-fn refused_line(alloc: Global, list: &[u8]) -> Option<Fault> {
+fn line_fault(alloc: Global, list: &[u8]) -> Option<Fault> {
     let mut shard = MDBInMemoryShard::new(alloc);
     for (before, line) in list.split(|byte| *byte == b'\n').enumerate() {
         let added = match record_of(alloc, line) {

@@ -42,8 +42,8 @@ const LEAST_MEMORY: u64 = 1 << 20;
 #[derive(Drop)]
 pub enum RoundFault<'a> {
     Failed(Failure<'a>),
-    /// A shard can't be read to the end of a section.
-    Refused(CoreError),
+    /// A shard can't be read to the end of a section, or memory is lacking.
+    Unreadable(CoreError),
 }
 
 impl<'a> From<Failure<'a>> for RoundFault<'a> {
@@ -54,19 +54,19 @@ impl<'a> From<Failure<'a>> for RoundFault<'a> {
 
 impl From<CoreError> for RoundFault<'_> {
     fn from(error: CoreError) -> Self {
-        RoundFault::Refused(error)
+        RoundFault::Unreadable(error)
     }
 }
 
 impl From<AllocError> for RoundFault<'_> {
     fn from(_error: AllocError) -> Self {
-        RoundFault::Refused(CoreError::OutOfMemory)
+        RoundFault::Unreadable(CoreError::OutOfMemory)
     }
 }
 
 impl<T: Drop> From<AllocFailed<T>> for RoundFault<'_> {
     fn from(_error: AllocFailed<T>) -> Self {
-        RoundFault::Refused(CoreError::OutOfMemory)
+        RoundFault::Unreadable(CoreError::OutOfMemory)
     }
 }
 

@@ -19,28 +19,28 @@ pub struct Words {
 
 /// Why the words cannot be read.
 #[derive(Drop)]
-pub enum WordsError {
+pub enum WordsFault {
     OutOfMemory,
     TooLong,
 }
 
-impl From<AllocError> for WordsError {
+impl From<AllocError> for WordsFault {
     fn from(_error: AllocError) -> Self {
-        WordsError::OutOfMemory
+        WordsFault::OutOfMemory
     }
 }
 
-impl<T: Drop> From<std::alloc::AllocFailed<T>> for WordsError {
+impl<T: Drop> From<std::alloc::AllocFailed<T>> for WordsFault {
     fn from(_error: std::alloc::AllocFailed<T>) -> Self {
-        WordsError::OutOfMemory
+        WordsFault::OutOfMemory
     }
 }
 
-impl From<WordsError> for Fault {
-    fn from(error: WordsError) -> Self {
-        match error {
-            WordsError::OutOfMemory => Fault::OutOfMemory,
-            WordsError::TooLong => Fault::LongWord,
+impl From<WordsFault> for Fault {
+    fn from(fault: WordsFault) -> Self {
+        match fault {
+            WordsFault::OutOfMemory => Fault::OutOfMemory,
+            WordsFault::TooLong => Fault::LongWord,
         }
     }
 }
@@ -51,7 +51,7 @@ pub fn is_among(words: &[String], word: &str) -> bool {
 }
 
 /// The words that the program was started with.
-pub fn read_words<R: Env + AllocGlobal>(rt: &R) -> Result<Words, WordsError> {
+pub fn read_words<R: Env + AllocGlobal>(rt: &R) -> Result<Words, WordsFault> {
     let alloc = rt.alloc();
     let mut words = Words {
         texts: Vec::new(alloc),
@@ -62,14 +62,14 @@ pub fn read_words<R: Env + AllocGlobal>(rt: &R) -> Result<Words, WordsError> {
         match rt.arg(index, room.as_mut_slice()) {
             Ok(length) => words.push(alloc, &room.as_slice()[..length])?,
             Err(FillError::NotPresent) => break,
-            Err(FillError::TooLong) => return Err(WordsError::TooLong),
+            Err(FillError::TooLong) => return Err(WordsFault::TooLong),
         }
     }
     Ok(words)
 }
 
 impl Words {
-    fn push(&mut self, alloc: Global, word: &[u8]) -> Result<(), WordsError> {
+    fn push(&mut self, alloc: Global, word: &[u8]) -> Result<(), WordsFault> {
         match str::from_utf8(word) {
             Ok(text) => self.texts.push(String::from_str(alloc, text)?)?,
             Err(_) => {

@@ -339,13 +339,13 @@ pub fn export_fault(alloc: Global, bytes: &[u8], export: &Export, error: CoreErr
     ensures { IsExportFault export.entry.now bytes.now error result }
 {
     match error {
-        CoreError::InvalidArguments => refused_export(alloc, bytes, export),
+        CoreError::InvalidArguments => export_argument_fault(alloc, bytes, export),
         error => fault_of(alloc, bytes, error),
     }
 }
 
 // The fault of a shard that is not exported with the arguments that were given.
-fn refused_export(alloc: Global, bytes: &[u8], export: &Export) -> Fault
+fn export_argument_fault(alloc: Global, bytes: &[u8], export: &Export) -> Fault
     ensures { IsExportFault export.entry.now bytes.now CoreError.InvalidArguments result }
 {
     match load_bytes(alloc, bytes) {

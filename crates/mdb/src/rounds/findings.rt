@@ -65,7 +65,7 @@ impl Findings {
     }
 
     /// What differs in the records of the files.
-    pub fn disagreement<'a>(&self, files: &[&'a str]) -> Option<Failure<'a>> {
+    pub fn disagreement_failure<'a>(&self, files: &[&'a str]) -> Option<Failure<'a>> {
         match &self.differing {
             Some(first) => Some(disagreement_under(files, first, self.count)),
             None => None,

@@ -140,7 +140,7 @@ impl<'a, F: Read + Write + Seek + Drop> Rounds<'a, F> {
         let parts = match next_parts(rt, cursors, self.room) {
             Ok(parts) => parts,
             Err(RoundFault::Failed(failure)) => return Err(failure),
-            Err(RoundFault::Refused(error)) => return Err(self.read_failure(rt, &[], error)),
+            Err(RoundFault::Unreadable(error)) => return Err(self.read_failure(rt, &[], error)),
         };
         let inputs: Result<Vec<&[u8]>, AllocError> = parts
             .iter()
@@ -273,7 +273,7 @@ impl<'a, F: Read + Write + Seek + Drop> Rounds<'a, F> {
     ) -> Result<F, Failure<'a>> {
         let files = self.files.as_slice();
         let malformed = self.findings.malformed_failure(files);
-        let disagreement = self.findings.disagreement(files);
+        let disagreement = self.findings.disagreement_failure(files);
         match (malformed, disagreement, self.merge.strictness) {
             (Some(malformed), _, Strictness::Strict) => return Err(malformed),
             (None, Some(disagreement), Strictness::Strict) => return Err(disagreement),

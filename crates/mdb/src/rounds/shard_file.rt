@@ -186,13 +186,13 @@ impl<'a> Cursor<'a> {
                 return Ok((block, mark));
             }
             if read < more {
-                return Err(RoundFault::Refused(CoreError::Io(io::Error::from(
+                return Err(RoundFault::Unreadable(CoreError::Io(io::Error::from(
                     ErrorKind::UnexpectedEof,
                 ))));
             }
             more = more.saturating_mul(2);
         }
-        Err(RoundFault::Refused(CoreError::OutOfMemory))
+        Err(RoundFault::Unreadable(CoreError::OutOfMemory))
     }
 
     /// The records of a block up to a hash, or all that are whole, as a shard. The cursor passes
