@@ -25,15 +25,15 @@ impl fmt::Display for PartRange {
 
 /// The bytes of a table and its rows.
 #[derive(Clone, Copy, Serialize)]
-pub struct Table {
+pub struct TablePart {
     pub start: u64,
     pub end: u64,
     pub rows: u64,
 }
 
-impl fmt::Display for Table {
+impl fmt::Display for TablePart {
     fn fmt<W: fmt::Write>(&self, f: &mut fmt::Formatter<W>) -> fmt::Result {
-        let Table { start, end, rows } = *self;
+        let TablePart { start, end, rows } = *self;
         write!(f, "{start}..{end} rows {rows}")
     }
 }
@@ -44,9 +44,9 @@ pub struct Parts {
     pub header: PartRange,
     pub files: PartRange,
     pub xorbs: PartRange,
-    pub file_table: Table,
-    pub xorb_table: Table,
-    pub chunk_table: Table,
+    pub file_table: TablePart,
+    pub xorb_table: TablePart,
+    pub chunk_table: TablePart,
     pub footer: PartRange,
 }
 
@@ -69,17 +69,17 @@ impl Parts {
                 start: footer.xorb_info_offset,
                 end: footer.file_lookup_offset,
             },
-            file_table: Table {
+            file_table: TablePart {
                 start: footer.file_lookup_offset,
                 end: footer.xorb_lookup_offset,
                 rows: footer.file_lookup_num_entry,
             },
-            xorb_table: Table {
+            xorb_table: TablePart {
                 start: footer.xorb_lookup_offset,
                 end: footer.chunk_lookup_offset,
                 rows: footer.xorb_lookup_num_entry,
             },
-            chunk_table: Table {
+            chunk_table: TablePart {
                 start: footer.chunk_lookup_offset,
                 end: footer.footer_offset,
                 rows: footer.chunk_lookup_num_entry,
