@@ -77,10 +77,10 @@ fn write_page<'a, R: Files + Clock + Print + Eprint + RandomSource + AllocGlobal
     progress: &mut Progress,
 ) -> Result<Status, Failure<'a>> {
     let alloc = rt.alloc();
-    let sources = in_memory(Vec::from_slice(alloc, sources))?;
+    let sources = unless_out_of_memory(Vec::from_slice(alloc, sources))?;
     let mut overview = Overview::new(alloc, sources, reporting.now);
     for failure in &inputs.failures {
-        in_memory(overview.add_failure(alloc, failure))?;
+        unless_out_of_memory(overview.add_failure(alloc, failure))?;
     }
     let opened = open_all(rt, inputs, &mut overview)?;
     let parts = parts_of(opened.as_slice(), reporting.memory);
@@ -89,8 +89,8 @@ fn write_page<'a, R: Files + Clock + Print + Eprint + RandomSource + AllocGlobal
         let part = HashPart { rest, parts };
         read_part(rt, files.as_slice(), &mut overview, part, progress)?;
     }
-    in_memory(overview.sort())?;
-    let page = in_memory(page_of(alloc, &overview))?;
+    unless_out_of_memory(overview.sort())?;
+    let page = unless_out_of_memory(page_of(alloc, &overview))?;
     put(rt, reporting.output, page.as_bytes())?;
     if overview.failures.is_empty() {
         Ok(Status::Done)
@@ -100,7 +100,7 @@ fn write_page<'a, R: Files + Clock + Print + Eprint + RandomSource + AllocGlobal
 }
 
 // What was done, unless memory was lacking.
-fn in_memory<'a, T, E: Drop>(done: Result<T, E>) -> Result<T, Failure<'a>> {
+fn unless_out_of_memory<'a, T, E: Drop>(done: Result<T, E>) -> Result<T, Failure<'a>> {
     match done {
         Ok(value) => Ok(value),
         Err(_) => Err(Failure::on_words(Fault::OutOfMemory)),
@@ -114,7 +114,7 @@ fn leave_out<'a, R: Eprint + AllocGlobal>(
     failure: Failure<'a>,
 ) -> Result<(), Failure<'a>> {
     let _ = report_failure(rt, &failure);
-    in_memory(overview.add_failure(rt.alloc(), &failure))
+    unless_out_of_memory(overview.add_failure(rt.alloc(), &failure))
 }
 
 fn open_all<'a, R: Files + Eprint + AllocGlobal>(
@@ -125,7 +125,7 @@ fn open_all<'a, R: Files + Eprint + AllocGlobal>(
     let mut opened = Vec::new(rt.alloc());
     for path in &inputs.paths {
         match open_shard(rt, path.as_str()) {
-            Ok(shard) => in_memory(opened.push(shard))?,
+            Ok(shard) => unless_out_of_memory(opened.push(shard))?,
             Err(failure) => leave_out(rt, overview, failure)?,
         }
     }
@@ -137,7 +137,7 @@ fn open_shard<'a, R: Files + AllocGlobal>(
     path: &'a str,
 ) -> Result<BriefShard<'a>, Failure<'a>> {
     let file = ShardFile::open(rt, path)?;
-    let brief = in_memory(Brief::of_info(rt.alloc(), path, &file.info, file.size()))?;
+    let brief = unless_out_of_memory(Brief::of_info(rt.alloc(), path, &file.info, file.size()))?;
     Ok(BriefShard { file, brief })
 }
 
@@ -174,9 +174,9 @@ fn read_all<'a, R: Files + Clock + Eprint + AllocGlobal>(
             Ok(found) => {
                 brief.xorbs = Some(found.xorbs);
                 brief.chunks = Some(found.chunks);
-                in_memory(hashes.add_shard(alloc, found.hashes.as_slice()))?;
-                in_memory(overview.shards.push(brief))?;
-                in_memory(files.push(file))?;
+                unless_out_of_memory(hashes.add_shard(alloc, found.hashes.as_slice()))?;
+                unless_out_of_memory(overview.shards.push(brief))?;
+                unless_out_of_memory(files.push(file))?;
             }
             Err(failure) => {
                 progress.clear(rt);
@@ -184,7 +184,7 @@ fn read_all<'a, R: Files + Clock + Eprint + AllocGlobal>(
             }
         }
     }
-    in_memory(hashes.count(&mut overview.sharing))?;
+    unless_out_of_memory(hashes.count(&mut overview.sharing))?;
     Ok(files)
 }
 
@@ -202,9 +202,9 @@ fn read_part<'a, R: Files + Clock + Eprint + AllocGlobal>(
     for (read, file) in files.iter().enumerate() {
         progress.show_after_pause(rt, Stage::Reading { read, all });
         let found = xorbs_of(rt, file, part)?;
-        in_memory(hashes.add_shard(alloc, found.hashes.as_slice()))?;
+        unless_out_of_memory(hashes.add_shard(alloc, found.hashes.as_slice()))?;
     }
-    in_memory(hashes.count(&mut overview.sharing))
+    unless_out_of_memory(hashes.count(&mut overview.sharing))
 }
 
 fn xorbs_of<'a, R: Files + AllocGlobal>(
@@ -222,7 +222,7 @@ fn xorbs_of<'a, R: Files + AllocGlobal>(
     };
     for _ in 0..u64::MAX {
         match section.next_xorb(alloc) {
-            Ok(Some(xorb)) => in_memory(found.add(&xorb, part))?,
+            Ok(Some(xorb)) => unless_out_of_memory(found.add(&xorb, part))?,
             Ok(None) => break,
             Err(error) => {
                 return Err(Failure::on_file(file.path, section_fault(Section::Xorbs, error)));
