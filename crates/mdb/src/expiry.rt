@@ -32,7 +32,7 @@ pub fn shard_expiry(info: &MDBShardInfo) -> Option<u64>
 }
 
 /// The earlier of two expiries. None is later than any.
-pub fn earlier(one: Option<u64>, other: Option<u64>) -> Option<u64>
+pub fn earlier_of(one: Option<u64>, other: Option<u64>) -> Option<u64>
     ensures { result ≡ earlier_of one other }
 {
     match (one, other) {
@@ -48,7 +48,7 @@ fn earliest_in(infos: &[MDBShardInfo]) -> Option<u64>
 {
     let mut found = None;
     for info in infos {
-        found = earlier(found, shard_expiry(info));
+        found = earlier_of(found, shard_expiry(info));
     }
     found
 }

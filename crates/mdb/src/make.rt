@@ -96,7 +96,7 @@ fn make_bytes<'a, R: Files + Input + Eprint + AllocGlobal>(
         MakeCommand::Drop(removal) => remove_records(rt, removal, target),
         MakeCommand::Records(list, expiry) => shard_of_lines(rt, list, *expiry, target),
         MakeCommand::Export(file, export) => export_file(rt, file, export, target),
-        MakeCommand::Minimal(file, now, kept) => minimal(rt, file, *now, *kept, target),
+        MakeCommand::Minimal(file, now, kept) => minimal_of_file(rt, file, *now, *kept, target),
         MakeCommand::Subset(file, kept, _, expiry) => subset(rt, file, kept, *expiry, target),
     }
 }
@@ -164,7 +164,7 @@ fn failure<'a>(file: &'a str, target: Target<'a>, fault: Fault) -> Failure<'a>
     }
 }
 
-fn minimal<'a, R: Files + Input + AllocGlobal>(
+fn minimal_of_file<'a, R: Files + Input + AllocGlobal>(
     rt: &R,
     file: &'a str,
     now: u64,
@@ -172,12 +172,12 @@ fn minimal<'a, R: Files + Input + AllocGlobal>(
     target: Target<'a>,
 ) -> Result<Vec<u8>, Failure<'a>> {
     let bytes = bytes_in_file(rt, file)?;
-    minimal_of(rt.alloc(), file, bytes.as_slice(), now, kept, target)
+    minimal_of_bytes(rt.alloc(), file, bytes.as_slice(), now, kept, target)
 }
 
 // The bytes of a minimal shard, in the version of a target, of the shard of which a file has these
 // bytes.
-fn minimal_of<'a>(
+fn minimal_of_bytes<'a>(
     alloc: Global,
     file: &'a str,
     bytes: &[u8],

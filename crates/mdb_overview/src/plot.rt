@@ -99,7 +99,11 @@ fn print_row(
     for (column, _) in columns.iter().enumerate() {
         let x = start_of(column, columns.len());
         let room = width_of(columns.len()).saturating_sub(NUMBER);
-        let width = share(row.value(column).unwrap_or(0), greatest(rows, column), room);
+        let width = share(
+            row.value(column).unwrap_or(0),
+            greatest_value(rows, column),
+            room,
+        );
         print_bar(page, row.value(column), x, top, width)?;
     }
     page.push_str("</g>\n")
@@ -124,7 +128,7 @@ fn print_bar(
 }
 
 // The greatest number of a column.
-fn greatest(rows: &[PlotRow], column: usize) -> u64 {
+fn greatest_value(rows: &[PlotRow], column: usize) -> u64 {
     let mut greatest = 0;
     for row in rows {
         greatest = greatest.max(row.value(column).unwrap_or(0));

@@ -27,11 +27,11 @@ pub extern "C" fn xet_eligible(
         × (words ≡ map c_hash hashes))
         (InMemory (RefusesMinimal shard.now)) out.old out.new written.new result }
 {
-    let words = eligible(alloc, shard);
+    let words = eligible_hashes(alloc, shard);
     deliver(words, out, written)
 }
 
-fn eligible(alloc: Global, shard: &[u8]) -> Result<Vec<XetHash>>
+fn eligible_hashes(alloc: Global, shard: &[u8]) -> Result<Vec<XetHash>>
     ensures { MatchResult result
         (λ words. (hashes : List DataHash) × EligibleIn shard.now hashes
         × (words.items ≡ map c_hash hashes))

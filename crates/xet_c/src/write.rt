@@ -138,8 +138,8 @@ fn files_of(
         if rest.len() < count {
             return Err(CoreError::InvalidArguments);
         }
-        files.push(file_of(alloc, file, front(rest, count))?)?;
-        rest = behind(rest, count);
+        files.push(file_of(alloc, file, first_items(rest, count))?)?;
+        rest = items_after(rest, count);
     }
     if !rest.is_empty() {
         return Err(CoreError::InvalidArguments);
@@ -148,15 +148,15 @@ fn files_of(
 }
 
 // The first `count` items.
-fn front<T>(items: &[T], count: usize) -> &[T]
+fn first_items<T>(items: &[T], count: usize) -> &[T]
     requires { count ≤ length items.now }
     ensures { result.now ≡ take count items.now }
 {
     &items[..count]
 }
 
-// The items behind the first `count`.
-fn behind<T>(items: &[T], count: usize) -> &[T]
+// The items after the first `count`.
+fn items_after<T>(items: &[T], count: usize) -> &[T]
     requires { count ≤ length items.now }
     ensures { result.now ≡ drop count items.now }
 {
@@ -251,8 +251,8 @@ fn xorbs_of(
         if rest.len() < count {
             return Err(CoreError::InvalidArguments);
         }
-        xorbs.push(xorb_of(alloc, xorb, front(rest, count))?)?;
-        rest = behind(rest, count);
+        xorbs.push(xorb_of(alloc, xorb, first_items(rest, count))?)?;
+        rest = items_after(rest, count);
     }
     if !rest.is_empty() {
         return Err(CoreError::InvalidArguments);

@@ -6,7 +6,7 @@ ghost use Rattle.mdb.specs.Expiries.{shard_expiry, IsEarliest};
 use super::RoundFault;
 use super::findings::Findings;
 use super::shard_file::{Cursor, ShardFile};
-use crate::expiry::{earlier, shard_expiry};
+use crate::expiry::{earlier_of, shard_expiry};
 use crate::failure::Failure;
 use crate::input_failure::{
     failure_in_files, failure_of_two_keys, failure_on_all, in_memory, lacks_files, union_failure,
@@ -324,7 +324,7 @@ fn earliest_of(shards: &[ShardFile<'_>]) -> Option<u64>
 {
     let mut found = None;
     for shard in shards {
-        found = earlier(found, shard_expiry(&shard.info));
+        found = earlier_of(found, shard_expiry(&shard.info));
     }
     found
 }
@@ -404,7 +404,7 @@ fn next_parts<'a, R: Files + AllocGlobal>(
     for cursor in cursors.iter() {
         let size = share_of(cursor.bytes_left(), rounds);
         let (block, mark) = cursor.read(rt, size.saturating_add(1).max(LEAST_READ))?;
-        limit = lesser(limit, &mark);
+        limit = lesser_limit(limit, &mark);
         blocks.push(block)?;
     }
     let mut parts = Vec::new(rt.alloc());
@@ -415,7 +415,7 @@ fn next_parts<'a, R: Files + AllocGlobal>(
 }
 
 // The lesser of a hash and the last one of a block, unless no record comes after the block.
-fn lesser(limit: Option<MerkleHash>, mark: &Mark) -> Option<MerkleHash> {
+fn lesser_limit(limit: Option<MerkleHash>, mark: &Mark) -> Option<MerkleHash> {
     if mark.ended {
         return limit;
     }

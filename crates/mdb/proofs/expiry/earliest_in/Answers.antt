@@ -6,6 +6,6 @@ use Rattle.mdb.proofs.expiry.earliest_in.Goals as goal
 -- one more footer
 pub loop-info-preserved : goal.loop-info-preserved
 loop-info-preserved c =
-    earliest_with shard_expiry c.args.infos.now c.loop-info.info-index _ c.loop-info.found c.earlier-found.result
+    earliest_with shard_expiry c.args.infos.now c.loop-info.info-index _ c.loop-info.found c.earlier_of-found.result
     c.loop-info-test.true c.loop-info.invariant
-    (c.earlier-found.ensures ∙ ap (earlier_of c.loop-info.found) c.shard_expiry.ensures)
+    (c.earlier_of-found.ensures ∙ ap (earlier_of c.loop-info.found) c.shard_expiry.ensures)

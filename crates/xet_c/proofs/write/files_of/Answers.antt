@@ -9,8 +9,8 @@ returns-then-rest-count c =
 
 pub loop-file-preserved : goal.loop-file-preserved
 loop-file-preserved c =
-    more_listed (λ f. f.segments) IsListedFile c.args.listed.now c.args.segments.now c.loop-file.file-index c.loop-file.rest.now c.front.result.now c.behind-rest.result.now c.loop-file.files.items _ _ c.in_ok-file_of.field-0 c.loop-file-test.true c.loop-file.invariant
-    (omega (arith, c.if-rest-count.false)) c.front.ensures c.behind-rest.ensures c.in_ok-file_of.ensures.ok c.in_ok-push.ensures.items
+    more_listed (λ f. f.segments) IsListedFile c.args.listed.now c.args.segments.now c.loop-file.file-index c.loop-file.rest.now c.first_items.result.now c.items_after-rest.result.now c.loop-file.files.items _ _ c.in_ok-file_of.field-0 c.loop-file-test.true c.loop-file.invariant
+    (omega (arith, c.if-rest-count.false)) c.first_items.ensures c.items_after-rest.ensures c.in_ok-file_of.ensures.ok c.in_ok-push.ensures.items
 
 pub returns-then-not-is_empty : goal.returns-then-not-is_empty
 returns-then-not-is_empty c =

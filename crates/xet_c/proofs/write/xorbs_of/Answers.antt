@@ -9,8 +9,8 @@ returns-then-rest-count c =
 
 pub loop-xorb-preserved : goal.loop-xorb-preserved
 loop-xorb-preserved c =
-    more_listed (λ x. x.chunks) IsListedXorb c.args.listed.now c.args.chunks.now c.loop-xorb.xorb-index c.loop-xorb.rest.now c.front.result.now c.behind-rest.result.now c.loop-xorb.xorbs.items _ _ c.in_ok-xorb_of.field-0 c.loop-xorb-test.true c.loop-xorb.invariant
-    (omega (arith, c.if-rest-count.false)) c.front.ensures c.behind-rest.ensures c.in_ok-xorb_of.ensures.ok c.in_ok-push.ensures.items
+    more_listed (λ x. x.chunks) IsListedXorb c.args.listed.now c.args.chunks.now c.loop-xorb.xorb-index c.loop-xorb.rest.now c.first_items.result.now c.items_after-rest.result.now c.loop-xorb.xorbs.items _ _ c.in_ok-xorb_of.field-0 c.loop-xorb-test.true c.loop-xorb.invariant
+    (omega (arith, c.if-rest-count.false)) c.first_items.ensures c.items_after-rest.ensures c.in_ok-xorb_of.ensures.ok c.in_ok-push.ensures.items
 
 pub returns-then-not-is_empty : goal.returns-then-not-is_empty
 returns-then-not-is_empty c =

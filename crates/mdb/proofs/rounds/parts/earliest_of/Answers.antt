@@ -8,5 +8,5 @@ use Rattle.mdb.proofs.rounds.parts.earliest_of.Goals as goal
 pub loop-shard-preserved : goal.loop-shard-preserved
 loop-shard-preserved c =
     earliest_with (λ (s : ShardFile). shard_expiry s.info) c.args.shards.now c.loop-shard.shard-index _
-    c.loop-shard.found c.earlier-found.result c.loop-shard-test.true c.loop-shard.invariant
-    (c.earlier-found.ensures ∙ ap (earlier_of c.loop-shard.found) c.shard_expiry.ensures)
+    c.loop-shard.found c.earlier_of-found.result c.loop-shard-test.true c.loop-shard.invariant
+    (c.earlier_of-found.ensures ∙ ap (earlier_of c.loop-shard.found) c.shard_expiry.ensures)
