@@ -16,7 +16,7 @@ use Rattle.std.specs.declared.slice.Iter.{Iter}
 use Rattle.xet_base.specs.declared.merklehash.DataHash.{DataHash}
 use Rattle.xet_base.specs.Hash.{hash_eq}
 use Rattle.xet_base.proofs.HashOrder.{same_hash}
-use Rattle.mdb.specs.Keys.{distinct}
+use Rattle.mdb.specs.Keys.{distinct_keys}
 
 -- the values of the pairs with a key
 abbrev pub values_of_key : {T : Type 0} → DataHash → List (T × DataHash) → List T
@@ -67,13 +67,13 @@ kept_at_turn key values keys yielded start now next result first second yields p
 
 -- one more key is added exactly if it is not among those before
 pub distinct_more : (keys : List DataHash) (key : DataHash)
-    → distinct (keys ++ key ∷ []) ≡ distinct keys ++ cond (is_member hash_eq (distinct keys) key) [] (key ∷ [])
+    → distinct_keys (keys ++ key ∷ []) ≡ distinct_keys keys ++ cond (is_member hash_eq (distinct_keys keys) key) [] (key ∷ [])
 distinct_more [] key = refl
 distinct_more (k ∷ keys) key =
     ap (λ l. k ∷ filter others l) (distinct_more keys key)
     ∙ ap (λ l. k ∷ l)
-    (filter-append others (distinct keys) (cond (is_member hash_eq (distinct keys) key) [] (key ∷ [])))
-    ∙ ap (λ l. k ∷ (filter others (distinct keys) ++ l)) (by (hash_eq key k) refl)
+    (filter-append others (distinct_keys keys) (cond (is_member hash_eq (distinct_keys keys) key) [] (key ∷ [])))
+    ∙ ap (λ l. k ∷ (filter others (distinct_keys keys) ++ l)) (by (hash_eq key k) refl)
   where
     others : DataHash → Bool
     others other = not (hash_eq other k)
@@ -88,10 +88,10 @@ distinct_more (k ∷ keys) key =
     stays e other same = subst (λ o. not (hash_eq o k) ≡ true) ((same_hash key other).0 same) (ap not e)
 
     by : (b : Bool) → hash_eq key k ≡ b
-        → filter others (cond (is_member hash_eq (distinct keys) key) [] (key ∷ []))
-        ≡ cond (b || is_member hash_eq (filter others (distinct keys)) key) [] (key ∷ [])
-    by true e = filter_without true (is_member hash_eq (distinct keys) key) e
+        → filter others (cond (is_member hash_eq (distinct_keys keys) key) [] (key ∷ []))
+        ≡ cond (b || is_member hash_eq (filter others (distinct_keys keys)) key) [] (key ∷ [])
+    by true e = filter_without true (is_member hash_eq (distinct_keys keys) key) e
     by false e =
-        filter_without false (is_member hash_eq (distinct keys) key) e
+        filter_without false (is_member hash_eq (distinct_keys keys) key) e
         ∙ ap (λ b. cond b [] (key ∷ []))
-        (sym (any-filter_same (hash_eq key) others true (stays e) (distinct keys)))
+        (sym (any-filter_same (hash_eq key) others true (stays e) (distinct_keys keys)))

@@ -11,13 +11,13 @@ use Rattle.mdb.specs.declared.failure.Failure.{Failure}
 use Rattle.mdb.specs.declared.failure.Subject.TheVariants.{File}
 
 -- the keys without repetitions: the first, and then those after it that are not the first
-abbrev pub distinct : List DataHash → List DataHash
-distinct [] = []
-distinct (key ∷ keys) = key ∷ filter (λ other. not (hash_eq other key)) (distinct keys)
+abbrev pub distinct_keys : List DataHash → List DataHash
+distinct_keys [] = []
+distinct_keys (key ∷ keys) = key ∷ filter (λ other. not (hash_eq other key)) (distinct_keys keys)
 
 -- the values whose key is this one, in their order
-abbrev pub under : {T : Type 0} → DataHash → List T → List DataHash → List T
-under key values keys = map (λ p. p.0) (filter (λ p. hash_eq p.1 key) (zip values keys))
+abbrev pub values_under : {T : Type 0} → DataHash → List T → List DataHash → List T
+values_under key values keys = map (λ p. p.0) (filter (λ p. hash_eq p.1 key) (zip values keys))
 
 -- why headers and footers of inputs are not known: memory is lacking, or those of an input are not
 -- read, and the failure is on its file

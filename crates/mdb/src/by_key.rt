@@ -1,14 +1,14 @@
 //! Grouping shards by their keys, each group for a merge of its own.
 
 ghost use Rattle.std.specs.Prelude.{◌≡◌, IfOk};
-ghost use Rattle.mdb.specs.Keys.{distinct, under};
+ghost use Rattle.mdb.specs.Keys.{distinct_keys, values_under};
 
 use std::alloc::{AllocError, Global};
 use xet_core_structures::merklehash::HMACKey;
 
 /// The keys without repetitions, in the order in which they first occur.
 pub fn distinct_keys(alloc: Global, keys: &[HMACKey]) -> Result<Vec<HMACKey>, AllocError>
-    ensures { IfOk result (λ found. found.items ≡ distinct keys.now) }
+    ensures { IfOk result (λ found. found.items ≡ distinct_keys keys.now) }
 {
     let mut found: Vec<HMACKey> = Vec::new(alloc);
     for key in keys {
@@ -26,7 +26,7 @@ pub fn values_under<T: Copy>(
     keys: &[HMACKey],
     key: &HMACKey,
 ) -> Result<Vec<T>, AllocError>
-    ensures { IfOk result (λ found. found.items ≡ under key.now values.now keys.now) }
+    ensures { IfOk result (λ found. found.items ≡ values_under key.now values.now keys.now) }
 {
     let mut found = Vec::new(alloc);
     for (value, its) in values.iter().zip(keys) {

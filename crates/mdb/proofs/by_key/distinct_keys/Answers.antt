@@ -7,7 +7,7 @@ use Rattle.std.proofs.lemmas.Map.Made.{is_member-Decides}
 use Rattle.xet_base.specs.declared.merklehash.DataHash.{DataHash}
 use Rattle.xet_base.specs.Hash.{hash_eq}
 use Rattle.xet_base.proofs.HashOrder.{same_hash}
-use Rattle.mdb.specs.Keys.{distinct}
+use Rattle.mdb.specs.Keys.{distinct_keys}
 use Rattle.mdb.proofs.Keys.{distinct_more}
 use Rattle.mdb.proofs.by_key.distinct_keys.Goals as goal
 use Rattle.mdb.proofs.by_key.distinct_keys.Goals.{then-not-contains+in_ok-push, else-not-contains}
@@ -26,9 +26,9 @@ loop-key-preserved c =
     ∙ ap (λ l. is_member hash_eq l key) c.as_slice.ensures.value in
     let within : c.loop-key.key-index < length c.args.keys.now = search rules in
     let more :
-    distinct (take (c.loop-key.key-index + 1) c.args.keys.now)
+    distinct_keys (take (c.loop-key.key-index + 1) c.args.keys.now)
     ≡ c.loop-key.found.items ++ cond c.contains.result [] (key ∷ []) =
-    ap distinct (take_more c.args.keys.now c.loop-key.key-index none within)
+    ap distinct_keys (take_more c.args.keys.now c.loop-key.key-index none within)
     ∙ distinct_more (take c.loop-key.key-index c.args.keys.now) key
     ∙ ap (λ l. l ++ cond (is_member hash_eq l key) [] (key ∷ [])) (sym c.loop-key.invariant)
     ∙ ap (λ b. c.loop-key.found.items ++ cond b [] (key ∷ [])) (sym found) in
