@@ -12,6 +12,7 @@ use xet_core_structures::error::Result;
 use xet_core_structures::file_structs::MDBFileInfo;
 use xet_core_structures::input::OfReader;
 use xet_core_structures::record_reader::{FormatVersion, SectionRecord, read_record};
+use xet_core_structures::rows::ROW_LIMIT;
 use xet_core_structures::xorb_structs::MDBXorbInfo;
 
 /// A section of a shard, of which no more than a record is in memory.
@@ -33,7 +34,7 @@ impl<R: Read + Drop> SectionReader<R> {
         SectionReader {
             reader,
             version,
-            rows_left: u32::MAX,
+            rows_left: ROW_LIMIT as u32,
         }
     }
 
