@@ -67,9 +67,11 @@ fn finding_of(finding: Finding) -> XetFinding
     ensures { result ≡ c_finding finding }
 {
     match finding {
-        Finding::Unsupported(Format::NoTag) => to_c_finding(1, 1, 0),
-        Finding::Unsupported(Format::OtherVersion(version)) => to_c_finding(2, 1, version),
-        Finding::Unsupported(Format::NoFooter) => to_c_finding(3, 7, 0),
+        Finding::Unsupported(Format::NoTag) => to_c_finding(1, number_of_part(Part::Header), 0),
+        Finding::Unsupported(Format::OtherVersion(version)) => {
+            to_c_finding(2, number_of_part(Part::Header), version)
+        }
+        Finding::Unsupported(Format::NoFooter) => to_c_finding(3, number_of_part(Part::Footer), 0),
         Finding::TooShort => to_c_finding(4, 0, 0),
         Finding::Cut(section) => to_c_finding(5, number_of_section(section), 0),
         Finding::Refused(section) => to_c_finding(6, number_of_section(section), 0),
@@ -81,7 +83,7 @@ fn finding_of(finding: Finding) -> XetFinding
         Finding::Malformed(section, index) => {
             to_c_finding(10, number_of_section(section), index as u64)
         }
-        Finding::Reordered => to_c_finding(11, 6, 0),
+        Finding::Reordered => to_c_finding(11, number_of_part(Part::ChunkTable), 0),
     }
 }
 
