@@ -24,7 +24,7 @@ pub enum Fault {
     /// A file or a stream can't be read or written.
     Device(io::Error),
     OutOfMemory,
-    /// There is too little memory for a merge that `--memory` makes in parts.
+    /// There is too little memory for a merge at once; `--memory` makes it in parts.
     NoRoomAtOnce,
     /// The bytes of a shard are not those that the library would write.
     Bytes(Finding),
@@ -79,7 +79,7 @@ pub enum Fault {
     StaysAsLink,
     /// In a folder the name that a shard has by the hash of its bytes has other bytes.
     OtherBytes(MerkleHash),
-    /// This line of a list of records is none.
+    /// This line of a list of records is no record.
     NoLine(u64, LineFault),
     /// The record of this line is one that no shard may have.
     NoRecordOfShard(u64),

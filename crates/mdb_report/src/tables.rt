@@ -51,7 +51,7 @@ pub fn lacks_file_table(alloc: Global, bytes: &[u8]) -> Result<bool>
 /// Whether the bytes of a shard have chunks, but no rows in the chunk table, by which they would be
 /// found.
 ///
-/// The errors are those of [`MDBShardInfo::load_from_reader`] and of reading the xorb section.
+/// The errors are those of [`load_bytes`] and of reading the xorb section.
 pub fn lacks_chunk_table(alloc: Global, bytes: &[u8]) -> Result<bool>
     ensures lacks { IfOk result (λ lacks. lacks ≡ true → LacksChunkTable bytes.now) }
     ensures has { IfOk result (λ lacks. lacks ≡ false → HasChunkTable bytes.now) }

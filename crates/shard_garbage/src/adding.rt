@@ -90,7 +90,7 @@ pub(crate) fn add_lacking(
     Ok(())
 }
 
-// The finding that no segment names a hash, if none does.
+// The misfit that no segment names a hash, if none does.
 fn unnamed_misfit(segments: &SortedSegments, hash: MerkleHash) -> Option<Misfit>
     ensures { (misfit : AMisfit) → (result ≡ Some misfit)
         ↔ IsUnnamed segments.now.items.items hash misfit }
@@ -102,7 +102,7 @@ fn unnamed_misfit(segments: &SortedSegments, hash: MerkleHash) -> Option<Misfit>
     }
 }
 
-// The finding that a segment names none of the hashes, if it names none.
+// The misfit that a segment names none of the hashes, if it names none.
 fn lacking_misfit(hashes: &SortedHashes, segment: &Segment) -> Option<Misfit>
     ensures { (misfit : AMisfit) → (result ≡ Some misfit)
         ↔ IsLacking hashes.now.items.items segment.now misfit }

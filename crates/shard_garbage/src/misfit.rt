@@ -8,7 +8,7 @@ ghost use Rattle.shard_garbage.specs.Garbage.{IsTotal, IsStart, IsOfSegment};
 use crate::finding::{Misfit, Segment};
 use xet_records::xorb_structs::{MDBXorbInfo, XorbChunkSequenceEntry};
 
-/// The finding that a xorb's own number of bytes is not the sum of its chunks', if it is not.
+/// The misfit that a xorb's own number of bytes is not the sum of its chunks', if it is not.
 pub fn total_misfit(xorb: &MDBXorbInfo) -> Option<Misfit>
     requires { HasItsChunks xorb.now }
     ensures { (misfit : Misfit) → (result ≡ Some misfit) ↔ IsTotal xorb.now misfit }
