@@ -22,9 +22,8 @@ use Rattle.xet_core_structures.specs.declared.file_structs.FileDataSequenceHeade
 use Rattle.xet_core_structures.specs.declared.file_structs.MDBFileInfo.{MDBFileInfo}
 use Rattle.xet_core_structures.specs.declared.xorb_structs.MDBXorbInfo.{MDBXorbInfo}
 use Rattle.xet_core_structures.specs.declared.xorb_structs.XorbChunkSequenceHeader.{XorbChunkSequenceHeader}
-use Rattle.xet_core_structures.specs.FileRecord.{IsWellFormed, file_records, file_rows_bytes}
+use Rattle.xet_core_structures.specs.FileRecord.{IsPlainHeader, IsWellFormed, file_records, file_rows_bytes}
 use Rattle.xet_core_structures.specs.XorbRecord.{IsXorb, size_of_chunks, xorb_records}
-use Rattle.xet_core_structures.specs.Steps.Agreement.{IsPlainHeader}
 use Rattle.xet_core_structures.proofs.Records.FrontRows.{FirstOf, first_of, none_left}
 use Rattle.xet_core_structures.proofs.Records.Items.{below_or_at}
 use Rattle.xet_shards.specs.Steps.FileStore.{AreClear}

@@ -1,24 +1,14 @@
-//! Whether a record that was read is well-formed. It is judged where its bytes lie, since a list of
+//! Whether a xorb that was read is well-formed. It is judged where its bytes lie, since a list of
 //! its rows would need memory.
 
 ghost use Rattle.std.specs.Prelude.{◌≡◌, ◌↔◌, ◌≤◌, List, flat_map, length, All, IsTrue};
 ghost use Rattle.xet_records.specs.declared.xorb_structs.XorbChunkSequenceEntry.{XorbChunkSequenceEntry};
 ghost use Rattle.xet_records.specs.XorbRecord.{total_bytes};
 ghost use Rattle.xet_records.specs.XorbRow.{FitsChunk, chunk_row};
-ghost use Rattle.xet_core_structures.specs.Steps.Agreement.{IsPlainHeader};
 
-use xet_records::file_structs::FileDataSequenceHeader;
 use xet_records::record_bytes::row;
 use xet_records::rows::ROW_SIZE;
 use xet_records::xorb_structs::{MAX_XORB_BYTES, XorbChunkSequenceEntry};
-
-/// Whether the flags of a file's header announce optional parts and nothing else, and its reserved
-/// word is zero.
-pub fn is_plain(header: &FileDataSequenceHeader) -> bool
-    ensures { IsTrue result ↔ IsPlainHeader header.now }
-{
-    header.file_flags == header.known_flags() && header._unused == 0
-}
 
 /// Whether the sizes of the chunks in these rows add up to a number of bytes that fits `u32`.
 pub fn have_few_bytes(rows: &[u8]) -> bool

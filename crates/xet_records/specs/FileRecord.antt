@@ -47,6 +47,11 @@ file_record_bytes r = header_row r.metadata ++ file_rows_bytes r
 abbrev pub size_of_file : MDBFileInfo → ℕ
 size_of_file r = sum_by (λ s. s.unpacked_segment_bytes) r.segments
 
+-- the flags of a file's header announce optional parts and nothing else, and its reserved word is
+-- zero
+abbrev pub IsPlainHeader : FileDataSequenceHeader → Type 0
+IsPlainHeader h = (h.file_flags ≡ flags_of (announces h.file_flags)) × (h._unused ≡ 0)
+
 -- a record has the segments and the parts that its header announces
 pub record FitsItsHeader (r : MDBFileInfo) : Type 0 where
   pub segments : length r.segments ≡ r.metadata.num_entries

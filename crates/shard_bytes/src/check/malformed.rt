@@ -19,7 +19,7 @@ use xet_core_structures::file_structs::{FileDataSequenceHeader, MDBFileInfo};
 use xet_core_structures::record_bytes::row;
 use xet_core_structures::record_reader::SectionRecord;
 use xet_core_structures::rows::ROW_SIZE;
-use xet_core_structures::well_formed::{have_few_bytes, is_plain};
+use xet_core_structures::well_formed::have_few_bytes;
 use xet_core_structures::xorb_structs::{MDBXorbInfo, XorbChunkSequenceHeader};
 
 /// A record that is judged by its header and the bytes of the rows after it.
@@ -63,7 +63,7 @@ impl Judged for MDBFileInfo {
     ghost formed = { IsWellFormed };
 
     fn is_formed(header: &FileDataSequenceHeader, rows: &[u8]) -> bool {
-        if !is_plain(header) {
+        if !header.is_plain() {
             return false;
         }
         let (_segments, optional) = rows.split_at(ROW_SIZE * header.num_entries as usize);

@@ -3,12 +3,12 @@ use Rattle.std.specs.Prelude.{◌≡◌, ◌⊎◌, ⊤, ℕ, ◌<◌, ◌≤◌
 use Rattle.xet_base.specs.declared.error.CoreError.{CoreError}
 use Rattle.xet_base.specs.declared.error.CoreError.TheVariants.{OutOfMemory}
 use Rattle.xet_base.specs.declared.merklehash.DataHash.{DataHash}
-use Rattle.xet_records.specs.declared.file_structs.header.FileDataSequenceHeader.{FileDataSequenceHeader}
 use Rattle.xet_records.specs.declared.file_structs.part.OptionalPart.{OptionalPart}
 use Rattle.xet_records.specs.declared.file_structs.MDBFileInfo.{MDBFileInfo}
 use Rattle.xet_records.specs.declared.xorb_structs.MDBXorbInfo.{MDBXorbInfo}
+use Rattle.xet_records.specs.FileRecord.{IsPlainHeader}
 use Rattle.xet_records.specs.Merging.{has_part}
-use Rattle.xet_records.specs.Part.{announces, flags_of, rows_of}
+use Rattle.xet_records.specs.Part.{rows_of}
 use Rattle.xet_records.specs.RecordKind.{RecordKind}
 use Rattle.xet_records.specs.XorbRecord.{size_of_chunks}
 use Rattle.xet_shards.specs.Content.SetOperations.{ShardsAgree}
@@ -38,11 +38,6 @@ AreEqual r s = r ≡ s
 abbrev pub AgreeOn : OptionalPart → MDBFileInfo → MDBFileInfo → Type 0
 AgreeOn part a b =
     IsTrue (has_part a part) → IsTrue (has_part b part) → rows_of part a ≡ rows_of part b
-
--- the flags of a file's header announce optional parts and nothing else, and its reserved word is
--- zero
-abbrev pub IsPlainHeader : FileDataSequenceHeader → Type 0
-IsPlainHeader h = (h.file_flags ≡ flags_of (announces h.file_flags)) × (h._unused ≡ 0)
 
 -- what a shard asks of a file beside what reading it ensures
 abbrev pub IsPlainFile : MDBFileInfo → Type 0

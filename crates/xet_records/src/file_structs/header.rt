@@ -7,7 +7,7 @@ ghost use Rattle.xet_records.specs.FileRow.{header_row, FitsHeader};
 ghost use Rattle.xet_records.specs.Decoding.{header_at};
 ghost use Rattle.xet_records.specs.DecodingLaws.{header_spelled};
 ghost use Rattle.xet_records.specs.Part.{announces, flags_of, these_parts, with_flag, part_rows, rows_before, optional_rows_after};
-ghost use Rattle.xet_records.specs.FileRecord.{has_verification, has_metadata_ext, has_aux_ext, file_bookend, rows_after};
+ghost use Rattle.xet_records.specs.FileRecord.{has_verification, has_metadata_ext, has_aux_ext, file_bookend, rows_after, IsPlainHeader};
 ghost use Rattle.xet_records.specs.Rows.{WritesRow, ReadsWhole, LacksRow};
 ghost use Rattle.xet_records.specs.Merging.{Compares, IsSameFile, mixed_header};
 
@@ -123,6 +123,13 @@ impl FileDataSequenceHeader {
         ensures { result ≡ flags_of (announces self.now.file_flags) }
     {
         self.parts().flags()
+    }
+
+    /// Whether the flags announce optional parts and nothing else, and the reserved word is zero.
+    pub fn is_plain(&self) -> bool
+        ensures { IsTrue result ↔ IsPlainHeader self.now }
+    {
+        self.file_flags == self.known_flags() && self._unused == 0
     }
 
     /// Whether each segment has a verification row.

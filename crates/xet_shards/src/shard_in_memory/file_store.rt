@@ -247,8 +247,7 @@ pub fn is_well_formed(file_info: &MDBFileInfo) -> bool
     record_widths(file_info);
     let metadata = file_info.metadata;
     !metadata.is_bookend()
-        && metadata.file_flags == metadata.known_flags()
-        && metadata._unused == 0
+        && metadata.is_plain()
         && file_info.fits_its_header()
         && has_clear_parts(file_info)
         && metadata.rows_after() < ROW_LIMIT

@@ -8,7 +8,7 @@ ghost use Rattle.xet_core_structures.specs.Steps.Agreement.{IsPlainFile, HasFewB
 ghost use Rattle.xet_core_structures.specs.Steps.Placed.{Places};
 
 use crate::set_operations::trees::placed::PlacedRecord;
-use crate::well_formed::{have_few_bytes, is_plain};
+use crate::well_formed::have_few_bytes;
 use xet_base::merklehash::MerkleHash;
 use xet_records::file_structs::{FileDataSequenceHeader, MDBFileInfo};
 use xet_records::record_reader::SectionRecord;
@@ -43,7 +43,7 @@ impl RecordRule for MDBFileInfo {
     ghost allowed = { IsPlainFile };
 
     fn is_allowed(placed: &PlacedRecord<'_, FileDataSequenceHeader>) -> bool {
-        is_plain(&placed.header)
+        placed.header.is_plain()
     }
 }
 

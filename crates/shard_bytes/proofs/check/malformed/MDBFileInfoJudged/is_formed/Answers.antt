@@ -1,6 +1,6 @@
 use Rattle.std.proofs.Common.{IsTrue, false, rules, ◌∙◌, subst}
 use Rattle.xet_records.specs.Part.{optional_rows}
-use Rattle.xet_core_structures.specs.Steps.Agreement.{IsPlainHeader}
+use Rattle.xet_core_structures.specs.FileRecord.{IsPlainHeader}
 use Rattle.shard_bytes.proofs.Malformed.{plain_if_formed, formed_if, enough_segments, optional_are}
 use Rattle.shard_bytes.proofs.check.malformed.MDBFileInfoJudged.is_formed.Goals as goal
 
