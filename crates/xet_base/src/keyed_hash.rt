@@ -21,6 +21,20 @@ type Eight = [u32; 8];
 // The state as four rows of four words. A step on rows is one on each column.
 type Rows = (u32x4, u32x4, u32x4, u32x4);
 
+// The flags of a block, which are added up.
+const CHUNK_START: u32 = 1;
+
+const CHUNK_END: u32 = 2;
+
+const PARENT: u32 = 4;
+
+const ROOT: u32 = 8;
+
+const KEYED: u32 = 16;
+
+// The flags of a block that is all there is to hash.
+const ONE_BLOCK: u32 = CHUNK_START + CHUNK_END + ROOT + KEYED;
+
 /// The keyed hash of 32 bytes.
 #[tactic(auto, unfolding(crate::specs::KeyedHash::keyed_bytes))]
 pub(crate) fn keyed_bytes(key: &[u8; 32], message: &[u8; 32]) -> [u8; 32]
@@ -40,7 +54,7 @@ fn initial_state(key: &[u8; 32]) -> Rows
         u32x4::from_array([k[0], k[1], k[2], k[3]]),
         u32x4::from_array([k[4], k[5], k[6], k[7]]),
         u32x4::from_array([0x6A09E667, 0xBB67AE85, 0x3C6EF372, 0xA54FF53A]),
-        u32x4::from_array([0, 0, 32, 27]),
+        u32x4::from_array([0, 0, 32, ONE_BLOCK]),
     )
 }
 

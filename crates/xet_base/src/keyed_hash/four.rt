@@ -6,7 +6,7 @@ ghost use Rattle.xet_base.specs.Steps.Lanes.{lane};
 
 pub(super) mod chunks;
 
-use super::{Words, digest, mix, words_of};
+use super::{ONE_BLOCK, Words, digest, mix, words_of};
 use std::simd::u32x4;
 
 // Four states, or four messages.
@@ -47,7 +47,7 @@ fn starts_of(key: &[u8; 32]) -> Lanes
         u32x4::splat(0),
         u32x4::splat(0),
         u32x4::splat(32),
-        u32x4::splat(27),
+        u32x4::splat(ONE_BLOCK),
     ]
 }
 

@@ -7,27 +7,21 @@ ghost use Rattle.xet_base.specs.Blake3.{block_state, xor_halves, chaining_value,
 ghost use Rattle.xet_base.specs.Steps.Lanes.{words_in};
 
 use super::four::chunks::four_chunks;
-use super::{Eight, Rows, Words, compress, words_in, words_of};
+use super::{
+    CHUNK_END, CHUNK_START, Eight, KEYED, PARENT, ROOT, Rows, Words, compress, words_in, words_of,
+};
 use crate::fields::put_u32;
 use std::simd::u32x4;
 
 // The bytes of a chunk, and of a block of it.
 const CHUNK_LEN: usize = 1024;
 
-const BLOCK_LEN: usize = 64;
-
-// The flags of a block.
-const CHUNK_START: u32 = 1;
-
-pub(super) const CHUNK_END: u32 = 2;
-
-const PARENT: u32 = 4;
-
-const ROOT: u32 = 8;
-
-const KEYED: u32 = 16;
+pub(super) const BLOCK_LEN: usize = 64;
 
 const FOUR_CHUNKS_LEN: usize = 4 * CHUNK_LEN;
+
+// The number of values of a word of 32 bits.
+const WORD_VALUES: u64 = 4294967296;
 
 /// The keyed hash of the bytes. Allocates nothing.
 #[tactic(auto, unfolding(crate::specs::Blake3::blake3_bytes))]
@@ -113,7 +107,13 @@ fn chunk_words(key: &Eight, t: u64, top: u32, bytes: &[u8]) -> Eight
     let whole = bytes.len().saturating_sub(1) / BLOCK_LEN;
     let mut words = *key;
     for n in 0..whole {
-        words = chaining_value(&words, block_at(bytes, n), t, 64, block_flags(n));
+        words = chaining_value(
+            &words,
+            block_at(bytes, n),
+            t,
+            BLOCK_LEN as u32,
+            block_flags(n),
+        );
     }
     let last_len = (bytes.len() - BLOCK_LEN * whole) as u32;
     chaining_value(
@@ -131,7 +131,13 @@ fn parent_words(key: &Eight, top: u32, left: &Eight, right: &Eight) -> Eight
     requires { top ≤ 8 }
     ensures { result ≡ parent_words key.now top left.now right.now }
 {
-    chaining_value(key, concat(left, right), 0, 64, KEYED + PARENT + top)
+    chaining_value(
+        key,
+        concat(left, right),
+        0,
+        BLOCK_LEN as u32,
+        KEYED + PARENT + top,
+    )
 }
 
 #[inline(always)]
@@ -176,14 +182,14 @@ fn block_state(before: &Eight, counter: u64, len: u32, flags: u32) -> Rows
 pub(super) fn low_word(counter: u64) -> u32
     ensures { result ≡ counter % 2 ^ 32 }
 {
-    (counter % 4294967296) as u32
+    (counter % WORD_VALUES) as u32
 }
 
 #[inline(always)]
 pub(super) fn high_word(counter: u64) -> u32
     ensures { result ≡ counter / 2 ^ 32 }
 {
-    (counter / 4294967296) as u32
+    (counter / WORD_VALUES) as u32
 }
 
 #[inline(always)]

@@ -4,8 +4,8 @@ ghost use Rattle.std.specs.Prelude.{◌≡◌, ℕ, ◌+◌, ◌*◌, ◌^◌, �
 ghost use Rattle.xet_base.specs.Blake3.{block_state, xor_halves, chaining_value, block_at, after_blocks, chunk_words};
 ghost use Rattle.xet_base.specs.Steps.Lanes.{lane, lane_of_eight};
 
-use super::super::Eight;
-use super::super::tree::{CHUNK_END, block_flags, high_word, low_word, whole_block};
+use super::super::tree::{BLOCK_LEN, block_flags, high_word, low_word, whole_block};
+use super::super::{CHUNK_END, Eight};
 use super::{Lanes, compress, word};
 use std::simd::u32x4;
 
@@ -99,7 +99,7 @@ fn block_states(before: &EightLanes, t: u64, flags: u32) -> Lanes
             high_word(t + 2),
             high_word(t + 3),
         ]),
-        u32x4::splat(64),
+        u32x4::splat(BLOCK_LEN as u32),
         u32x4::splat(flags),
     ]
 }
