@@ -229,21 +229,6 @@ impl FileDataSequenceHeader {
         rows
     }
 
-    /// The number of verification rows that the header announces.
-    pub fn verification_rows(&self) -> u32
-        ensures { result
-            ≡ (if has_verification self.now.file_flags then self.now.num_entries else 0) }
-    {
-        self.part_rows(OptionalPart::Verification)
-    }
-
-    /// The number of metadata rows that the header announces, 1 or 0.
-    pub fn metadata_rows(&self) -> u32
-        ensures { result ≡ (if has_metadata_ext self.now.file_flags then 1 else 0) }
-    {
-        self.part_rows(OptionalPart::MetadataExt)
-    }
-
     // The flags with those of each part that only `other` announces.
     pub(super) fn merged_flags(&self, other: &Self) -> u32
         ensures { result ≡ self.now.file_flags + flags_of
