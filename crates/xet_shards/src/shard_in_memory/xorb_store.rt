@@ -19,7 +19,7 @@ use std::marker::Model;
 use std::rc::Rc;
 use xet_base::error::{CoreError, Result};
 use xet_base::merklehash::MerkleHash;
-use xet_records::rows::{Row, all_widths};
+use xet_records::rows::{ROW_LIMIT, Row, all_widths};
 use xet_records::xorb_structs::{MAX_XORB_BYTES, MDBXorbInfo};
 
 /// Well-formed xorbs, each under its hash, and a location of each of their chunk hashes. Contracts
@@ -256,7 +256,7 @@ pub fn is_well_formed(xorb: &MDBXorbInfo) -> bool
     let metadata = xorb.metadata;
     !metadata.is_bookend()
         && xorb.chunks.len() as u64 == u64::from(metadata.num_entries)
-        && metadata.num_entries < u32::MAX
+        && u64::from(metadata.num_entries) < ROW_LIMIT
         && sum_of_chunks(xorb) <= MAX_XORB_BYTES
 }
 
