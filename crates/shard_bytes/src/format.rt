@@ -5,7 +5,7 @@ ghost use Rattle.shard_bytes.specs.Format.{IsUnsupportedFor};
 
 use xet_core_structures::fields::split_u64;
 use xet_core_structures::record_reader::FormatVersion;
-use xet_core_structures::shard_format::MDBShardFileHeader;
+use xet_core_structures::shard_format::{MDBShardFileHeader, TAG_SIZE};
 
 /// Why the format of bytes is not supported.
 #[derive(Clone, Copy, Debug, PartialEq, Eq)]
@@ -24,10 +24,10 @@ pub(crate) fn unsupported_for(bytes: &[u8]) -> Format
     ensures { IsUnsupportedFor bytes.now result }
 {
     let tag = MDBShardFileHeader::default().tag;
-    if &bytes[..32] != tag.as_slice() {
+    if &bytes[..TAG_SIZE] != tag.as_slice() {
         return Format::NoTag;
     }
-    let (version, _) = split_u64(&bytes[32..]);
+    let (version, _) = split_u64(&bytes[TAG_SIZE..]);
     match FormatVersion::of_number(version) {
         Some(_) => Format::NoFooter,
         None => Format::OtherVersion(version),

@@ -13,6 +13,9 @@ pub use ends::info::MDBShardInfo;
 /// The size of a shard's header, in bytes.
 pub const HEADER_SIZE: u64 = 48;
 
+/// The size of a header's tag, in bytes.
+pub const TAG_SIZE: usize = 32;
+
 /// The size of a shard's footer, in bytes.
 pub const FOOTER_SIZE: u64 = 200;
 

@@ -17,9 +17,10 @@ use xet_base::error::{CoreError, Result};
 use xet_base::fields::put_u64;
 use xet_records::file_structs::FileDataSequenceHeader;
 use xet_records::record_reader::FormatVersion;
+use xet_shards::shard_format::TAG_SIZE;
 
-// Where the number of the version is in a header.
-const VERSION_OFFSET: usize = 32;
+// Where the number of the version is in a header: after the tag.
+const VERSION_OFFSET: usize = TAG_SIZE;
 
 /// The bytes of a part of a tree in a version. Those of an input are in the version that they have.
 ///

@@ -9,7 +9,7 @@ ghost use Rattle.xet_records.specs.declared.record_reader.FormatVersion.{FormatV
 ghost use Rattle.xet_records.specs.Version.{number_of, IsVersion, version_of};
 ghost use Rattle.xet_shards.specs.Write.Layout.{header_tag, shard_header_bytes, header_value};
 
-use crate::shard_format::{FOOTER_SIZE, HEADER_SIZE};
+use crate::shard_format::{FOOTER_SIZE, HEADER_SIZE, TAG_SIZE};
 use std::alloc::Global;
 use std::io::{Read, Write};
 use xet_base::error::{CoreError, Result};
@@ -18,18 +18,18 @@ use xet_base::serialization_utils::{read_bytes, write_bytes, write_u64};
 use xet_records::record_reader::FormatVersion;
 
 /// The tag at the front of every shard: a text and a magic number.
-const MDB_SHARD_HEADER_TAG: [u8; 32] = [
+const MDB_SHARD_HEADER_TAG: [u8; TAG_SIZE] = [
     b'H', b'F', b'R', b'e', b'p', b'o', b'M', b'e', b't', b'a', b'D', b'a', b't', b'a', 0, 85, 105,
     103, 69, 106, 123, 129, 87, 131, 165, 189, 217, 92, 205, 209, 74, 169,
 ];
 
 /// The size of a header after its tag, in bytes.
-pub(super) const AFTER_TAG: usize = HEADER_SIZE as usize - 32;
+pub(super) const AFTER_TAG: usize = HEADER_SIZE as usize - TAG_SIZE;
 
 /// The header of a shard.
 #[derive(Clone, Copy, Debug, PartialEq, Eq)]
 pub struct MDBShardFileHeader {
-    pub tag: [u8; 32],
+    pub tag: [u8; TAG_SIZE],
     pub version: u64,
     /// The size of the footer, in bytes.
     pub footer_size: u64,
@@ -98,7 +98,7 @@ impl MDBShardFileHeader {
         ensures end { IfErr result (SaysEndOfInput EndsInHeader (R.remaining reader.old)) }
         ensures causes { IfErr result (λ e. IsDeviceError e ⊎ IsBareShardVersion e) }
     {
-        let mut tag = [0u8; 32];
+        let mut tag = [0u8; TAG_SIZE];
         read_bytes(reader, &mut tag)?;
         check_tag(alloc, &tag)?;
         let mut rest = [0u8; AFTER_TAG];
@@ -130,7 +130,7 @@ impl MDBShardFileHeader {
 }
 
 // `ShardVersion` if the tag differs.
-pub(in crate::shard_format) fn check_tag(alloc: Global, tag: &[u8; 32]) -> Result<()>
+pub(in crate::shard_format) fn check_tag(alloc: Global, tag: &[u8; TAG_SIZE]) -> Result<()>
     ensures ok { OnOk result (tag.now ≡ header_tag) }
     ensures err { IfErr result (λ e. IsBareShardVersion e × (tag.now ≢ header_tag)) }
 {

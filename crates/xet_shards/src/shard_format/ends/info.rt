@@ -22,10 +22,10 @@ ghost use Rattle.xet_shards.specs.Ends.Ends.{HasHeaderAndFooter, HasUnsupportedH
 use super::footer::{AFTER_VERSION, MDBShardFileFooter, check_version};
 use super::header::{AFTER_TAG, MDBShardFileHeader, check_tag};
 use super::options::LayoutOptions;
-use crate::shard_format::FOOTER_SIZE;
 use crate::shard_format::read::section_reader::{read_section_at, read_xorb_headers};
 use crate::shard_format::write::writer::{HoldsRecord, write_end, write_values};
 use crate::shard_format::write::written::{WrittenFiles, WrittenXorbs};
+use crate::shard_format::{FOOTER_SIZE, TAG_SIZE};
 use crate::shard_in_memory::MDBInMemoryShard;
 use std::alloc::Global;
 use std::collections::BTreeMap;
@@ -291,7 +291,7 @@ pub(crate) fn read_header<S: ShardSource>(
         (PartFails HasUnsupportedHeader EndsInHeader 48 (S.meaning source.old)
         (S.meaning source.new)) }
 {
-    let mut tag = [0u8; 32];
+    let mut tag = [0u8; TAG_SIZE];
     read_full(source, &mut tag)?;
     check_tag(alloc, &tag)?;
     let mut rest = [0u8; AFTER_TAG];
