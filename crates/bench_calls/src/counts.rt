@@ -8,7 +8,7 @@ use shard_bytes::find::find_file;
 use std::alloc::Global;
 use xet_core_structures::error::Result;
 use xet_core_structures::merklehash::MerkleHash;
-use xet_core_structures::shard_format::MDBShardInfo;
+use xet_core_structures::shard_format::{MDBShardInfo, MOST_FOUND};
 use xet_core_structures::shard_in_memory::MDBInMemoryShard;
 use xet_core_structures::source::MemorySource;
 use xet_core_structures::streaming_shard::MDBMinimalShard;
@@ -80,7 +80,7 @@ pub fn rows_found(
     files: &[MerkleHash],
 ) -> Result<u64> {
     let mut source = MemorySource::new(shard);
-    let mut dest = [0; 8];
+    let mut dest = [0; MOST_FOUND];
     let mut rows: u64 = 0;
     for file in files {
         let found = info.get_file_info_index_by_hash(alloc, &mut source, file, &mut dest)?;

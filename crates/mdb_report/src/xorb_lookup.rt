@@ -9,7 +9,7 @@ use std::alloc::Global;
 use std::fmt;
 use xet_core_structures::error::Result;
 use xet_core_structures::merklehash::MerkleHash;
-use xet_core_structures::shard_format::MDBShardInfo;
+use xet_core_structures::shard_format::{MDBShardInfo, MOST_FOUND};
 use xet_core_structures::source::{MemorySource, ShardSource};
 use xet_core_structures::xorb_structs::MDBXorbInfo;
 
@@ -76,7 +76,7 @@ fn find_xorb<S: ShardSource>(
 ) -> Result<Option<MDBXorbInfo>>
     ensures { IfOk result (λ found. IfSome found (λ xorb. xorb.metadata.xorb_hash ≡ hash.now)) }
 {
-    let mut rows = [0u32; 8];
+    let mut rows = [0u32; MOST_FOUND];
     let count = info.get_xorb_info_index_by_hash(alloc, source, hash, &mut rows)?;
     for row in rows.iter().take(count) {
         let xorb = info.read_xorb_info(alloc, source, *row)?;

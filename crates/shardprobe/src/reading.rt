@@ -10,7 +10,7 @@ use script_lines::words::{parse_hash, parse_optional_u64, parse_u32};
 use std::alloc::Global;
 use std::io::{self, Write};
 use xet_core_structures::error::Result as CoreResult;
-use xet_core_structures::shard_format::MDBShardInfo;
+use xet_core_structures::shard_format::{MDBShardInfo, MOST_FOUND};
 use xet_core_structures::source::{MemorySource, ShardSource};
 use xet_core_structures::streaming_shard::MDBMinimalShard;
 
@@ -147,7 +147,7 @@ impl Run<'_> {
         let hash = parse_hash(hash)?;
         macro_rules! show_found {
             ($call:ident, $none:expr) => {{
-                let mut found = [$none; 8];
+                let mut found = [$none; MOST_FOUND];
                 let count = info.$call(self.alloc, &mut self.first, &hash, &mut found)?;
                 found[..count].sort_unstable();
                 show_counted(&found[..count], out)?;

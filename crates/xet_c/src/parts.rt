@@ -25,6 +25,7 @@ use shard_bytes::parts::{file_in, find_places, find_rows, xorb_in};
 use std::alloc::Global;
 use xet_core_structures::error::{CoreError, Result};
 use xet_core_structures::file_structs::MDBFileInfo;
+use xet_core_structures::shard_format::MOST_FOUND;
 use xet_core_structures::xorb_structs::MDBXorbInfo;
 
 /// Where a chunk is: the row of the xorb section at which its xorb starts, and its index there.
@@ -81,7 +82,7 @@ fn rows_with(alloc: Global, table: &[u8], word: u64) -> Result<Vec<u32>>
         (λ e. (e ≡ CoreError.OutOfMemory)
         ⊎ CollidesAmong xorb_records (finite.values s.xorbs) word e) }
 {
-    let mut rows = [0; 8];
+    let mut rows = [0; MOST_FOUND];
     let count = find_rows(alloc, table, word, &mut rows)?;
     let mut found = Vec::new(alloc);
     found.extend_from_slice(&rows[..count])?;
@@ -118,7 +119,7 @@ fn places_with(alloc: Global, table: &[u8], word: u64) -> Result<Vec<XetChunkPla
         → MatchResult result (λ found. AreChunksWith (finite.values s.xorbs) word found.items)
         (λ e. e ≡ CoreError.OutOfMemory) }
 {
-    let mut places = [(0, 0); 8];
+    let mut places = [(0, 0); MOST_FOUND];
     let count = find_places(alloc, table, word, &mut places)?;
     places_of(alloc, &places[..count])
 }

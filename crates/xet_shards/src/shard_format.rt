@@ -25,5 +25,8 @@ pub const START_ROW_SIZE: usize = 12;
 /// The size of a row of the chunk table, in bytes.
 pub const CHUNK_ROW_SIZE: usize = 16;
 
+/// The most rows of a table that a lookup by the first word of a hash gives.
+pub const MOST_FOUND: usize = 8;
+
 /// The size of a shard without records, in bytes: a header, two bookends and a footer.
 pub(crate) const EMPTY_SIZE: u64 = 344;

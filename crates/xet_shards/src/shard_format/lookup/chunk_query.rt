@@ -26,6 +26,7 @@ ghost use Rattle.xet_shards.specs.Steps.RunReading.{OutcomeAt, OutcomeOfTries};
 ghost use Rattle.xet_shards.specs.Write.WrittenShard.{IsBytesWithInfo};
 
 use super::run_reader::{read_header_at, read_run_at};
+use crate::shard_format::MOST_FOUND;
 use crate::shard_format::ends::info::MDBShardInfo;
 use std::alloc::Global;
 use xet_base::error::{CoreError, Result};
@@ -159,7 +160,7 @@ fn query_by_table<S: ShardSource>(
     if info.metadata.chunk_lookup_num_entry == 0 {
         return Ok(None);
     }
-    let mut locations = [(0, 0); 8];
+    let mut locations = [(0, 0); MOST_FOUND];
     let found = info.get_xorb_info_index_by_chunk(alloc, source, first, &mut locations)?;
     first_run(info, alloc, source, query_hashes, &locations[..found])
 }

@@ -14,6 +14,7 @@ ghost use Rattle.xet_shards.specs.Lookup.Lookup.{FindsStarts, FindsFileAmong, Fi
 ghost use Rattle.xet_shards.specs.Write.WrittenShard.{IsBytesWithInfo};
 
 use super::table_search::find_rows;
+use crate::shard_format::MOST_FOUND;
 use crate::shard_format::ends::info::MDBShardInfo;
 use crate::shard_format::read::section_reader::read_record_at;
 use crate::utils::truncate_hash;
@@ -36,7 +37,7 @@ impl MDBShardInfo {
         alloc: Global,
         source: &mut S,
         hash: &MerkleHash,
-        dest: &mut [u32; 8],
+        dest: &mut [u32; MOST_FOUND],
     ) -> Result<usize>
         ensures looks { LooksUpIndex (file_table self.now.metadata (S.meaning source.old))
             hash.now.word0 dest.old dest.new (S.meaning source.old) (S.meaning source.new) result }
@@ -116,7 +117,7 @@ fn look_up<S: ShardSource>(
     ensures no_failure { OnOk result (NoFailure (S.meaning source.old) (S.meaning source.new)) }
     ensures kept { (S.meaning source.new).bytes ≡ (S.meaning source.old).bytes }
 {
-    let mut rows = [0; 8];
+    let mut rows = [0; MOST_FOUND];
     let found = info.get_file_info_index_by_hash(alloc, source, hash, &mut rows)?;
     first_with_hash(info, alloc, source, hash, &rows[..found])
 }

@@ -6,6 +6,7 @@ ghost use Rattle.xet_shards.specs.Search.Table.{table_at, Finds, FitsTable, Sear
 ghost use Rattle.xet_shards.specs.Lookup.Lookup.{IsRowNumber, IsRowAndIndex, Searches, LooksUpIndex};
 
 use crate::interpolation_search::search_on_sorted_u64s;
+use crate::shard_format::MOST_FOUND;
 use std::alloc::Global;
 use std::io;
 use xet_base::error::{CoreError, Result};
@@ -70,7 +71,7 @@ pub(in crate::shard_format) fn find_rows<S: ShardSource>(
     start: u64,
     rows: u64,
     word: u64,
-    dest: &mut [u32; 8],
+    dest: &mut [u32; MOST_FOUND],
 ) -> Result<usize>
     ensures { LooksUpIndex (table_at (S.meaning source.old) start rows 4) word dest.old dest.new
         (S.meaning source.old) (S.meaning source.new) result }

@@ -16,6 +16,7 @@ ghost use Rattle.xet_shards.specs.Lookup.WrittenChunks.{FindsRows};
 ghost use Rattle.xet_shards.specs.Write.WrittenShard.{IsBytesWithInfo};
 
 use super::table_search::{find_rows, search_table};
+use crate::shard_format::MOST_FOUND;
 use crate::shard_format::ends::info::MDBShardInfo;
 use crate::shard_format::read::section_reader::read_record_at;
 use crate::utils::truncate_hash;
@@ -61,7 +62,7 @@ impl MDBShardInfo {
         alloc: Global,
         source: &mut S,
         unkeyed_hash: &MerkleHash,
-        dest: &mut [(u32, u32); 8],
+        dest: &mut [(u32, u32); MOST_FOUND],
     ) -> Result<usize>
         ensures looks { Searches (chunk_lookup_table self.now.metadata (S.meaning source.old))
             (under_key self.now.metadata.chunk_hash_hmac_key unkeyed_hash.now).word0 IsRowAndIndex 8
@@ -93,7 +94,7 @@ impl MDBShardInfo {
         alloc: Global,
         source: &mut S,
         hash: &MerkleHash,
-        dest: &mut [u32; 8],
+        dest: &mut [u32; MOST_FOUND],
     ) -> Result<usize>
         ensures looks { LooksUpIndex (xorb_table self.now.metadata (S.meaning source.old))
             hash.now.word0 dest.old dest.new (S.meaning source.old) (S.meaning source.new) result }
