@@ -134,8 +134,8 @@ abbrev pub all_with_aux_if : Bool → List MDBFileInfo → List MDBFileInfo
 all_with_aux_if wanted rs = if wanted then rs else map without_aux rs
 
 -- all parts are kept
-abbrev pub everything : KeptParts
-everything = record { verification = true; aux_ext = true }
+abbrev pub all_kept : KeptParts
+all_kept = record { verification = true; aux_ext = true }
 
 -- the record that is written where these parts are kept
 abbrev pub as_kept : KeptParts → MDBFileInfo → MDBFileInfo

@@ -21,7 +21,7 @@ use Rattle.xet_records.specs.XorbRow.{is_marked, with_mark}
 use Rattle.xet_records.specs.XorbRecord.{xorb_records}
 use Rattle.std.specs.Io.KnownBytes.{Appends}
 use Rattle.xet_records.specs.declared.file_structs.view.KeptParts.{KeptParts}
-use Rattle.xet_records.specs.View.{everything, as_kept}
+use Rattle.xet_records.specs.View.{all_kept, as_kept}
 use Rattle.xet_shards.specs.declared.streaming_shard.file_start.FileStart.{FileStart}
 use Rattle.xet_shards.specs.Write.WithOptions.{FitsSection}
 use Rattle.xet_shards.specs.Write.Layout.{LayoutOptions, layout_of}
@@ -113,7 +113,7 @@ size_of_kept kept m =
 -- the number of bytes of header, sections and footer, with auxiliary rows, and with verification
 -- rows if they are wanted; 0 if they are and there is no file or the first one has none
 abbrev pub serialized_size : Bool → MinimalShard → ℕ
-serialized_size wanted m = size_of_kept (record everything { verification = wanted }) m
+serialized_size wanted m = size_of_kept (record all_kept { verification = wanted }) m
 
 -- no tables, no key, the creation, and an expiry or 0
 abbrev pub minimal_options : ℕ → Option ℕ → LayoutOptions
@@ -145,7 +145,7 @@ WritesMinimalKept old new kept now m n =
 -- wanted, and marks at the starts of its files
 abbrev pub WritesMinimal : Option (List ℕ) → Option (List ℕ) → Bool → ℕ → MinimalShard → ℕ → Type 0
 WritesMinimal old new wanted now m n =
-    WritesMinimalKept old new (record everything { verification = wanted }) now m n
+    WritesMinimalKept old new (record all_kept { verification = wanted }) now m n
 
 -- a filter may be called with a reference to this element
 abbrev pub FiltersAt : {F X : Type 0} → Shared F (Bor X × Unit {0}) Bool → F → X → Type 0
