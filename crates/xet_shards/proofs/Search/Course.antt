@@ -1,13 +1,13 @@
 -- The seeks of a search on a sorted table: how each turn shortens the window.
 use Rattle.std.proofs.Common.{◌≡◌, inl, inr, ℕ, ◌+◌, ◌-◌, ◌*◌, ◌/◌, ◌<◌, ◌≤◌, min, max, refl, arith, mul-le-mul_right}
 use Rattle.std.proofs.lemmas.Bool.{cases_lt}
-use Rattle.xet_shards.specs.Steps.Probes.{guess_of, Around, AfterBelow, AfterAbove}
+use Rattle.xet_shards.specs.Steps.Probes.{guess_of, IsBetweenKeys, AfterBelow, AfterAbove}
 use Rattle.xet_shards.proofs.Search.Progress.{Shrinks, IsProbe, IsMatching, Course}
 use Rattle.xet_shards.proofs.Search.Quarter.{left_below, left_above}
 use Rattle.xet_shards.proofs.Search.Probing.{guess_quotient, guess_most, below_within, above_within}
 
 -- a guess, and a guess below it
-guessed_below : (low low_key high high_key probe found key : ℕ) → Around low low_key high high_key key → low + 1 < probe → probe < high
+guessed_below : (low low_key high high_key probe found key : ℕ) → IsBetweenKeys low low_key high high_key key → low + 1 < probe → probe < high
     → probe ≡ guess_of low low_key high high_key key → found ≤ high_key → key < found
     → (q : ℕ) × (guess_of low low_key probe found key ≡ min (max (low + q) (low + 1)) (probe - 1)) × (4 * (probe - low) ≤ 4 * (q + 1) + (high - low))
 guessed_below low low_key high high_key probe found key around wide below guessed under past =
@@ -24,7 +24,7 @@ guessed_below low low_key high high_key probe found key around wide below guesse
     )
 
 -- a guess, and a guess above it
-guessed_above : (low low_key high high_key probe found key : ℕ) → Around low low_key high high_key key → low < probe → probe + 1 < high
+guessed_above : (low low_key high high_key probe found key : ℕ) → IsBetweenKeys low low_key high high_key key → low < probe → probe + 1 < high
     → probe ≡ guess_of low low_key high high_key key → low_key ≤ found → found < key
     → (q : ℕ) × (guess_of probe found high high_key key ≡ min (max (probe + q) (probe + 1)) (high - 1)) × (4 * q ≤ high - low + 4)
 guessed_above low low_key high high_key probe found key around above wide guessed over past =
@@ -50,7 +50,7 @@ guessed_above low low_key high high_key probe found key around above wide guesse
       ),
     )
 
-turn_below : (low low_key high high_key probe found key next : ℕ) → Around low low_key high high_key key → low + 256 < probe → probe < high
+turn_below : (low low_key high high_key probe found key next : ℕ) → IsBetweenKeys low low_key high high_key key → low + 256 < probe → probe < high
     → IsProbe low low_key high high_key key probe → found ≤ high_key → key < found → AfterBelow low probe (guess_of low low_key probe found key) next
     → Shrinks low probe next (high - low)
 turn_below low low_key high high_key probe found key next around wide below chosen under past after =
@@ -71,7 +71,7 @@ turn_below low low_key high high_key probe found key next around wide below chos
       ];
     }
 
-turn_above : (low low_key high high_key probe found key next : ℕ) → Around low low_key high high_key key → low < probe → probe + 256 < high
+turn_above : (low low_key high high_key probe found key next : ℕ) → IsBetweenKeys low low_key high high_key key → low < probe → probe + 256 < high
     → IsProbe low low_key high high_key key probe → low_key ≤ found → found < key → AfterAbove high probe (guess_of probe found high high_key key) next
     → Shrinks probe high next (high - low)
 turn_above low low_key high high_key probe found key next around above wide chosen over past after =
@@ -101,7 +101,7 @@ course_start R all high_key key = inl (record {
   chosen = λ wide. inl refl;
 })
 
-module _ (R R' : Type 0) (all later low low_key high high_key key probe made found next : ℕ) (around : Around low low_key high high_key key)
+module _ (R R' : Type 0) (all later low low_key high high_key key probe made found next : ℕ) (around : IsBetweenKeys low low_key high high_key key)
     (running : low + 256 < high) (above : low < probe) (below : probe < high) where
   pub course_below : Course R all later low low_key high high_key key probe made → (R → ⊥) → found ≤ high_key → key < found
       → AfterBelow low probe (guess_of low low_key probe found key) next → (later' : ℕ) → Course R' all later' low low_key probe found key next (made + 1)

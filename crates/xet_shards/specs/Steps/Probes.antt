@@ -10,7 +10,7 @@ guess_of low low_key high high_key key =
     min (max (low + (key - low_key) * (high - low) / (high_key - low_key)) (low + 1)) (high - 1)
 
 -- the key is between the keys of two rows, which differ
-pub record Around (low low_key high high_key key : ℕ) : Type 0 where
+pub record IsBetweenKeys (low low_key high high_key key : ℕ) : Type 0 where
   pub rows : low < high
   pub below : low_key ≤ key
   pub above : key ≤ high_key
@@ -18,7 +18,7 @@ pub record Around (low low_key high high_key key : ℕ) : Type 0 where
 
 -- the key is between the keys of the rows at the two ends of a window, which differ
 abbrev pub AroundKey : Window → ℕ → Type 0
-AroundKey w key = Around w.low w.low_key w.high w.high_key key
+AroundKey w key = IsBetweenKeys w.low w.low_key w.high w.high_key key
 
 -- the next probe below a probed row: the guess, or where that is nearer, a step of 256 rows, as far
 -- as row `low` + 1

@@ -1,7 +1,7 @@
 //! The rows that a search has still to look at, and which of them it probes next.
 
 ghost use Rattle.std.specs.Prelude.{◌≡◌, ◌+◌, ◌^◌, ◌<◌};
-ghost use Rattle.xet_shards.specs.Steps.Probes.{guess_of, Around, AroundKey, AfterBelow, AfterAbove, IsWhole, Narrows, KeepsEven};
+ghost use Rattle.xet_shards.specs.Steps.Probes.{guess_of, IsBetweenKeys, AroundKey, AfterBelow, AfterAbove, IsWhole, Narrows, KeepsEven};
 
 /// The rows after `low` and before `high`, counted from 1, with the keys at both ends. Row 0,
 /// before the table, has the key 0, and the row after the table the key `u64::MAX`. Row `probe` is
@@ -81,7 +81,7 @@ impl Window {
 // Where the key is, if keys rise evenly from `low` to `high`; never one of these two.
 #[tactic(auto, unfolding(crate::specs::Steps::Probes::guess_of))]
 fn guess(low: u64, low_key: u64, high: u64, high_key: u64, key: u64) -> u64
-    requires { Around low low_key high high_key key }
+    requires { IsBetweenKeys low low_key high high_key key }
     ensures { result ≡ guess_of low low_key high high_key key }
 {
     let rows = (key - low_key) as u128 * (high - low) as u128 / (high_key - low_key) as u128;
@@ -92,7 +92,7 @@ fn guess(low: u64, low_key: u64, high: u64, high_key: u64, key: u64) -> u64
 // is nearer.
 #[tactic(auto, unfolding(crate::specs::Steps::Probes::guess_of))]
 fn probe_below(low: u64, low_key: u64, probe: u64, found: u64, key: u64) -> u64
-    requires { Around low low_key probe found key }
+    requires { IsBetweenKeys low low_key probe found key }
     ensures { AfterBelow low probe (guess_of low low_key probe found key) result }
 {
     let next = guess(low, low_key, probe, found, key);
@@ -106,7 +106,7 @@ fn probe_below(low: u64, low_key: u64, probe: u64, found: u64, key: u64) -> u64
 // is nearer.
 #[tactic(auto, unfolding(crate::specs::Steps::Probes::guess_of))]
 fn probe_above(probe: u64, found: u64, high: u64, high_key: u64, key: u64) -> u64
-    requires { Around probe found high high_key key }
+    requires { IsBetweenKeys probe found high high_key key }
     ensures { AfterAbove high probe (guess_of probe found high high_key key) result }
 {
     let next = guess(probe, found, high, high_key, key);
