@@ -23,7 +23,7 @@ use Rattle.xet_shards.specs.declared.shard_format.export.part_order.EndHashes.{E
 use Rattle.xet_shards.specs.declared.shard_format.export.section_parts.SectionPart.{SectionPart}
 use Rattle.xet_shards.specs.Read.TableReading.{FitsStart}
 use Rattle.xet_shards.specs.Steps.InARow.{HoldSections, all_of}
-use Rattle.xet_shards.specs.Steps.PartOrder.{HoldsRecords, IsLastHash, HasEnds, is_after}
+use Rattle.xet_shards.specs.Steps.PartOrder.{PartHoldsRecords, IsLastHash, HasEnds, is_after}
 use Rattle.xet_shards.specs.Write.Section.{total_rows}
 use Rattle.xet_shards.specs.Write.Tables.{hash_in, start_row, starts, table_bytes}
 use Rattle.xet_shards.specs.Write.WithOptions.{Ascends}
@@ -139,7 +139,7 @@ module _ {H R : Type 0} (K : RecordKind H R) (laws : KindLaws K) where
       )
 
   -- a section with records has a first and a last record
-  module _ (section : SectionPart) (records : List R) (holds : HoldsRecords K section records) (some : 0 < length records) where
+  module _ (section : SectionPart) (records : List R) (holds : PartHoldsRecords K section records) (some : 0 < length records) where
     seam : (front : List R) × (r : R) × (records ≡ front ++ r ∷ [])
     seam = go records some where
       go : (rs : List R) → 0 < length rs → (front : List R) × (r : R) × (rs ≡ front ++ r ∷ [])
@@ -216,7 +216,7 @@ module _ {H R : Type 0} (K : RecordKind H R) (laws : KindLaws K) (sections : Lis
     abbrev here : List R
     here = get_or records i []
 
-    pub holds_here : HoldsRecords K (get_or sections i d) here
+    pub holds_here : PartHoldsRecords K (get_or sections i d) here
     holds_here = record {
       rows = sym (get_or-map (λ (s : SectionPart). s.rows.now) sections i d [] below) ∙ ap (λ bs. get_or bs i []) hold.rows ∙ get_or-map (flat_map K.record_bytes) records i [] [] within;
       table = sym (get_or-map (λ (s : SectionPart). s.table.now) sections i d [] below) ∙ ap (λ bs. get_or bs i []) hold.tables ∙ get_or-map (table_bytes K) records i [] [] within;
@@ -242,10 +242,10 @@ module _ {H R : Type 0} (K : RecordKind H R) (laws : KindLaws K) (sections : Lis
       go [] are = absurd (omega (arith, some, ap length are))
       go (r ∷ rs) are = omega arith
 
-    pub not_found : ((rs : List R) → HoldsRecords K (get_or sections i d) rs → 0 < length rs → ⊥) → false ≡ (length (get_or sections i d).rows.now == 0) → ⊥
+    pub not_found : ((rs : List R) → PartHoldsRecords K (get_or sections i d) rs → 0 < length rs → ⊥) → false ≡ (length (get_or sections i d).rows.now == 0) → ⊥
     not_found none full = none here holds_here (some_here full)
 
-    pub next_ascend : (last : Option DataHash) (ends : EndHashes) → AscendTo K (all_of (take i records)) last → ((rs : List R) → HoldsRecords K (get_or sections i d) rs → 0 < length rs → HasEnds K rs ends)
+    pub next_ascend : (last : Option DataHash) (ends : EndHashes) → AscendTo K (all_of (take i records)) last → ((rs : List R) → PartHoldsRecords K (get_or sections i d) rs → 0 < length rs → HasEnds K rs ends)
         → false ≡ (length (get_or sections i d).rows.now == 0) → is_after last ends.first ≡ true → AscendTo K (all_of (take (i + 1) records)) (Some ends.last)
     next_ascend last ends before found full after = record { ascend = subst (Ascends K) (sym more) (ascends_with_next last before.ascend before.last_is after); last_is = last_there } where
       has : HasEnds K here ends
@@ -263,7 +263,7 @@ module _ {H R : Type 0} (K : RecordKind H R) (laws : KindLaws K) (sections : Lis
           subst (λ rs. Ascends K (rs ++ here)) (sym are) (subst (λ rs. Ascends K ((front ++ r ∷ []) ++ rs)) (sym has.records_are)
           (rises_on (hash_in K) front r has.first_record has.rest (subst (Ascends K) are ascend) (subst (Ascends K) has.records_are (each i [] within)) less))
 
-    pub not_ascending : (last : Option DataHash) (ends : EndHashes) → AscendTo K (all_of (take i records)) last → ((rs : List R) → HoldsRecords K (get_or sections i d) rs → 0 < length rs → HasEnds K rs ends)
+    pub not_ascending : (last : Option DataHash) (ends : EndHashes) → AscendTo K (all_of (take i records)) last → ((rs : List R) → PartHoldsRecords K (get_or sections i d) rs → 0 < length rs → HasEnds K rs ends)
         → false ≡ (length (get_or sections i d).rows.now == 0) → is_after last ends.first ≡ false → Ascends K (all_of records) → ⊥
     not_ascending last ends before found full after ascend = go last before.last_is after where
       has : HasEnds K here ends

@@ -10,7 +10,7 @@ use Rattle.xet_shards.specs.Read.TableReading.{FitsStart}
 use Rattle.xet_shards.specs.Write.Tables.{hash_in, starts, table_bytes}
 
 -- a section holds the rows of these stored records, and their table
-pub record HoldsRecords {H R : Type 0} (K : RecordKind H R) (section : SectionPart) (records : List R) : Type 0 where
+pub record PartHoldsRecords {H R : Type 0} (K : RecordKind H R) (section : SectionPart) (records : List R) : Type 0 where
   pub rows : section.rows.now ≡ flat_map K.record_bytes records
   pub table : section.table.now ≡ table_bytes K records
   pub fits : All FitsStart (starts K records)

@@ -4,7 +4,7 @@ ghost use Rattle.std.specs.Prelude.{◌≡◌, ◌+◌, ◌-◌, ◌*◌, ◌<�
 ghost use Rattle.xet_base.specs.Errors.{IsInvalidShard};
 ghost use Rattle.xet_records.specs.Rows.{ReadsRow};
 ghost use Rattle.xet_shards.specs.Steps.InARow.{HoldSections, all_of};
-ghost use Rattle.xet_shards.specs.Steps.PartOrder.{HoldsRecords, HasEnds, is_after};
+ghost use Rattle.xet_shards.specs.Steps.PartOrder.{PartHoldsRecords, HasEnds, is_after};
 ghost use Rattle.xet_base.specs.Bytes.{u32_bytes};
 ghost use Rattle.xet_shards.specs.Write.WithOptions.{Ascends};
 
@@ -69,7 +69,7 @@ fn is_after(first: &MerkleHash, last: Option<MerkleHash>) -> bool
 
 // The hashes of the first and of the last record of a section, or `None` if one of them is missing.
 fn end_hashes<R: SectionRecord>(section: &SectionPart<'_>) -> Option<EndHashes>
-    ensures { (records : List R) → HoldsRecords R.kind section.now records → 0 < length records
+    ensures { (records : List R) → PartHoldsRecords R.kind section.now records → 0 < length records
         → MatchOption result ⊥ (HasEnds R.kind records) }
 {
     R::laws();
