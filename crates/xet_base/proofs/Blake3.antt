@@ -93,20 +93,20 @@ cond_false : {A : Type 0} (b : Bool) (x y : A) → b ≡ false → y ≡ (if b t
 cond_false b x y is = ap (λ c. if c then x else y) (sym is)
 
 -- a tree of at most half as many chunks, and one of more
-pub smaller : (key : List ℕ) (n m t top : ℕ) (bytes : List ℕ) → n ≡ m + 1 → length bytes ≤ 1024 * 2 ^ m
+pub half_is_tree : (key : List ℕ) (n m t top : ℕ) (bytes : List ℕ) → n ≡ m + 1 → length bytes ≤ 1024 * 2 ^ m
     → tree_words key m t top bytes ≡ tree_words key n t top bytes
 unfolding tree_words
-smaller key n m t top bytes is fits =
+half_is_tree key n m t top bytes is fits =
     cond_true (nat_le (length bytes) (1024 * 2 ^ m)) (tree_words key m t top bytes)
     (parent_words key top (tree_words key m t 0 (take (1024 * 2 ^ m) bytes)) (tree_words key m (t + 2 ^ m) 0 (drop (1024 * 2 ^ m) bytes)))
     (le-leb (length bytes) (1024 * 2 ^ m) fits)
     ∙ sym (ap (λ k. tree_words key k t top bytes) (is ∙ add-one m))
 
-pub larger : (key : List ℕ) (n m t top : ℕ) (bytes : List ℕ) → n ≡ m + 1 → 1024 * 2 ^ m < length bytes
+pub parent_is_tree : (key : List ℕ) (n m t top : ℕ) (bytes : List ℕ) → n ≡ m + 1 → 1024 * 2 ^ m < length bytes
     → parent_words key top (tree_words key m t 0 (take (1024 * 2 ^ m) bytes)) (tree_words key m (t + 2 ^ m) 0 (drop (1024 * 2 ^ m) bytes))
     ≡ tree_words key n t top bytes
 unfolding tree_words
-larger key n m t top bytes is more =
+parent_is_tree key n m t top bytes is more =
     cond_false (nat_le (length bytes) (1024 * 2 ^ m)) (tree_words key m t top bytes)
     (parent_words key top (tree_words key m t 0 (take (1024 * 2 ^ m) bytes)) (tree_words key m (t + 2 ^ m) 0 (drop (1024 * 2 ^ m) bytes)))
     (lt-leb (length bytes) (1024 * 2 ^ m) more)
@@ -122,7 +122,7 @@ parts_are key n m t top half bytes front rest left right is half_is more front_i
     left_is ∙ ap (tree_words key m t 0) (front_is ∙ ap (λ h. take (1024 * h) bytes) half_is) in
     let is_right : right ≡ tree_words key m (t + 2 ^ m) 0 (drop (1024 * 2 ^ m) bytes) =
     right_is ∙ ap (tree_words key m (t + half) 0) rest_is ∙ ap (λ h. tree_words key m (t + h) 0 (drop (1024 * h) bytes)) half_is in
-    ap₂ (parent_words key top) is_left is_right ∙ larger key n m t top bytes is (subst (λ h. 1024 * h < length bytes) half_is more)
+    ap₂ (parent_words key top) is_left is_right ∙ parent_is_tree key n m t top bytes is (subst (λ h. 1024 * h < length bytes) half_is more)
 
 -- four chunks
 pub four_are : (key : List ℕ) (t top : ℕ) (bytes front back a b c d : List ℕ) → length bytes ≡ 4096 → front ≡ take 2048 bytes → back ≡ drop 2048 bytes
@@ -149,14 +149,14 @@ pow-double n m is = ap (λ k. 2 ^ k) (is ∙ add-one m) ∙ omega (arith, pow-su
 one_chunk : (key : List ℕ) (n t top : ℕ) (bytes : List ℕ) → length bytes ≤ 1024 → tree_words key n t top bytes ≡ chunk_words key t top bytes
 one_chunk key zero t top bytes fits = sym (leaf_is_chunk key 0 t top bytes refl)
 one_chunk key (suc n) t top bytes fits =
-    sym (smaller key (suc n) n t top bytes (sym (add-one n)) (omega (arith, fits, pow_pos n))) ∙ one_chunk key n t top bytes fits
+    sym (half_is_tree key (suc n) n t top bytes (sym (add-one n)) (omega (arith, fits, pow_pos n))) ∙ one_chunk key n t top bytes fits
 
 -- a tree with room to spare
 taller_tree_is_same : (key : List ℕ) (d n t top : ℕ) (bytes : List ℕ) → length bytes ≤ 1024 * 2 ^ n → tree_words key n t top bytes ≡ tree_words key (d + n) t top bytes
 taller_tree_is_same key zero n t top bytes fits = let same : n ≡ 0 + n = omega arith in ap (λ m. tree_words key m t top bytes) same
 taller_tree_is_same key (suc d) n t top bytes fits =
     taller_tree_is_same key d n t top bytes fits
-    ∙ smaller key (suc d + n) (d + n) t top bytes (omega arith) (le_trans fits (omega (arith, pow-le-pow_right {n = 2} (omega arith) {i = n} {j = d + n} (omega arith))))
+    ∙ half_is_tree key (suc d + n) (d + n) t top bytes (omega arith) (le_trans fits (omega (arith, pow-le-pow_right {n = 2} (omega arith) {i = n} {j = d + n} (omega arith))))
 
 pub whole_tree : (key : List ℕ) (level : ℕ) (bytes : List ℕ) → level ≤ 54 → length bytes ≤ 1024 * 2 ^ level
     → tree_words key level 0 root_flag bytes ≡ tree_words key 54 0 root_flag bytes

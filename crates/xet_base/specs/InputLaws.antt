@@ -111,9 +111,9 @@ source_fails old new n e f fails made = record {
   cause = read_failure old new n e f fails.cause made;
 }
 
-later : (old new : Source) (k n most : ℕ) (f : CoreError) → k + n ≤ most
+fails_after_read : (old new : Source) (k n most : ℕ) (f : CoreError) → k + n ≤ most
     → ReadFails (after_read old k) new n f → ReadFails old new most f
-later old new k n most f within fails = record {
+fails_after_read old new k n most f within fails = record {
   some = omega (arith, fails.some, within);
   bytes = fails.bytes;
   seeks = fails.seeks;
@@ -129,7 +129,7 @@ later old new k n most f within fails = record {
 pub source_fails_later : (a b c : Source) (xs : List ℕ) (n most : ℕ) (f : CoreError) → ReadsBytes a b xs
     → ReadFails b c n f → length xs + n ≤ most → ReadFails a c most f
 source_fails_later a b c xs n most f taken fails within =
-    later a c (length xs) n most f within (subst (λ s. ReadFails s c n f) taken.after fails)
+    fails_after_read a c (length xs) n most f within (subst (λ s. ReadFails s c n f) taken.after fails)
 
 pub source_lacks_memory : (a b : Source) (xs : List ℕ) (most : ℕ) (f : CoreError) → ReadsBytes a b xs
     → length xs ≤ most → 0 < most → f ≡ OutOfMemory → ReadFails a b most f

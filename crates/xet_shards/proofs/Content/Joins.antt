@@ -58,8 +58,8 @@ module _ (q : DataHash) where
   rows_kept : (v : Bool) (xs : List HashRow) → unwrap_or (if v then Some xs else None) [] ≡ (if v then xs else [])
   rows_kept v xs = grind arith
 
-  pub plain : (r : MDBFileInfo) → HasPlainHeader r → IsPlain r
-  plain r has =
+  pub plain_by_header : (r : MDBFileInfo) → HasPlainHeader r → IsPlain r
+  plain_by_header r has =
       let flags : r.metadata.file_flags ≡ flags_of (λ part. is_some (part_in part r)) = has.flags ∙ (λ i. flags_of (λ part. is_some-cond (has_part r part) (rows_of part r) i)) in
       sym (with_parts-rows_of r)
       ∙ (λ i. with_parts (record { file_hash = sym has.keyed i; file_flags = flags i; num_entries = sym has.segments i; _unused = has.reserved i }) r.segments
@@ -134,7 +134,7 @@ module _ (q : DataHash) where
 
 -- each file of a shard is determined by its parts
 pub follows_parts : (s : Shard) → IsShard s → FollowsParts s
-follows_parts s shard q r at = plain q r (known_header q r (is_known s q r shard at))
+follows_parts s shard q r at = plain_by_header q r (known_header q r (is_known s q r shard at))
 
 pub plain_file : (s : Shard) → FollowsParts s → (q : DataHash) → IsPlainFile q (get s.files q)
 plain_file s follows q r at = plain_header q r (follows q r at)
@@ -162,7 +162,7 @@ module _ (xs ys : List Shard) (a b c : Shard) (first : IsJoinOf (Contains xs) a)
         (same_segments q (get a.files q) (get b.files q) (agree.files q)) (first.segments q) (second.segments q);
     parts = λ part q. of_either (part_under part q) (ap (option_and_then (part_in part)) (union.files q) ∙ part_either q part (get a.files q) (get b.files q))
         (same_part q part (get a.files q) (get b.files q) (agree.files q)) (first.parts part q) (second.parts part q);
-    follows = λ q t at. plain q t (plain_either q (get a.files q) (get b.files q) (plain_file a first.follows q) (plain_file b second.follows q) t (sym (union.files q) ∙ at));
+    follows = λ q t at. plain_by_header q t (plain_either q (get a.files q) (get b.files q) (plain_file a first.follows q) (plain_file b second.follows q) t (sym (union.files q) ∙ at));
   }
 
 same_option : {X : Type 0} (o p : Option X) → ((x : X) → o ≡ Some x → p ≡ Some x) → ((x : X) → p ≡ Some x → o ≡ Some x) → o ≡ p

@@ -22,7 +22,7 @@ use Rattle.xet_shards.specs.Content.SetOperations.{ShardsAgree}
 use Rattle.xet_shards.specs.Content.Joins.{IsJoinOf, HasWhatAnyHas, part_under}
 use Rattle.xet_shards.specs.Content.ShardsWithoutAux.{entries_without_aux, shard_without_aux}
 use Rattle.xet_shards.proofs.Content.FilesWithoutAux.{rows-without_aux}
-use Rattle.xet_shards.proofs.Content.Joins.{HasPlainHeader, plain, plain_file}
+use Rattle.xet_shards.proofs.Content.Joins.{HasPlainHeader, plain_by_header, plain_file}
 use Rattle.xet_shards.proofs.Content.MappedMaps.{entries-mapped, values-mapped, get-mapped, mapped_some}
 use Rattle.xet_shards.proofs.Content.MappedShards.{unmapped_member, part_kept}
 
@@ -138,5 +138,5 @@ module _ (shards : List Shard) (c : Shard) where
     follows = λ q r has.
         let mine = mapped_some without_aux (get c.files q) r (sym (get-without_aux c q) ∙ has) in
         subst (λ (t : MDBFileInfo). t ≡ file_with q t.segments (λ part. part_in part t)) mine.2
-        (plain q (without_aux mine.0) (plain_without_aux q mine.0 (plain_file c join.follows q mine.0 mine.1)));
+        (plain_by_header q (without_aux mine.0) (plain_without_aux q mine.0 (plain_file c join.follows q mine.0 mine.1)));
   }

@@ -113,8 +113,8 @@ module _ (bytes : List ℕ) (info : MDBShardInfo) (files : List MDBFileInfo) (xo
       (more_same bytes written_bytes footer.xorb_lookup_offset footer.chunk_lookup_offset (omega arith) xorb_table
       (more_same bytes written_bytes footer.chunk_lookup_offset footer.footer_offset (omega arith) chunk_table same_end)))))
 
-positive : (n : ℕ) → 0 < n → nat_lt 0 n ≡ true
-positive n some = grind (arith, nat_tests)
+nat_lt-positive : (n : ℕ) → 0 < n → nat_lt 0 n ≡ true
+nat_lt-positive n some = grind (arith, nat_tests)
 
 -- a table without rows may be in or not
 module _ (files : List MDBFileInfo) (xorbs : List MDBXorbInfo) where
@@ -122,13 +122,13 @@ module _ (files : List MDBFileInfo) (xorbs : List MDBXorbInfo) where
   unfolding layout_of table_bytes
   file_flag false rs options = refl
   file_flag true [] options = refl
-  file_flag true (r ∷ rs) options = ap (λ t. layout_of (r ∷ rs) xorbs (record options { file_table = t })) (positive (length (starts file_records (r ∷ rs))) (omega arith))
+  file_flag true (r ∷ rs) options = ap (λ t. layout_of (r ∷ rs) xorbs (record options { file_table = t })) (nat_lt-positive (length (starts file_records (r ∷ rs))) (omega arith))
 
   xorb_flag : (b : Bool) (xs : List MDBXorbInfo) (options : LayoutOptions) → layout_of files xs (record options { xorb_table = nat_lt 0 (length (if_included b (starts xorb_records xs))) }) ≡ layout_of files xs (record options { xorb_table = b })
   unfolding layout_of table_bytes
   xorb_flag false xs options = refl
   xorb_flag true [] options = refl
-  xorb_flag true (x ∷ xs) options = ap (λ t. layout_of files (x ∷ xs) (record options { xorb_table = t })) (positive (length (starts xorb_records (x ∷ xs))) (omega arith))
+  xorb_flag true (x ∷ xs) options = ap (λ t. layout_of files (x ∷ xs) (record options { xorb_table = t })) (nat_lt-positive (length (starts xorb_records (x ∷ xs))) (omega arith))
 
   no_chunk_bytes : chunk_table xorbs ≡ [] → chunk_table_bytes xorbs ≡ []
   unfolding chunk_table_bytes
@@ -143,7 +143,7 @@ module _ (files : List MDBFileInfo) (xorbs : List MDBXorbInfo) where
   chunk_flag false rows options is = refl
   chunk_flag true [] options is = ap (λ (rows : List ChunkTableRow). layout_of files xorbs (record options { chunk_table = nat_lt 0 (length rows) })) is ∙ no_chunks options is
   chunk_flag true (r ∷ rows) options is =
-      ap (λ t. layout_of files xorbs (record options { chunk_table = t })) (positive (length (chunk_table xorbs)) (omega (arith, ap length is)))
+      ap (λ t. layout_of files xorbs (record options { chunk_table = t })) (nat_lt-positive (length (chunk_table xorbs)) (omega (arith, ap length is)))
 
   -- so a layout is that with the layout options that its header and footer name
   pub form_again : (options : LayoutOptions) → layout_of files xorbs (options_of (info_of files xorbs options)) ≡ layout_of files xorbs options

@@ -10,18 +10,18 @@ use Rattle.xet_shards.specs.Search.Table.{Hit, OtherRow}
 use Rattle.xet_shards.proofs.Search.KnownTable.{sum_below}
 
 -- f, but 0 at i
-abbrev without : (ℕ → ℕ) → ℕ → ℕ → ℕ
-without f i j = if j == i then 0 else f j
+abbrev zeroed_at : (ℕ → ℕ) → ℕ → ℕ → ℕ
+zeroed_at f i j = if j == i then 0 else f j
 
-without-other : (f : ℕ → ℕ) (i j : ℕ) → j ≢ i → without f i j ≡ f j
-without-other f i j other = cond-false {A = ℕ} (j == i) 0 (f j) (ne_eqb j i other)
+zeroed_at-other : (f : ℕ → ℕ) (i j : ℕ) → j ≢ i → zeroed_at f i j ≡ f j
+zeroed_at-other f i j other = cond-false {A = ℕ} (j == i) 0 (f j) (ne_eqb j i other)
 
-sum_below-split : (f : ℕ → ℕ) (i n : ℕ) → sum_below f n ≡ sum_below (without f i) n + (if ltb i n then f i else 0)
+sum_below-split : (f : ℕ → ℕ) (i n : ℕ) → sum_below f n ≡ sum_below (zeroed_at f i) n + (if ltb i n then f i else 0)
 sum_below-split f i zero = grind arith
 sum_below-split f i (suc n) = grind (arith, sum_below-split f i n)
 
-sum_below-without : (f : ℕ → ℕ) (i n : ℕ) → i < n → sum_below f n ≡ sum_below (without f i) n + f i
-sum_below-without f i n within = grind (arith, sum_below-split f i n)
+sum_below-zeroed_at : (f : ℕ → ℕ) (i n : ℕ) → i < n → sum_below f n ≡ sum_below (zeroed_at f i) n + f i
+sum_below-zeroed_at f i n within = grind (arith, sum_below-split f i n)
 
 module _ {V : Type 0} where
   -- a row is in a list, or differs from each row of the list
@@ -35,11 +35,11 @@ module _ {V : Type 0} where
     ]
   ]
 
-  sum-without : (f : ℕ → ℕ) (i : ℕ) (found : List (Hit V)) → All (λ h. h.row ≢ i) found → sum_by (λ h. without f i h.row) found ≡ sum_by (λ h. f h.row) found
-  sum-without f i [] others = refl
-  sum-without f i (h ∷ found) others =
-      sum_by-cons (λ (g : Hit V). without f i g.row) h found
-      ∙ (λ k. without-other f i h.row (others 0 h (omega arith)) k + sum-without f i found (All-drop (λ (g : Hit V). g.row ≢ i) 1 (h ∷ found) others) k)
+  sum-zeroed_at : (f : ℕ → ℕ) (i : ℕ) (found : List (Hit V)) → All (λ h. h.row ≢ i) found → sum_by (λ h. zeroed_at f i h.row) found ≡ sum_by (λ h. f h.row) found
+  sum-zeroed_at f i [] others = refl
+  sum-zeroed_at f i (h ∷ found) others =
+      sum_by-cons (λ (g : Hit V). zeroed_at f i g.row) h found
+      ∙ (λ k. zeroed_at-other f i h.row (others 0 h (omega arith)) k + sum-zeroed_at f i found (All-drop (λ (g : Hit V). g.row ≢ i) 1 (h ∷ found) others) k)
       ∙ sym (sum_by-cons (λ (g : Hit V). f g.row) h found)
 
   -- the sum over distinct rows below n is at most that over all rows below n
@@ -50,9 +50,9 @@ module _ {V : Type 0} where
       omega (
         arith,
         sum_by-cons (λ (g : Hit V). f g.row) h found,
-        sum_below-without f h.row n (below 0 h (omega arith)),
-        sum-without f h.row found others,
-        sum_distinct (without f h.row) n found (λ i j d lt within. distinct (suc i) (suc j) d (omega (arith, lt)) (omega (arith, within)))
+        sum_below-zeroed_at f h.row n (below 0 h (omega arith)),
+        sum-zeroed_at f h.row found others,
+        sum_distinct (zeroed_at f h.row) n found (λ i j d lt within. distinct (suc i) (suc j) d (omega (arith, lt)) (omega (arith, within)))
             (All-drop (λ (g : Hit V). g.row < n) 1 (h ∷ found) below),
       )
 
@@ -61,7 +61,7 @@ module _ {V : Type 0} where
       → sum_below f n ≤ sum_by (λ h. f h.row) found → i < n → 0 < f i → (k : ℕ) × (k < length found) × ((d : Hit V) → (get_or found k d).row ≡ i)
   all_marked f n found i distinct below many within marked = elim (is_among i found) [
     | inl at ↦ at
-    | inr others ↦ absurd (omega (arith, many, marked, sum_below-without f i n within, sum-without f i found others, sum_distinct (without f i) n found distinct below))
+    | inr others ↦ absurd (omega (arith, many, marked, sum_below-zeroed_at f i n within, sum-zeroed_at f i found others, sum_distinct (zeroed_at f i) n found distinct below))
   ]
 
 one_marked : {X : Type 0} (weight : X → ℕ) (x : X) (b : Bool) → sum_by weight (if b then x ∷ [] else []) ≡ (if b then weight x else 0)

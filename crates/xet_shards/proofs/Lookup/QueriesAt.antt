@@ -66,8 +66,8 @@ module _ (q : QueryAt) {old mid : Source} {header : XorbChunkSequenceHeader} (so
   announces_none (inl bookend) = inl (record { header = header; rest = bytes_left mid; widths = read.fits; is_bookend = is.0 bookend; bytes_are = bytes_are })
   announces_none (inr (other, past)) = inr (header, bytes_left mid, begins other, past)
 
-  pub absent : {Absent : CoreError → Type 0} {e : CoreError} → (b ≡ true) ⊎ ((b ≡ false) × (header.num_entries ≤ q.index)) → Absent e → OutcomeAt Absent q old mid (Err e)
-  absent none is_absent = record {
+  pub absent_fails : {Absent : CoreError → Type 0} {e : CoreError} → (b ≡ true) ⊎ ((b ≡ false) × (header.num_entries ≤ q.index)) → Absent e → OutcomeAt Absent q old mid (Err e)
+  absent_fails none is_absent = record {
     answer = tt;
     refused = (some_hashes q some, inr (inr (inl (failures_same, is_absent, announces_none none))));
     nothing = λ none. absurd (some_hashes q some none);

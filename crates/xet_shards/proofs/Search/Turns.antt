@@ -13,8 +13,8 @@ use Rattle.xet_shards.proofs.Search.Course.{course_start, course_below, course_a
 use Rattle.xet_shards.proofs.Search.Collecting.{from_weaker, from_none}
 
 -- rows between two rows with the key have it too
-between : (t : Table) (key i j n : ℕ) → IsSorted t → IsRow t key i → IsRow t key j → i ≤ n → n ≤ j → IsRow t key n
-between t key i j n sorted first last from to =
+is_row_between : (t : Table) (key i j n : ℕ) → IsSorted t → IsRow t key i → IsRow t key j → i ≤ n → n ≤ j → IsRow t key n
+is_row_between t key i j n sorted first last from to =
     let there : HasKey t n = omega (arith, last.there, offset_of_row-le t.start t.width n j to) in
     let within : n < t.rows = omega (arith, to, last.within) in
     record {
@@ -32,7 +32,7 @@ between t key i j n sorted first last from to =
 four_more : (t : Table) (key i j : ℕ) → IsSorted t → IsRow t key i → IsRow t key j → i + 4 ≡ j → hits_below t key i + 4 ≤ hits_below t key j
 four_more t key i j sorted first last step =
     let next : (n : ℕ) → i ≤ n → n ≤ j → hits_below t key (n + 1) ≡ hits_below t key n + 1 =
-    λ n from to. let row = between t key i j n sorted first last from to in hits_below-hit t key n row.there row.same_key in
+    λ n from to. let row = is_row_between t key i j n sorted first last from to in hits_below-hit t key n row.there row.same_key in
     let two : i + 1 + 1 ≡ i + 2 = omega arith in
     let three : i + 2 + 1 ≡ i + 3 = omega arith in
     let four : i + 3 + 1 ≡ j = omega (arith, step) in

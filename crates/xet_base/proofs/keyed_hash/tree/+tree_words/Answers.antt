@@ -1,5 +1,5 @@
 use Rattle.std.proofs.Common.{◌+◌, ◌-◌, ◌*◌, ◌^◌, ◌≤◌, length, ◌∙◌, arith}
-use Rattle.xet_base.proofs.Blake3.{leaf_is_chunk, smaller, parts_are, pow-double}
+use Rattle.xet_base.proofs.Blake3.{leaf_is_chunk, half_is_tree, parts_are, pow-double}
 use Rattle.xet_base.proofs.keyed_hash.tree.+tree_words.Goals as goal
 
 pub returns-then-level-eq0 : goal.returns-then-level-eq0
@@ -7,7 +7,7 @@ returns-then-level-eq0 t c = c.chunk_words.ensures ∙ leaf_is_chunk c.args.key.
 
 pub returns-then-bytes-size : goal.returns-then-bytes-size
 returns-then-bytes-size t c =
-    c.tree_words.ensures ∙ smaller c.args.key.now c.args.level _ c.args.t c.args.top c.args.bytes.now (omega (arith, c.if-level-eq0.false))
+    c.tree_words.ensures ∙ half_is_tree c.args.key.now c.args.level _ c.args.t c.args.top c.args.bytes.now (omega (arith, c.if-level-eq0.false))
     (omega (arith, c.if-bytes-size.true, c.chunks_below-half.ensures.is))
 
 pub tree_words-right-requires : goal.tree_words-right-requires
