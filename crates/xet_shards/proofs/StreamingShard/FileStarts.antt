@@ -1,17 +1,18 @@
--- The next start of a xorb, by the starts from one of its chunks on.
-use Rattle.std.proofs.Common.{◌≡◌, ℕ, zero, suc, ◌<◌, ◌≤◌, Bool, true, false, List, [], ◌∷◌, length, get_or, leb, Some, Ok, Err, refl, sym, ap, ◌∙◌, subst, true≢false, arith}
-use Rattle.std.specs.Prelude.{◌||◌, IfSome, slice_get}
+-- The starts of a xorb, among those of a sorted list from its first chunk on.
+use Rattle.std.proofs.Common.{◌≡◌, ℕ, zero, suc, ◌+◌, ◌-◌, ◌<◌, ◌≤◌, Bool, true, false, List, [], ◌∷◌, length, drop, get_or, leb, Some, Ok, Err, refl, sym, ap, ◌∙◌, subst, true≢false, arith}
+use Rattle.std.specs.Prelude.{◌||◌, slice_get}
 use Rattle.std.specs.declared.cmp.Ordering.{Ordering}
 use Rattle.std.specs.declared.cmp.Ordering.TheVariants.{Less, Equal, Greater}
-use Rattle.std.specs.List.{HoldsAt}
-use Rattle.std.specs.List.Sorted.{IsSorted, IsPartitionPoint, IsNonDecreasingBy, IsBinarySearchResult, IsSearchInRange}
+use Rattle.std.specs.List.Sorted.{IsSorted, IsPartitionedBy, IsPartitionPoint, IsNonDecreasingBy, IsBinarySearchResult, IsSearchInRange}
 use Rattle.std.specs.declared.result.Result.{Result}
 use Rattle.std.specs.Result.{is_ok}
-use Rattle.std.specs.Ordering.{nat_cmp, eq_by_cmp, ordering_then, ordering_reverse, ordering_index, is_eq, is_lt, is_gt, MatchOrdering}
-use Rattle.std.specs.Cmp.{Equal-is}
+use Rattle.std.specs.Ordering.{nat_cmp, eq_by_cmp, ordering_then, ordering_index, is_eq, is_lt, is_ge, MatchOrdering}
+use Rattle.std.specs.Cmp.{Equal-is, IsStrictWeakOrder}
 use Rattle.std.proofs.lemmas.Bool.{leb-true, leb-false}
 use Rattle.std.proofs.lemmas.Cmp.{ranked, tied_itself}
+use Rattle.std.proofs.lemmas.List.{get_or-drop, length-drop}
 use Rattle.std.proofs.lemmas.List.Sorted.{sorted_far, ranks_by, searchable_from_sorted}
+use Rattle.std.proofs.lemmas.Map.Keys.{ge_from_not_lt}
 use Rattle.std.proofs.lemmas.Map.Lookups.{exact_pairs, exact_unsigned}
 use Rattle.std.proofs.lemmas.Option.{none-some, same_Some, slice_get_within, slice_get-get_or, get_or_from_slice_get}
 use Rattle.xet_base.specs.declared.merklehash.DataHash.{DataHash}
@@ -20,45 +21,12 @@ use Rattle.xet_base.proofs.HashOrder.{hash_cmp-IsTotalOrder, hash_cmp-IsAntisymm
 use Rattle.xet_records.specs.declared.xorb_structs.MDBXorbInfo.{MDBXorbInfo}
 use Rattle.xet_shards.specs.declared.streaming_shard.file_start.FileStart.{FileStart}
 use Rattle.xet_shards.specs.StreamingShard.MinimalShard.{start_cmp, has_start, chunk_of}
-use Rattle.xet_shards.specs.Steps.MinimalWriting.{StartsNowhere, IsNextStart, IsPlaceOf}
+use Rattle.xet_shards.specs.Steps.MinimalWriting.{AreStartsFrom}
 use Rattle.xet_shards.specs.Content.Shard.{xorb_hash_of}
-use Rattle.xet_shards.proofs.StreamingShard.MinimalShard.{start_total}
+use Rattle.xet_shards.proofs.StreamingShard.MinimalShard.{StartsNowhere, IsNextStart, start_total}
 
-le-not_gt : (o : Ordering) (i j : ℕ) → MatchOrdering o (i < j) (i ≡ j) (j < i) → i ≤ j → is_gt o ≡ false
-le-not_gt Less i j ranks before = refl
-le-not_gt Equal i j ranks before = refl
-le-not_gt Greater i j ranks before = absurd (omega arith)
-
-not_gt-le : (o : Ordering) (i j : ℕ) → MatchOrdering o (i < j) (i ≡ j) (j < i) → is_gt o ≡ false → i ≤ j
-not_gt-le Less i j ranks is = omega arith
-not_gt-le Equal i j ranks is = omega arith
-not_gt-le Greater i j ranks is = absurd (true≢false is)
-
-first_of : (o p : Ordering) → is_gt (ordering_then o p) ≡ false → is_gt o ≡ false
-first_of Less p is = refl
-first_of Equal p is = refl
-first_of Greater p is = absurd (true≢false is)
-
--- neither of two hashes is above the other
-between : (o p : Ordering) → o ≡ ordering_reverse p → is_gt o ≡ false → is_gt p ≡ false → o ≡ Equal
-between Less p is below above = absurd (true≢false (greater_if_reversed p is ∙ above))
-  where
-    greater_if_reversed : (p : Ordering) → Less ≡ ordering_reverse p → true ≡ is_gt p
-    greater_if_reversed Less is = absurd (cc)
-    greater_if_reversed Equal is = absurd (cc)
-    greater_if_reversed Greater is = refl
-between Equal p is below above = refl
-between Greater p is below above = absurd (true≢false below)
-
-module _ (x : MDBXorbInfo) where
-  same_xorb : (i j : ℕ) → start_cmp (chunk_of x i) (chunk_of x j) ≡ nat_cmp i j
-  same_xorb i j = ap (λ o. ordering_then o (nat_cmp i j)) (tied_itself hash_cmp-IsTotalOrder (xorb_hash_of x))
-
-  chunks_rise : (i j : ℕ) → i ≤ j → is_gt (start_cmp (chunk_of x i) (chunk_of x j)) ≡ false
-  chunks_rise i j before = ap is_gt (same_xorb i j) ∙ le-not_gt (nat_cmp i j) i j (ranked i j _ refl) before
-
-  chunks_risen : (i j : ℕ) → is_gt (start_cmp (chunk_of x i) (chunk_of x j)) ≡ false → i ≤ j
-  chunks_risen i j is = not_gt-le (nat_cmp i j) i j (ranked i j _ refl) (ap is_gt (sym (same_xorb i j)) ∙ is)
+start_order : IsStrictWeakOrder (λ (s t : FileStart). is_lt (start_cmp s t))
+start_order = ranks_by start_total (λ (s : FileStart). s)
 
 -- two starts that compare as equal are the same
 start_exact : (a b : FileStart) → start_cmp a b ≡ Equal → a ≡ b
@@ -91,14 +59,6 @@ found_at (t ∷ starts) (suc j) s there = either (eq_by_cmp start_cmp s t) (foun
     either true is = refl
     either false is = is
 
-not_above : (o p : Ordering) → o ≡ ordering_reverse p → is_lt p ≡ false → is_gt o ≡ false
-not_above o Less is low = absurd (true≢false low)
-not_above o Equal is low = ap is_gt is
-not_above o Greater is low = ap is_gt is
-
-not_less : (o p : Ordering) → o ≡ ordering_reverse p → is_gt o ≡ false → p ≡ Less → ⊥
-not_less o p is low less = true≢false (sym (ap is_gt (is ∙ ap ordering_reverse less)) ∙ low)
-
 not_below_means : (at j : ℕ) → (j < at → ⊥) → at ≤ j
 not_below_means at j none = by_test (leb at j) refl
   where
@@ -106,37 +66,42 @@ not_below_means at j none = by_test (leb at j) refl
     by_test true is = leb-true at j is
     by_test false is = absurd (none (leb-false at j is))
 
--- where a search for a start in a sorted list ends
-pub placed_at : (starts : List FileStart) (first : FileStart) (at : ℕ) → at < length starts → HoldsAt (λ y. start_cmp y first ≡ Equal) starts at → IsPlaceOf starts first at
-placed_at starts first at within holds =
-    let is : get_or starts at first ≡ first = start_exact (get_or starts at first) first (holds first) in
-    let there : slice_get starts at ≡ Some first = slice_get-get_or starts at first within ∙ ap Some is in
-    record {
-      from = λ k found. subst (λ s. is_gt (start_cmp first s) ≡ false) (same_Some first k (sym there ∙ found)) (ap is_gt (tied_itself start_total first));
-      least = λ s has low. (subst (λ o. IfSome o (λ k. is_gt (start_cmp k s) ≡ false)) (sym there) low, within);
-    }
+-- those before a start come first in a sorted list
+pub before_first : (starts : List FileStart) (first : FileStart) → IsSorted start_cmp starts → IsPartitionedBy (λ s. is_lt (start_cmp s first)) starts
+before_first starts first sorted i j d order within before = either (is_lt (start_cmp (get_or starts i d) first)) refl
+  where
+    either : (b : Bool) → is_lt (start_cmp (get_or starts i d) first) ≡ b → b ≡ true
+    either true is = refl
+    either false is =
+        absurd (true≢false (sym before ∙ start_order.chain (get_or starts j d) (get_or starts i d) first (sorted_far (λ x y. is_lt (start_cmp x y)) start_order starts sorted i j d order within) is))
 
-pub placed_between : (starts : List FileStart) (first : FileStart) (at : ℕ) → IsSorted start_cmp starts
-    → IsPartitionPoint (λ y. start_cmp y first ≡ Less) (λ y. start_cmp y first ≡ Greater) starts at → IsPlaceOf starts first at
-placed_between starts first at sorted point = record {
-  from = λ k found.
-      let above : start_cmp k first ≡ Greater = subst (λ s. start_cmp s first ≡ Greater) (get_or_from_slice_get starts at k k found) (point.1 at k (omega arith) (slice_get_within starts at k found)) in
-      ap is_gt (start_total.antisymm first k ∙ ap ordering_reverse above);
-  least = λ s has low.
-      let found = place_found starts s has in
-      let j = found.0 in
-      let within = slice_get_within starts j s found.1 in
-      let is : get_or starts j s ≡ s = get_or_from_slice_get starts j s s found.1 in
-      let after : at ≤ j = not_below_means at j (λ before. not_less (start_cmp first s) (start_cmp s first) (start_total.antisymm first s) low
-      (subst (λ t. start_cmp t first ≡ Less) is (point.0 j s (omega arith) before))) in
-      let far : is_lt (start_cmp s (get_or starts at s)) ≡ false =
-      subst (λ t. is_lt (start_cmp t (get_or starts at s)) ≡ false) is (sorted_far (λ x y. is_lt (start_cmp x y)) (ranks_by start_total (λ (x : FileStart). x)) starts sorted at j s after within) in
-      let here : at < length starts = omega (arith, after, within) in (
-        subst (λ o. IfSome o (λ k. is_gt (start_cmp k s) ≡ false)) (sym (slice_get-get_or starts at s here))
-            (not_above (start_cmp (get_or starts at s) s) (start_cmp s (get_or starts at s)) (start_total.antisymm (get_or starts at s) s) far),
-        here,
-      );
+-- past those that are before a start, a sorted list has those from it on
+pub from_place : (starts : List FileStart) (first : FileStart) (at : ℕ) → IsSorted start_cmp starts
+    → IsPartitionPoint (λ s. is_lt (start_cmp s first) ≡ true) (λ s. is_lt (start_cmp s first) ≡ false) starts at → AreStartsFrom first starts (drop at starts)
+from_place starts first at sorted point = record {
+  sorted = λ k d low below. simp get_or-drop (sorted_far (λ x y. is_lt (start_cmp x y)) start_order starts sorted (at + k) (at + (k + 1)) d (omega arith) (omega (arith, below, length-drop at starts)));
+  are = λ s. (after s, from s);
 }
+  where
+    after : (s : FileStart) → has_start (drop at starts) s ≡ true → (has_start starts s ≡ true) × (is_lt (start_cmp s first) ≡ false)
+    after s has =
+        let found = place_found (drop at starts) s has in
+        let j = at + found.0 in
+        let within : j < length starts = omega (arith, slice_get_within (drop at starts) found.0 s found.1, length-drop at starts) in
+        let there : get_or starts j s ≡ s = sym (get_or-drop at starts found.0 s) ∙ get_or_from_slice_get (drop at starts) found.0 s s found.1 in (
+          found_at starts j s (slice_get-get_or starts j s within ∙ ap Some there),
+          subst (λ t. is_lt (start_cmp t first) ≡ false) there (point.1 j s (omega arith) within),
+        )
+
+    from : (s : FileStart) → (has_start starts s ≡ true) × (is_lt (start_cmp s first) ≡ false) → has_start (drop at starts) s ≡ true
+    from s is =
+        let found = place_found starts s is.0 in
+        let j = found.0 in
+        let within = slice_get_within starts j s found.1 in
+        let there : get_or starts j s ≡ s = get_or_from_slice_get starts j s s found.1 in
+        let low : at ≤ j = not_below_means at j (λ before. true≢false (sym (subst (λ t. is_lt (start_cmp t first) ≡ true) there (point.0 j s (omega arith) before)) ∙ is.1)) in
+        found_at (drop at starts) (j - at) s (slice_get-get_or (drop at starts) (j - at) s (omega (arith, within, low, length-drop at starts))
+        ∙ ap Some (get_or-drop at starts (j - at) s ∙ ap (λ n. get_or starts n s) (omega (arith, low)) ∙ there))
 
 pub searchable : (starts : List FileStart) (first : FileStart) → IsSorted start_cmp starts → IsNonDecreasingBy (λ y. ordering_index (start_cmp y first)) starts
 searchable starts first sorted = searchable_from_sorted start_total (λ (s : FileStart). s) starts first sorted
@@ -160,36 +125,96 @@ search_finds starts s (Err at) sorted within points = sym (none (has_start start
         let greater : start_cmp s s ≡ Greater = subst (λ t. start_cmp t s ≡ Greater) there (point.1 j s after (slice_get_within starts j s found.1)) in
         absurd (cc)
 
-module _ (x : MDBXorbInfo) (starts : List FileStart) (from at : ℕ) (place : IsPlaceOf starts (chunk_of x from) at) where
-  no_start : (i : ℕ) (b : Bool) → has_start starts (chunk_of x i) ≡ b → (b ≡ true → ⊥) → b ≡ false
-  no_start i true is none = absurd (none refl)
-  no_start i false is none = refl
+ge-not_lt : (o : Ordering) → is_ge o ≡ true → is_lt o ≡ false
+ge-not_lt Less is = absurd (true≢false (sym is))
+ge-not_lt Equal is = refl
+ge-not_lt Greater is = refl
 
-  module _ (k : FileStart) (there : slice_get starts at ≡ Some k) where
-    not_below : (i : ℕ) → from ≤ i → has_start starts (chunk_of x i) ≡ true → is_gt (start_cmp k (chunk_of x i)) ≡ false
-    not_below i above is = subst (λ o. IfSome o (λ s. is_gt (start_cmp s (chunk_of x i)) ≡ false)) there (place.least (chunk_of x i) is (chunks_rise x from i above)).0
+module _ (x : MDBXorbInfo) where
+  same_xorb : (i j : ℕ) → start_cmp (chunk_of x i) (chunk_of x j) ≡ nat_cmp i j
+  same_xorb i j = ap (λ o. ordering_then o (nat_cmp i j)) (tied_itself hash_cmp-IsTotalOrder (xorb_hash_of x))
 
-    -- the first of them is a chunk of the xorb
-    module _ (same : k.xorb_hash ≡ xorb_hash_of x) where
-      k_is : k ≡ chunk_of x k.chunk_index
-      k_is i = record { xorb_hash = same i; chunk_index = k.chunk_index }
+  not_before : (i j : ℕ) → j ≤ i → is_lt (start_cmp (chunk_of x i) (chunk_of x j)) ≡ false
+  not_before i j after = ap is_lt (same_xorb i j) ∙ not_less (nat_cmp i j) (ranked i j _ refl)
+    where
+      not_less : (o : Ordering) → MatchOrdering o (i < j) (i ≡ j) (j < i) → is_lt o ≡ false
+      not_less Less ranks = absurd (omega arith)
+      not_less Equal ranks = refl
+      not_less Greater ranks = refl
 
-      pub none_before : StartsNowhere (has_start starts) x from k.chunk_index
-      none_before i above below = no_start i (has_start starts (chunk_of x i)) refl (λ is.
-          let after = chunks_risen x k.chunk_index i (subst (λ s. is_gt (start_cmp s (chunk_of x i)) ≡ false) k_is (not_below i above is)) in
-          omega (arith, after, below))
+  module _ (starts rest : List FileStart) where
+    -- each start of the xorb from one of its chunks on stands in the rest, from some place on
+    abbrev pub AreLeft : ℕ → ℕ → Type 0
+    AreLeft done at = (i : ℕ) → done ≤ i → has_start starts (chunk_of x i) ≡ true → (j : ℕ) × (at ≤ j) × (slice_get rest j ≡ Some (chunk_of x i))
 
-      pub next_start : k.chunk_index < length x.chunks → IsNextStart (has_start starts) x from k.chunk_index
-      next_start within = record {
-        after = chunks_risen x from k.chunk_index (subst (λ s. is_gt (start_cmp (chunk_of x from) s) ≡ false) k_is (place.from k there));
-        within = within;
-        is_start = subst (λ s. has_start starts s ≡ true) k_is (found_at starts at k there);
-        none_before = none_before;
-      }
+    nowhere : (done to : ℕ) → ((i : ℕ) → done ≤ i → i < to → has_start starts (chunk_of x i) ≡ true → ⊥) → StartsNowhere (has_start starts) x done to
+    nowhere done to none i above below = either (has_start starts (chunk_of x i)) (none i above below)
+      where
+        either : (b : Bool) → (b ≡ true → ⊥) → b ≡ false
+        either true not = absurd (not refl)
+        either false not = refl
 
-    -- it is none of them
-    pub none_of_xorb : (k.xorb_hash ≡ xorb_hash_of x → ⊥) → (to : ℕ) → StartsNowhere (has_start starts) x from to
-    none_of_xorb other to i above below = no_start i (has_start starts (chunk_of x i)) refl (λ is.
-        let under = first_of (hash_cmp k.xorb_hash (xorb_hash_of x)) _ (not_below i above is) in
-        let over = first_of (hash_cmp (xorb_hash_of x) k.xorb_hash) _ (place.from k there) in
-        other (hash_cmp-IsAntisymmetric k.xorb_hash (xorb_hash_of x) (between _ _ (hash_cmp-IsTotalOrder.antisymm k.xorb_hash (xorb_hash_of x)) under over)))
+    -- nothing is left
+    pub none_left : (done at to : ℕ) → AreLeft done at → length rest ≤ at → StartsNowhere (has_start starts) x done to
+    none_left done at to left end = nowhere done to (λ i above below is. let found = left i above is in omega (arith, found.1, slice_get_within rest found.0 (chunk_of x i) found.2))
+
+    -- a start that is left is passed
+    pub passed : (done at next : ℕ) (k : FileStart) → AreLeft done at → slice_get rest at ≡ Some k → done ≤ next → k.chunk_index < next → AreLeft next (at + 1)
+    passed done at next k left there on before i above is =
+        let found = left i (omega (arith, on, above)) is in
+        let j = found.0 in
+        let after : at + 1 ≤ j = not_below_means (at + 1) j (λ below.
+        let same : j ≡ at = omega (arith, below, found.1) in
+        let index : k.chunk_index ≡ i = ap (λ s. s.chunk_index) (same_Some k (chunk_of x i) (sym there ∙ ap (slice_get rest) (sym same) ∙ found.2)) in
+        omega (arith, index, above, before)) in
+        (j, after, found.2)
+
+    module _ {first : FileStart} (first_is : first ≡ chunk_of x 0) (from : AreStartsFrom first starts rest) where
+      pub all_left : AreLeft 0 0
+      all_left i above is =
+          let found = place_found rest (chunk_of x i) ((from.are (chunk_of x i)).1 (is, subst (λ s. is_lt (start_cmp (chunk_of x i) s) ≡ false) (sym first_is) (not_before i 0 above))) in
+          (found.0, omega arith, found.1)
+
+      module _ (done at : ℕ) (k : FileStart) (left : AreLeft done at) (there : slice_get rest at ≡ Some k) where
+        none_to : (to : ℕ) → is_ge (start_cmp k (chunk_of x to)) ≡ true → StartsNowhere (has_start starts) x done to
+        none_to to after = nowhere done to (λ i above below is.
+            let found = left i above is in
+            let j = found.0 in
+            let far : is_lt (start_cmp (get_or rest j k) (get_or rest at k)) ≡ false =
+            sorted_far (λ s t. is_lt (start_cmp s t)) start_order rest from.sorted at j k found.1 (slice_get_within rest j (chunk_of x i) found.2) in
+            let less : is_lt (start_cmp (chunk_of x i) k) ≡ false =
+            subst (λ t. is_lt (start_cmp t k) ≡ false) (get_or_from_slice_get rest j (chunk_of x i) k found.2)
+            (subst (λ t. is_lt (start_cmp (get_or rest j k) t) ≡ false) (get_or_from_slice_get rest at k k there) far) in
+            let risen = ge_from_not_lt i to (sym (ap is_lt (same_xorb i to)) ∙ start_order.chain (chunk_of x i) k (chunk_of x to) less (ge-not_lt (start_cmp k (chunk_of x to)) after)) in
+            omega (arith, risen, below))
+
+        module _ (to : ℕ) {end : FileStart} (end_is : end ≡ chunk_of x to) where
+          -- the next that is left is past the xorb
+          pub none_before_end : is_ge (start_cmp k end) ≡ true → StartsNowhere (has_start starts) x done to
+          none_before_end after = none_to to (subst (λ s. is_ge (start_cmp k s) ≡ true) end_is after)
+
+          -- it is not, so that it is one of the xorb's chunks
+          module _ (before : is_ge (start_cmp k end) ≡ false) where
+            tied : (hash_cmp k.xorb_hash (xorb_hash_of x) ≡ Equal) × (is_ge (nat_cmp k.chunk_index to) ≡ false)
+            tied = both (hash_cmp k.xorb_hash (xorb_hash_of x)) (nat_cmp k.chunk_index 0) (nat_cmp k.chunk_index to)
+                (subst (λ s. is_lt (start_cmp k s) ≡ false) first_is ((from.are k).0 (found_at rest at k there)).1) (subst (λ s. is_ge (start_cmp k s) ≡ false) end_is before)
+              where
+                both : (o p q : Ordering) → is_lt (ordering_then o p) ≡ false → is_ge (ordering_then o q) ≡ false → (o ≡ Equal) × (is_ge q ≡ false)
+                both Less p q low high = absurd (true≢false low)
+                both Equal p q low high = (refl, high)
+                both Greater p q low high = absurd (true≢false high)
+
+            is_chunk : k ≡ chunk_of x k.chunk_index
+            is_chunk i = record { xorb_hash = hash_cmp-IsAntisymmetric k.xorb_hash (xorb_hash_of x) tied.0 i; chunk_index = k.chunk_index }
+
+            pub next_start : IsNextStart (has_start starts) x done to k.chunk_index
+            next_start = record {
+              within = less (nat_cmp k.chunk_index to) (ranked k.chunk_index to _ refl) tied.1;
+              is_start = subst (λ s. has_start starts s ≡ true) is_chunk ((from.are k).0 (found_at rest at k there)).0;
+              none_before = none_to k.chunk_index (subst (λ s. is_ge (start_cmp k s) ≡ true) is_chunk (ap is_ge (tied_itself start_total k)));
+            }
+              where
+                less : (o : Ordering) → MatchOrdering o (k.chunk_index < to) (k.chunk_index ≡ to) (to < k.chunk_index) → is_ge o ≡ false → k.chunk_index < to
+                less Less ranks is = ranks
+                less Equal ranks is = absurd (true≢false is)
+                less Greater ranks is = absurd (true≢false is)

@@ -18,7 +18,6 @@ use Rattle.xet_records.specs.declared.xorb_structs.MDBXorbInfo.{MDBXorbInfo}
 use Rattle.xet_records.specs.XorbRow.{is_marked, IsEligibleChunk}
 use Rattle.xet_shards.specs.declared.streaming_shard.file_start.FileStart.{FileStart}
 use Rattle.xet_shards.specs.StreamingShard.MinimalShard.{start_cmp, chunk_of, marked_if, is_eligible, ascending_hashes}
-use Rattle.xet_shards.specs.Steps.MinimalWriting.{StartsNowhere}
 use Rattle.xet_shards.proofs.Write.ChunkTableRows.{keys-push, enumerate_from-push}
 use Rattle.xet_shards.proofs.Content.Maps.{entries-empty}
 
@@ -46,6 +45,16 @@ enumerated-append n [] ys = ap (λ k. enumerate_from k ys) (omega arith)
 enumerated-append n (x ∷ xs) ys = ap (λ es. (n, x) ∷ es) (enumerated-append (n + 1) xs ys ∙ ap (λ k. enumerate_from (n + 1) xs ++ enumerate_from k ys) (omega arith))
 
 module _ (starts : FileStart → Bool) (x : MDBXorbInfo) where
+  -- no chunk from an index up to another is a start
+  abbrev pub StartsNowhere : ℕ → ℕ → Type 0
+  StartsNowhere from to = (i : ℕ) → from ≤ i → i < to → starts (chunk_of x i) ≡ false
+
+  -- the first chunk that is a start, of those from an index up to another
+  pub record IsNextStart (from to next : ℕ) : Type 0 where
+    pub within : next < to
+    pub is_start : starts (chunk_of x next) ≡ true
+    pub none_before : StartsNowhere from next
+
   abbrev pub marks_to : ℕ → List XorbChunkSequenceEntry
   marks_to i = map (λ (e : ℕ × XorbChunkSequenceEntry). marked_if (starts (chunk_of x e.0)) e.1) (enumerate_from 0 (take i x.chunks))
 
@@ -54,13 +63,13 @@ module _ (starts : FileStart → Bool) (x : MDBXorbInfo) where
       let mark : ℕ × XorbChunkSequenceEntry → XorbChunkSequenceEntry = λ e. marked_if (starts (chunk_of x e.0)) e.1 in
       ap (map mark) (enumerated-more x.chunks i c there) ∙ map-append mark (enumerate_from 0 (take i x.chunks)) ((i, c) ∷ [])
 
-  none_marked : (k : ℕ) (cs : List XorbChunkSequenceEntry) → StartsNowhere starts x k (k + length cs)
+  none_marked : (k : ℕ) (cs : List XorbChunkSequenceEntry) → StartsNowhere k (k + length cs)
       → map (λ (e : ℕ × XorbChunkSequenceEntry). marked_if (starts (chunk_of x e.0)) e.1) (enumerate_from k cs) ≡ cs
   none_marked k [] none = refl
   none_marked k (c ∷ cs) none = λ i. marked_if (none k (omega arith) (omega arith) i) c ∷ none_marked (k + 1) cs (λ j above below. none j (omega arith) (omega arith)) i
 
   -- chunks that are no starts stay as they are
-  pub none_marked_to : (from to : ℕ) → from ≤ to → to ≤ length x.chunks → StartsNowhere starts x from to → marks_to to ≡ marks_to from ++ take (to - from) (drop from x.chunks)
+  pub none_marked_to : (from to : ℕ) → from ≤ to → to ≤ length x.chunks → StartsNowhere from to → marks_to to ≡ marks_to from ++ take (to - from) (drop from x.chunks)
   none_marked_to from to after within none =
       let mark : ℕ × XorbChunkSequenceEntry → XorbChunkSequenceEntry = λ e. marked_if (starts (chunk_of x e.0)) e.1 in
       let first = take from x.chunks in

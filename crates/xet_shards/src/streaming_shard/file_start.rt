@@ -1,15 +1,16 @@
 //! The chunks at which files start.
 
-ghost use Rattle.std.specs.Prelude.{◌≡◌, ◌++◌, ◌<◌, ◌≤◌, ◌^◌, List, length, MatchOption, MatchResult, OnOk, IfOk, IfErr};
+ghost use Rattle.std.specs.Prelude.{◌≡◌, ◌++◌, ◌<◌, ◌^◌, List, MatchResult, OnOk, IfOk, IfErr};
 ghost use Rattle.std.specs.Io.KnownBytes.{Appends};
 ghost use Rattle.std.specs.List.Sorted.{IsSorted};
+ghost use Rattle.std.specs.Ordering.{is_lt};
 ghost use Rattle.xet_base.specs.Errors.{IsWriteError};
 ghost use Rattle.xet_records.specs.declared.file_structs.MDBFileInfo.{MDBFileInfo};
 ghost use Rattle.xet_records.specs.FileRecord.{file_records_in};
 ghost use Rattle.xet_records.specs.XorbRecord.{xorb_record_bytes, IsStoredXorb};
 ghost use Rattle.xet_shards.specs.StreamingShard.MinimalShard.{start_cmp, start_of_file, has_start, is_start, chunk_of, mark_starts};
 ghost use Rattle.xet_shards.specs.StreamingShard.MinimalReading.{ReadsViews, StopsAfterViews};
-ghost use Rattle.xet_shards.specs.Steps.MinimalWriting.{StartsNowhere, IsNextStart, IsPlaceOf};
+ghost use Rattle.xet_shards.specs.Steps.MinimalWriting.{AreStartsFrom};
 
 use bytes::BytesMut;
 use std::alloc::Global;
@@ -109,15 +110,17 @@ pub(super) fn is_start(starts: &[FileStart], chunk: &FileStart) -> bool
     starts.binary_search(chunk).is_ok()
 }
 
-// The index of a least start from this one on, or the length if there is none. Starts may repeat.
-fn place_of(starts: &[FileStart], first: &FileStart) -> usize
+// The starts from this one on. They may repeat.
+fn starts_from<'a>(starts: &'a [FileStart], first: FileStart) -> &'a [FileStart]
     requires { IsSorted start_cmp starts.now }
-    ensures { IsPlaceOf starts.now first.now result }
+    ensures { AreStartsFrom first starts.now result.now }
 {
-    match starts.binary_search(first) {
-        Ok(at) => at,
-        Err(at) => at,
-    }
+    let place = starts.partition_point(
+        |start: &FileStart| -> bool
+            ensures { result ≡ is_lt (start_cmp start.now first) }
+        { *start < first },
+    );
+    &starts[place..]
 }
 
 /// Writes a xorb with a mark on each chunk that is a start, and its other marks as they are. The
@@ -135,31 +138,22 @@ pub(super) fn write_marked<W: Write>(
     ensures causes { IfErr result IsWriteError }
 {
     write_row(xorb.header(), writer)?;
+    let rest = starts_from(starts, FileStart::of_chunk(xorb, 0));
+    let end = FileStart::of_chunk(xorb, xorb.num_entries());
     let mut done = 0;
-    while let Some(start) = next_start(xorb, starts, done) {
-        xorb.serialize_chunks(writer, done, start)?;
-        let marked = xorb.chunk(start).with_global_dedup_flag(true);
+    for start in rest {
+        if *start >= end {
+            break;
+        }
+        let index = start.chunk_index as usize;
+        // A start that repeats.
+        if index < done {
+            continue;
+        }
+        xorb.serialize_chunks(writer, done, index)?;
+        let marked = xorb.chunk(index).with_global_dedup_flag(true);
         write_row(&marked, writer)?;
-        done = start + 1;
+        done = index + 1;
     }
     xorb.serialize_chunks(writer, done, xorb.num_entries())
-}
-
-// The first chunk of a xorb that is a start, from an index on.
-fn next_start(xorb: &MDBXorbInfoView, starts: &[FileStart], from: usize) -> Option<usize>
-    requires sorted { IsSorted start_cmp starts.now }
-    requires stored { IsStoredXorb xorb.now }
-    requires within { from ≤ length xorb.now.chunks }
-    ensures { MatchOption result
-        (StartsNowhere (has_start starts.now) xorb.now from (length xorb.now.chunks))
-        (IsNextStart (has_start starts.now) xorb.now from) }
-{
-    let first = FileStart::of_chunk(xorb, from);
-    let start = starts.get(place_of(starts, &first))?;
-    let index = start.chunk_index as usize;
-    if start.xorb_hash == xorb.xorb_hash() && index < xorb.num_entries() {
-        Some(index)
-    } else {
-        None
-    }
 }
