@@ -6,9 +6,8 @@ use Rattle.xet_core_structures.specs.declared.error.CoreError.{CoreError}
 use Rattle.xet_core_structures.specs.declared.merklehash.DataHash.{DataHash}
 use Rattle.xet_core_structures.specs.declared.file_structs.KeptParts.{KeptParts}
 use Rattle.xet_core_structures.specs.declared.xorb_structs.MDBXorbInfo.{MDBXorbInfo}
-use Rattle.xet_core_structures.specs.Input.{ReaderFails}
 use Rattle.xet_core_structures.specs.Layout.{layout_of}
-use Rattle.xet_core_structures.specs.MinimalReading.{ReadsMinimal, MinimalFails, ReaderHeaderFails}
+use Rattle.xet_core_structures.specs.MinimalReading.{ReadsMinimal, ReaderMinimalFails}
 use Rattle.xet_core_structures.specs.MinimalShard.{MinimalShard, mark_starts, is_start, minimal_options, eligible_hashes, IsKept}
 use Rattle.xet_core_structures.specs.Shard.{xorb_hash_of}
 use Rattle.xet_core_structures.specs.View.{as_kept, LacksVerification, IsIoOther}
@@ -28,9 +27,7 @@ HoldsMinimal bytes m =
 -- why the bytes are not read as those of a shard
 abbrev pub RefusesMinimal : List ℕ → CoreError → Type 0
 RefusesMinimal bytes e =
-    (left : Option (List ℕ))
-    × MinimalFails Consumes (λ before after n e. ReaderFails before n e)
-    (λ before after e. ReaderHeaderFails before e) true (Some bytes) left e
+    (left : Option (List ℕ)) × ReaderMinimalFails true (Some bytes) left e
 
 -- the bytes of the minimal shard, with these parts of its files, which have the verification rows
 -- that are wanted

@@ -4,13 +4,12 @@ use Rattle.std.specs.Io.KnownBytes.{Appends, Consumes}
 use Rattle.std.specs.List.{Any}
 use Rattle.xet_base.specs.declared.error.CoreError.{CoreError}
 use Rattle.xet_base.specs.Errors.{IsWriteError}
-use Rattle.xet_base.specs.Input.{ReaderFails}
 use Rattle.xet_records.specs.declared.file_structs.view.KeptParts.{KeptParts}
 use Rattle.xet_records.specs.declared.xorb_structs.MDBXorbInfo.{MDBXorbInfo}
 use Rattle.xet_records.specs.View.{as_kept, LacksVerification}
 use Rattle.xet_shards.specs.Write.Layout.{LayoutOptions, layout_of}
 use Rattle.xet_shards.specs.StreamingShard.MinimalShard.{MinimalShard, is_start, mark_starts, minimal_options, IsKept}
-use Rattle.xet_shards.specs.StreamingShard.MinimalReading.{ReadsMinimal, MinimalFails, ReaderHeaderFails}
+use Rattle.xet_shards.specs.StreamingShard.MinimalReading.{ReadsMinimal, ReaderMinimalFails}
 
 -- the minimal shard of what was read was written, with these parts of its files; and whether a file
 -- has no verification rows
@@ -36,7 +35,4 @@ pub record CopiesSubset (answers : MDBXorbInfo → Bool → Type 0) (options : L
 
 -- the shard was not read, or the writer or an allocation failed
 abbrev pub CopyingFails : Option (List ℕ) → Option (List ℕ) → CoreError → Type 0
-CopyingFails old new e =
-    MinimalFails Consumes (λ before after n f. ReaderFails before n f)
-    (λ before after f. ReaderHeaderFails before f) true old new e
-    ⊎ IsWriteError e
+CopyingFails old new e = ReaderMinimalFails true old new e ⊎ IsWriteError e

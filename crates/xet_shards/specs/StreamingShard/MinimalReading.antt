@@ -1,8 +1,10 @@
 -- Reading a minimal shard: a shard's header, and then views of the records of its sections.
 use Rattle.std.specs.Prelude.{◌≡◌, ◌⊎◌, ℕ, ◌+◌, Bool, true, false, List, [], flat_map, sum_by, All, Option}
+use Rattle.std.specs.Io.KnownBytes.{Consumes}
 use Rattle.xet_base.specs.declared.error.CoreError.{CoreError}
 use Rattle.xet_base.specs.declared.merklehash.DataHash.{DataHash}
 use Rattle.xet_base.specs.Errors.{IsBareShardVersion, IsDeviceError}
+use Rattle.xet_base.specs.Input.{ReaderFails}
 use Rattle.xet_records.specs.declared.file_structs.MDBFileInfo.{MDBFileInfo}
 use Rattle.xet_records.specs.declared.xorb_structs.MDBXorbInfo.{MDBXorbInfo}
 use Rattle.xet_records.specs.RecordKind.{RecordKind}
@@ -102,3 +104,10 @@ pub record ReaderHeaderFails (remaining : Option (List ℕ)) (e : CoreError) : T
   pub causes : IsDeviceError e ⊎ IsBareShardVersion e
   pub unsupported : SaysUnsupported HasUnsupportedHeader remaining e
   pub end : SaysEndOfInput EndsInHeader remaining e
+
+-- a header, or the sections after it, were not read from a reader that had the first of these bytes
+-- left before and the second after, where they are known
+abbrev pub ReaderMinimalFails : Bool → Option (List ℕ) → Option (List ℕ) → CoreError → Type 0
+ReaderMinimalFails with_xorbs old new e =
+    MinimalFails Consumes (λ before after n f. ReaderFails before n f)
+    (λ before after f. ReaderHeaderFails before f) with_xorbs old new e

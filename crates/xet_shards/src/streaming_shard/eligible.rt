@@ -7,12 +7,11 @@ ghost use Rattle.std.specs.List.Sorted.{IsSorted};
 ghost use Rattle.xet_base.specs.Hash.{hash_cmp};
 ghost use Rattle.xet_base.specs.Source.{ReadsBytes, ReadFails};
 ghost use Rattle.xet_base.specs.declared.merklehash.DataHash.{DataHash};
-ghost use Rattle.xet_base.specs.Input.{ReaderFails};
 ghost use Rattle.xet_records.specs.declared.xorb_structs.MDBXorbInfo.{MDBXorbInfo};
 ghost use Rattle.xet_records.specs.XorbRecord.{xorb_records, IsStoredXorb};
 ghost use Rattle.xet_shards.specs.Ends.Ends.{HasUnsupportedHeader, EndsInHeader, PartFails};
 ghost use Rattle.xet_shards.specs.StreamingShard.MinimalShard.{MinimalShard, start_cmp, has_start, ascending_hashes, eligible_hashes, eligible_in};
-ghost use Rattle.xet_shards.specs.StreamingShard.MinimalReading.{ReadsViews, StopsAfterViews, ReadsSections, SectionsNotRead, MinimalFails, ReaderHeaderFails, ReadsEligible};
+ghost use Rattle.xet_shards.specs.StreamingShard.MinimalReading.{ReadsViews, StopsAfterViews, ReadsSections, SectionsNotRead, MinimalFails, ReaderMinimalFails, ReadsEligible};
 
 use super::file_start::{FileStart, is_start, read_starts, starts_of};
 use super::minimal_shard::MDBMinimalShard;
@@ -58,9 +57,7 @@ impl MDBMinimalShard {
         ensures { MatchResult result
             (λ hashes. ReadsEligible Consumes (R.remaining reader.old) (R.remaining reader.new)
             hashes.items)
-            (MinimalFails Consumes (λ before after n e. ReaderFails before n e)
-            (λ before after e. ReaderHeaderFails before e) true (R.remaining reader.old)
-            (R.remaining reader.new)) }
+            (ReaderMinimalFails true (R.remaining reader.old) (R.remaining reader.new)) }
     {
         let version = MDBShardFileHeader::deserialize(alloc, reader)?.format_version();
         read_eligible::<OfReader, R>(alloc, reader, version)

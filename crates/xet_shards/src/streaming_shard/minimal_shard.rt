@@ -8,11 +8,10 @@ ghost use Rattle.std.specs.Ordering.{on, eq_of_both};
 ghost use Rattle.xet_records.specs.declared.file_structs.view.KeptParts.{KeptParts};
 ghost use Rattle.xet_records.specs.View.{as_kept};
 ghost use Rattle.std.specs.Option.{option_copied};
-ghost use Rattle.xet_base.specs.Input.{ReaderFails};
 ghost use Rattle.std.specs.Io.KnownBytes.{Consumes};
 ghost use Rattle.xet_shards.specs.Write.WithOptions.{FitsSection};
 ghost use Rattle.xet_shards.specs.StreamingShard.MinimalShard.{FitsSections, has_file_verification, serialized_size, size_of_kept};
-ghost use Rattle.xet_shards.specs.StreamingShard.MinimalReading.{ReadsMinimal, MinimalFails, ReaderHeaderFails};
+ghost use Rattle.xet_shards.specs.StreamingShard.MinimalReading.{ReadsMinimal, ReaderMinimalFails};
 ghost use Rattle.xet_records.specs.FileRecord.{file_records, file_record_bytes, row_count};
 ghost use Rattle.xet_records.specs.XorbRecord.{xorb_records, xorb_record_bytes, xorb_row_count};
 ghost use Rattle.xet_records.specs.Limits.{MAX_ROWS};
@@ -65,9 +64,7 @@ impl MDBMinimalShard {
         ensures { MatchResult result
             (ReadsMinimal Consumes include_files include_xorb (R.remaining reader.old)
             (R.remaining reader.new))
-            (MinimalFails Consumes (λ before after n e. ReaderFails before n e)
-            (λ before after e. ReaderHeaderFails before e) include_xorb (R.remaining reader.old)
-            (R.remaining reader.new)) }
+            (ReaderMinimalFails include_xorb (R.remaining reader.old) (R.remaining reader.new)) }
     {
         let header = MDBShardFileHeader::deserialize(alloc, reader)?;
         let version = header.format_version();
