@@ -63,9 +63,9 @@ impl MDBMinimalShard {
             ensures { IsTrue result }
         { true };
         MDBShardFileHeader::of_version(options.version).serialize(writer)?;
-        let files = copy_files::<OfReader, R, W>(alloc, reader, version, writer, kept)?;
+        let files = copy_files(alloc, reader, version, writer, kept)?;
         let starts = files.starts.as_slice();
-        let xorbs = copy_xorbs::<OfReader, R, W, _>(alloc, reader, writer, starts, all)?;
+        let xorbs = copy_xorbs(alloc, reader, writer, starts, all)?;
         write_end(writer, &files.written, xorbs, &options)?;
         Ok(files.lacks_verification)
     }
@@ -99,7 +99,7 @@ impl MDBMinimalShard {
         let files = WrittenFiles::new(alloc);
         WrittenFiles::write_bookend(writer)?;
         let starts = starts.as_slice();
-        let xorbs = copy_xorbs::<OfReader, R, W, F>(alloc, reader, writer, starts, filter)?;
+        let xorbs = copy_xorbs(alloc, reader, writer, starts, filter)?;
         write_end(writer, &files, xorbs, &options)?;
         Ok(())
     }
@@ -150,27 +150,27 @@ impl CopiedFiles {
 
 // Reads the file section, and writes a section with these parts of its files. The error is also the
 // writer's.
-fn copy_files<M, I: ByteInput<M>, W: Write>(
+fn copy_files<R: ByteInput<OfReader>, W: Write>(
     alloc: Global,
-    input: &mut I,
+    reader: &mut R,
     version: FormatVersion,
     writer: &mut W,
     kept: KeptParts,
 ) -> Result<CopiedFiles>
     ensures { MatchResult result
         (λ copied. (files : List MDBFileInfo)
-        × ReadsViews (file_records_in version) (λ r. r) I.reads input.old input.new files
+        × ReadsViews (file_records_in version) (λ r. r) R.reads reader.old reader.new files
         × CopiesFiles kept (W.contents writer.old) (W.contents writer.new) files copied)
-        (λ e. StopsAfterViews (file_records_in version) (λ r. r) I.reads I.fails input.old input.new e
-        ⊎ IsWriteError e) }
+        (λ e. StopsAfterViews (file_records_in version) (λ r. r) R.reads R.fails reader.old
+        reader.new e ⊎ IsWriteError e) }
 {
     let mut copied = CopiedFiles::new(alloc);
     let mut buffer = BytesMut::new(alloc);
     let mut rows_left = ROW_LIMIT;
-    while let Some(file) = read_view::<MDBFileInfo, MDBFileInfoView, M, I>(
+    while let Some(file) = read_view::<MDBFileInfo, MDBFileInfoView, OfReader, R>(
         alloc,
         &mut buffer,
-        input,
+        reader,
         version,
         &mut rows_left,
     )? {
@@ -183,9 +183,9 @@ fn copy_files<M, I: ByteInput<M>, W: Write>(
 
 // Reads the xorb section, and writes the section of the xorbs that a filter accepts, with a mark on
 // each start. The error is also the writer's.
-fn copy_xorbs<M, I: ByteInput<M>, W: Write, F: Fn(&MDBXorbInfoView) -> bool>(
+fn copy_xorbs<R: ByteInput<OfReader>, W: Write, F: Fn(&MDBXorbInfoView) -> bool>(
     alloc: Global,
-    input: &mut I,
+    reader: &mut R,
     writer: &mut W,
     starts: &[FileStart],
     filter: F,
@@ -194,19 +194,19 @@ fn copy_xorbs<M, I: ByteInput<M>, W: Write, F: Fn(&MDBXorbInfoView) -> bool>(
     requires callable { (xorb : MDBXorbInfo) → FiltersAt F.Fn filter xorb }
     ensures { MatchResult result
         (λ written. (xorbs : List MDBXorbInfo)
-        × ReadsViews xorb_records (λ x. x) I.reads input.old input.new xorbs
+        × ReadsViews xorb_records (λ x. x) R.reads reader.old reader.new xorbs
         × WritesMarked (FnReturnsAt F.Fn filter) (has_start starts.now)
         (W.contents writer.old) (W.contents writer.new) xorbs written)
-        (λ e. StopsAfterViews xorb_records (λ x. x) I.reads I.fails input.old input.new e
+        (λ e. StopsAfterViews xorb_records (λ x. x) R.reads R.fails reader.old reader.new e
         ⊎ IsWriteError e) }
 {
     let mut written = WrittenXorbs::new(alloc);
     let mut buffer = BytesMut::new(alloc);
     let mut rows_left = ROW_LIMIT;
-    while let Some(xorb) = read_view::<MDBXorbInfo, MDBXorbInfoView, M, I>(
+    while let Some(xorb) = read_view::<MDBXorbInfo, MDBXorbInfoView, OfReader, R>(
         alloc,
         &mut buffer,
-        input,
+        reader,
         FormatVersion::V3,
         &mut rows_left,
     )? {

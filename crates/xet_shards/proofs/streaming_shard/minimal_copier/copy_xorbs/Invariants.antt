@@ -5,7 +5,7 @@ use Rattle.xet_shards.proofs.streaming_shard.minimal_copier.copy_xorbs.Given as 
 
 abbrev pub invariant-loop-buffer : goal.invariant-loop-buffer
 invariant-loop-buffer g l =
-    XorbsCopied g.I.ByteInput.reads l.fn.input l.input (g.W.Write.contents l.fn.writer) (g.W.Write.contents l.writer) (FnReturnsAt g.F.Fn l.filter) (has_start l.starts) l.written l.rows_left
+    XorbsCopied g.R.ByteInput.reads l.fn.reader l.reader (g.W.Write.contents l.fn.writer) (g.W.Write.contents l.writer) (FnReturnsAt g.F.Fn l.filter) (has_start l.starts) l.written l.rows_left
 
 abbrev pub decreases-loop-buffer : goal.decreases-loop-buffer
 decreases-loop-buffer g l = l.rows_left

@@ -25,7 +25,7 @@ returns-in_err-xorbs g c =
     let files = rw c.format_version-version.ensures at c.in_ok-files.ensures in
     let p = err_from_is_err_and c.from_residual-in_err-xorbs.result c.from_residual-in_err-xorbs.ensures.1 in
     rw (p.1, p.2) (xorbs_not_copied g.R.Read.remaining c.args.reader.now c.deserialize.new.reader _
-    (record { header = c.in_ok-deserialize.field-0; tag = header.tag.0; version = header.tag.1; taken = header.bytes }) files.0 c.copy_files.new.input _ files.1 c.in_err-xorbs.ensures)
+    (record { header = c.in_ok-deserialize.field-0; tag = header.tag.0; version = header.tag.1; taken = header.bytes }) files.0 c.copy_files.new.reader _ files.1 c.in_err-xorbs.ensures)
 
 pub returns : goal.returns
 returns g c =
@@ -48,7 +48,7 @@ returns g c =
     record {
       shard = m;
       read = both_read g.R.Read.remaining c.args.reader.now c.deserialize.new.reader _
-          (record { header = c.in_ok-deserialize.field-0; tag = header.tag.0; version = header.tag.1; taken = header.bytes }) files.0 c.copy_files.new.input xorbs.0 files.1 xorbs.1;
+          (record { header = c.in_ok-deserialize.field-0; tag = header.tag.0; version = header.tag.1; taken = header.bytes }) files.0 c.copy_files.new.reader xorbs.0 files.1 xorbs.1;
       appended = (all_written _ (λ x b answer. answer.says.met) old new kept c.args.now m (Ok n) (subst (λ o. WritesKept _ old new (map (as_kept kept) files.0) m o n) options.ensures wrote)).appended;
       lacks_rows = lacks_any files.0 _ files.2.lacks;
     }
