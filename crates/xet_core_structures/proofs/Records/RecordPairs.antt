@@ -9,7 +9,7 @@ use Rattle.std.specs.declared.cmp.Ordering.{Ordering}
 use Rattle.std.specs.declared.cmp.Ordering.TheVariants.{Less, Equal}
 use Rattle.std.proofs.lemmas.List.{map-append}
 use Rattle.std.proofs.lemmas.List.Elements.{All-append, All-cons, All-nil}
-use Rattle.std.proofs.lemmas.Option.{none-some}
+use Rattle.std.proofs.lemmas.Option.{none-some, IfSome_then}
 use Rattle.xet_base.specs.declared.merklehash.DataHash.{DataHash}
 use Rattle.xet_base.specs.Hash.{hash_cmp}
 use Rattle.xet_base.proofs.HashOrder.{hash_cmp-IsTotalOrder, same_key}
@@ -31,6 +31,10 @@ module _ {H R : Type 0} (K : RecordKind H R) where
 
   abbrev pub ComeAfter : DataHash → List R → Type 0
   ComeAfter k rs = AllByRecursion (λ r. hash_cmp k (key_of_record K r) ≡ Less) rs
+
+  -- the header that comes next, if there is one, has a greater hash
+  abbrev pub ComesLater : DataHash → Option H → Type 0
+  ComesLater k next = IfSome next (λ h. hash_cmp k (K.hash_of h) ≡ Less)
 
   pub before_later : (k q : DataHash) (rs : List R) → hash_cmp k q ≡ Less → Before k rs → Before q rs
   before_later k q rs less before = all_through _ _ rs (λ r below. hash_cmp-IsTotalOrder.trans (key_of_record K r) k q below less) before
@@ -101,14 +105,32 @@ module _ {H R : Type 0} (K : RecordKind H R) where
   stored_push k rs (Some r) under all = All-append K.IsStored rs (r ∷ []) all (All-cons K.IsStored r [] under.1 (All-nil K.IsStored))
 
   module _ (IsEither : Option R → Option R → Option R → Type 0) where
-    pub none_combined : IsEither None None None → Combines K IsEither [] [] []
+    -- the fronts of two lists ascend and are combined, and the next header of each, if there is one, has a greater hash than they and what was made
+    pub record AreCombinedBefore (xs ys zs : List R) (next_1 next_2 : Option H) : Type 0 where
+      pub first_ascends : Ascends K xs
+      pub second_ascends : Ascends K ys
+      pub combined : Combines K IsEither xs ys zs
+      pub passed_1 : IfSome next_1 (λ h. ArePassed K xs ys zs (K.hash_of h))
+      pub passed_2 : IfSome next_2 (λ h. ArePassed K xs ys zs (K.hash_of h))
+
+    pub combined_start : IsEither None None None → (next_1 next_2 : Option H) → AreCombinedBefore [] [] [] next_1 next_2
     unfolding IsStrictlySortedBy
-    none_combined nothing = record { ascends = tt; each = λ q. nothing; stored = All-nil K.IsStored }
+    combined_start nothing next_1 next_2 =
+        record { first_ascends = tt; second_ascends = tt; combined = record { ascends = tt; each = λ q. nothing; stored = All-nil K.IsStored }; passed_1 = none_passed next_1; passed_2 = none_passed next_2 }
+      where
+        none_passed : (next : Option H) → IfSome next (λ h. ArePassed K [] [] [] (K.hash_of h))
+        none_passed None = tt
+        none_passed (Some h) = record { first = tt; second = tt; combined = tt }
+
+    -- so they and what was made have smaller hashes than the next header of either
+    pub next_passed : (xs ys zs : List R) (next_1 next_2 : Option H) → AreCombinedBefore xs ys zs next_1 next_2 → (k : DataHash) (h : H) → (next_1 ≡ Some h) ⊎ (next_2 ≡ Some h) → K.hash_of h ≡ k → ArePassed K xs ys zs k
+    next_passed xs ys zs next_1 next_2 fronts k h (inl is) hash = subst (ArePassed K xs ys zs) hash (subst (λ o. IfSome o (λ g. ArePassed K xs ys zs (K.hash_of g))) is fronts.passed_1)
+    next_passed xs ys zs next_1 next_2 fronts k h (inr is) hash = subst (ArePassed K xs ys zs) hash (subst (λ o. IfSome o (λ g. ArePassed K xs ys zs (K.hash_of g))) is fronts.passed_2)
 
     -- one hash more: the first's record, the second's, and what is made of them
     module _ (k : DataHash) (ox oy oz : Option R) (x_under : HasHash k ox) (y_under : HasHash k oy) (z_under : IsUnder k oz) (made : IsEither ox oy oz)
         (fx fy out : List R) (passed : ArePassed K fx fy out k) where
-      pub passed_on : (q : DataHash) → hash_cmp k q ≡ Less → ArePassed K (fx ++ option_to_list ox) (fy ++ option_to_list oy) (out ++ option_to_list oz) q
+      passed_on : (q : DataHash) → hash_cmp k q ≡ Less → ArePassed K (fx ++ option_to_list ox) (fy ++ option_to_list oy) (out ++ option_to_list oz) q
       passed_on q less = record {
         first = before_push k q fx ox x_under less (before_later k q fx less passed.first);
         second = before_push k q fy oy y_under less (before_later k q fy less passed.second);
@@ -129,8 +151,15 @@ module _ {H R : Type 0} (K : RecordKind H R) where
         stored = stored_push k out oz z_under so_far.stored;
       }
 
-      pub still_ascending : Ascends K fx → Ascends K fy → Ascends K (fx ++ option_to_list ox) × Ascends K (fy ++ option_to_list oy)
-      still_ascending first second = (ascends_push k fx ox x_under passed.first first, ascends_push k fy oy y_under passed.second second)
+      pub combined_on : (next_1 next_2 next_1' next_2' : Option H) → AreCombinedBefore fx fy out next_1 next_2 → ComesLater k next_1' → ComesLater k next_2'
+          → AreCombinedBefore (fx ++ option_to_list ox) (fy ++ option_to_list oy) (out ++ option_to_list oz) next_1' next_2'
+      combined_on next_1 next_2 next_1' next_2' fronts later_1 later_2 = record {
+        first_ascends = ascends_push k fx ox x_under passed.first fronts.first_ascends;
+        second_ascends = ascends_push k fy oy y_under passed.second fronts.second_ascends;
+        combined = more_combined fronts.combined;
+        passed_1 = IfSome_then next_1' later_1 (λ h. passed_on (K.hash_of h));
+        passed_2 = IfSome_then next_2' later_2 (λ h. passed_on (K.hash_of h));
+      }
 
   -- a list that goes on with greater hashes has the same record under a smaller one
   none_after : (k : DataHash) (rs : List R) → ComeAfter k rs → with_hash K rs k ≡ None

@@ -1,6 +1,6 @@
 -- The turns of the loop that unites two lists of records that stay where they are.
 use Rattle.std.proofs.Common.{◌≡◌, ◌⊎◌, inl, inr, ℕ, ◌+◌, ◌<◌, ◌≤◌, List, [], ◌∷◌, ◌++◌, length, Option, None, Some, Ok, Err, refl, sym, ap, ◌∙◌, subst, arith, append-nil, append_assoc}
-use Rattle.std.specs.Prelude.{⊤, Contains, MatchResult, option_to_list}
+use Rattle.std.specs.Prelude.{Contains, MatchResult, option_to_list}
 use Rattle.std.specs.declared.result.Result.{Result}
 use Rattle.std.specs.List.Sorted.{IsStrictlySortedBy}
 use Rattle.std.specs.declared.cmp.Ordering.TheVariants.{Less}
@@ -16,20 +16,20 @@ use Rattle.xet_shards.specs.Write.WithOptions.{Ascends}
 use Rattle.xet_shards.specs.Write.Section.{total_rows}
 use Rattle.xet_shards.proofs.Write.Copying.{rows_returned}
 use Rattle.xet_core_structures.specs.declared.set_operations.trees.placed.PlacedRecord.{PlacedRecord}
-use Rattle.xet_core_structures.specs.Records.RecordPairs.{key_of_record, ArePassed, Combines}
+use Rattle.xet_core_structures.specs.Records.RecordPairs.{key_of_record, Combines}
 use Rattle.xet_core_structures.specs.Steps.Placed.{MakesNothing, KeepsNext, HaveNoListUnion}
 use Rattle.xet_core_structures.specs.Steps.Placed.{CountsRows, Places, PlacesAll, MayUnite, hash_at, IsBefore}
 use Rattle.xet_core_structures.specs.Steps.Placed.KeepsNext.{takes_first, takes_second, takes_both}
-use Rattle.xet_core_structures.proofs.Records.RecordPairs.{HasHash, IsUnder, none_combined, more_combined, passed_on}
+use Rattle.xet_core_structures.proofs.Records.RecordPairs.{ComesLater, HasHash, AreCombinedBefore, combined_start, next_passed, combined_on}
 use Rattle.xet_core_structures.proofs.TwoShards.OneSection.{header_of_found}
 use Rattle.xet_core_structures.proofs.Records.Zipped.{zipped_append}
 
-module _ {H R : Type 0} (K : RecordKind H R) (makes : Option R → Option R → Option R → Type 0) where
-  -- what comes first of a list comes after what two others and their union have
-  abbrev IsPassed : List R → List R → List R → List R → Type 0
-  IsPassed xs ys zs [] = ⊤
-  IsPassed xs ys zs (r ∷ rs) = ArePassed K xs ys zs (key_of_record K r)
+-- the header of the first of a list of records in place, if there is one
+abbrev next_header : {H : Type 0} → List (PlacedRecord H) → Option H
+next_header [] = None
+next_header (p ∷ ps) = Some p.header
 
+module _ {H R : Type 0} (K : RecordKind H R) (makes : Option R → Option R → Option R → Type 0) where
   -- the fronts of two lists are united, and these are left
   pub record IsUniting (xs ys : List R) (ps qs made : List (PlacedRecord H)) (rows : ℕ) : Type 0 where
     before_1 : List R
@@ -44,9 +44,7 @@ module _ {H R : Type 0} (K : RecordKind H R) (makes : Option R → Option R → 
     pub places : PlacesAll K made zs
     ascends_1 : Ascends K after_1
     ascends_2 : Ascends K after_2
-    pub combined : Combines K makes before_1 before_2 zs
-    pub passed_1 : IsPassed before_1 before_2 zs after_1
-    pub passed_2 : IsPassed before_1 before_2 zs after_2
+    fronts : AreCombinedBefore K makes before_1 before_2 zs (next_header ps) (next_header qs)
     pub counted : CountsRows (total_rows K zs) rows
 
 module _ {H R : Type 0} (K : RecordKind H R) (laws : KindLaws K) where
@@ -63,25 +61,19 @@ module _ {H R : Type 0} (K : RecordKind H R) (laws : KindLaws K) where
   pub stored_placed : (p : PlacedRecord H) (r : R) → Places K p r → K.IsStored r
   stored_placed p r places = subst K.IsStored places.rows.returned (laws.as_read_stored places.rows.stored (places.rows.is_stored places.header.is_record places.header.fits))
 
-  -- a hash is less than the first of a list
-  abbrev ComesAfter : DataHash → List R → Type 0
-  ComesAfter k [] = ⊤
-  ComesAfter k (r ∷ rs) = hash_cmp k (key_of_record K r) ≡ Less
-
-  after_first : (r : R) (rs : List R) → Ascends K (r ∷ rs) → ComesAfter (key_of_record K r) rs
+  after_first : (k : DataHash) (r : R) (ps : List (PlacedRecord H)) (rs : List R) → key_of_record K r ≡ k → PlacesAll K ps rs → Ascends K (r ∷ rs) → ComesLater K k (next_header ps)
   unfolding IsStrictlySortedBy
-  after_first r [] ascends = tt
-  after_first r (s ∷ rs) ascends = ascends.0.0
+  after_first k r [] rs key all ascends = tt
+  after_first k r (p ∷ ps) [] key all ascends = absurd all
+  after_first k r (p ∷ ps) (s ∷ rs) key all ascends = subst (λ t. t) (λ i. hash_cmp (key i) (key_placed p s all.0 i) ≡ Less) ascends.0.0
 
   ascends_rest : (r : R) (rs : List R) → Ascends K (r ∷ rs) → Ascends K rs
   unfolding IsStrictlySortedBy
   ascends_rest r rs ascends = ascends.1
 
-  after_placed : (k : DataHash) (qs : List (PlacedRecord H)) (rs : List R) → PlacesAll K qs rs → IsBefore K k qs → ComesAfter k rs
-  after_placed k [] [] all before = tt
-  after_placed k [] (r ∷ rs) all before = absurd all
-  after_placed k (q ∷ qs) [] all before = absurd all
-  after_placed k (q ∷ qs) (r ∷ rs) all before = subst (λ j. hash_cmp k j ≡ Less) (sym (key_placed q r all.0)) before
+  is_later : (k : DataHash) (ps qs : List (PlacedRecord H)) → ps ≡ qs → IsBefore K k ps → ComesLater K k (next_header qs)
+  is_later k ps [] same before = tt
+  is_later k ps (q ∷ qs) same before = subst (IsBefore K k) same before
 
   -- the record that a list begins with
   pub record HasFirst (p : PlacedRecord H) (ps : List (PlacedRecord H)) (rs : List R) : Type 0 where
@@ -119,29 +111,17 @@ module _ {H R : Type 0} (K : RecordKind H R) (laws : KindLaws K) where
       places = tt;
       ascends_1 = first.ascends;
       ascends_2 = second.ascends;
-      combined = none_combined K makes nothing;
-      passed_1 = none_passed xs;
-      passed_2 = none_passed ys;
+      fronts = combined_start K makes nothing (next_header ps) (next_header qs);
       counted = inl refl;
-    } where
-      none_passed : (rs : List R) → IsPassed K makes [] [] [] rs
-      none_passed [] = tt
-      none_passed (r ∷ rs) = record { first = tt; second = tt; combined = tt }
+    }
 
     module _ (xs ys : List R) (ps qs made : List (PlacedRecord H)) (rows : ℕ) (uniting : IsUniting K makes xs ys ps qs made rows) where
       -- one hash more
-      module _ (one other : Option R) (z : R) (p : PlacedRecord H) (xs' ys' : List R) (ps' qs' : List (PlacedRecord H)) (k : DataHash) (counted : ℕ)
-          (first : uniting.after_1 ≡ option_to_list one ++ xs') (second : uniting.after_2 ≡ option_to_list other ++ ys') (one_hash : HasHash K k one) (other_hash : HasHash K k other)
-          (is_made : makes one other (Some z)) (places : Places K p z) (z_hash : key_of_record K z ≡ k) (passed : ArePassed K uniting.before_1 uniting.before_2 uniting.zs k)
-          (places_1 : PlacesAll K ps' xs') (places_2 : PlacesAll K qs' ys') (ascends_1 : Ascends K xs') (ascends_2 : Ascends K ys') (later_1 : ComesAfter k xs') (later_2 : ComesAfter k ys')
+      module _ (one other : Option R) (z : R) (p : PlacedRecord H) (xs' ys' : List R) (ps' qs' : List (PlacedRecord H)) (counted : ℕ) (h : H)
+          (first : uniting.after_1 ≡ option_to_list one ++ xs') (second : uniting.after_2 ≡ option_to_list other ++ ys') (one_hash : HasHash K (hash_at K p) one) (other_hash : HasHash K (hash_at K p) other)
+          (is_made : makes one other (Some z)) (places : Places K p z) (next : (next_header ps ≡ Some h) ⊎ (next_header qs ≡ Some h)) (hash : K.hash_of h ≡ hash_at K p)
+          (places_1 : PlacesAll K ps' xs') (places_2 : PlacesAll K qs' ys') (ascends_1 : Ascends K xs') (ascends_2 : Ascends K ys') (later_1 : ComesLater K (hash_at K p) (next_header ps')) (later_2 : ComesLater K (hash_at K p) (next_header qs'))
           (counts : CountsRows (total_rows K uniting.zs + (1 + K.rows_after p.header)) counted) where
-        z_under : IsUnder K k (Some z)
-        z_under = (z_hash, stored_placed p z places)
-
-        passed_next : (rs : List R) → ComesAfter k rs → IsPassed K makes (uniting.before_1 ++ option_to_list one) (uniting.before_2 ++ option_to_list other) (uniting.zs ++ z ∷ []) rs
-        passed_next [] later = tt
-        passed_next (r ∷ rs) later = passed_on K makes k one other (Some z) one_hash other_hash z_under is_made uniting.before_1 uniting.before_2 uniting.zs passed (key_of_record K r) later
-
         one_more : IsUniting K makes xs ys ps' qs' (made ++ p ∷ []) counted
         one_more = record {
           before_1 = uniting.before_1 ++ option_to_list one;
@@ -156,14 +136,11 @@ module _ {H R : Type 0} (K : RecordKind H R) (laws : KindLaws K) where
           places = zipped_append (Places K) made (p ∷ []) uniting.zs (z ∷ []) uniting.places (places, tt);
           ascends_1 = ascends_1;
           ascends_2 = ascends_2;
-          combined = more_combined K makes k one other (Some z) one_hash other_hash z_under is_made uniting.before_1 uniting.before_2 uniting.zs passed uniting.combined;
-          passed_1 = passed_next xs' later_1;
-          passed_2 = passed_next ys' later_2;
+          fronts = combined_on K makes (hash_at K p) one other (Some z) one_hash other_hash (key_placed p z places, stored_placed p z places) is_made uniting.before_1 uniting.before_2 uniting.zs
+              (next_passed K makes uniting.before_1 uniting.before_2 uniting.zs (next_header ps) (next_header qs) uniting.fronts (hash_at K p) h next hash)
+              (next_header ps) (next_header qs) (next_header ps') (next_header qs') uniting.fronts later_1 later_2;
           counted = counted_more (total_rows K uniting.zs) counted 0 uniting.zs z p places refl counts;
         }
-
-      abbrev IsPassedBy : List R → Type 0
-      IsPassedBy = IsPassed K makes uniting.before_1 uniting.before_2 uniting.zs
 
       module _ (first_alone : (r : R) → makes (Some r) None (Some r)) (second_alone : (r : R) → makes None (Some r) (Some r)) where
         pub uniting_on : (p : PlacedRecord H) (ps' qs' : List (PlacedRecord H)) (counted : ℕ) → KeepsNext K makes ps qs p ps' qs'
@@ -173,17 +150,17 @@ module _ {H R : Type 0} (K : RecordKind H R) (laws : KindLaws K) where
             let r = first.record_of in
             let ascends = subst (Ascends K) first.is uniting.ascends_1 in
             let key = key_placed p r first.here in
-            one_more (Some r) None r p first.others uniting.after_2 ps' qs' (key_of_record K r) counted first.is refl refl tt (first_alone r) first.here refl (subst IsPassedBy first.is uniting.passed_1)
-            first.rest (subst (λ l. PlacesAll K l uniting.after_2) qs_is uniting.places_2) (ascends_rest r first.others ascends) uniting.ascends_2 (after_first r first.others ascends)
-            (after_placed (key_of_record K r) qs uniting.after_2 uniting.places_2 (subst (λ k. IsBefore K k qs) (sym key) before)) counts
+            one_more (Some r) None r p first.others uniting.after_2 ps' qs' counted p.header first.is refl key tt (first_alone r) first.here (inl (ap next_header ps_is)) refl
+            first.rest (subst (λ l. PlacesAll K l uniting.after_2) qs_is uniting.places_2) (ascends_rest r first.others ascends) uniting.ascends_2
+            (after_first (hash_at K p) r ps' first.others key first.rest ascends) (is_later (hash_at K p) qs qs' qs_is before) counts
         uniting_on p ps' qs' counted (takes_second qs_is ps_is before) counts =
             let second = first_placed p qs' uniting.after_2 (subst (λ l. PlacesAll K l uniting.after_2) qs_is uniting.places_2) in
             let r = second.record_of in
             let ascends = subst (Ascends K) second.is uniting.ascends_2 in
             let key = key_placed p r second.here in
-            one_more None (Some r) r p uniting.after_1 second.others ps' qs' (key_of_record K r) counted refl second.is tt refl (second_alone r) second.here refl (subst IsPassedBy second.is uniting.passed_2)
+            one_more None (Some r) r p uniting.after_1 second.others ps' qs' counted p.header refl second.is tt key (second_alone r) second.here (inr (ap next_header qs_is)) refl
             (subst (λ l. PlacesAll K l uniting.after_1) ps_is uniting.places_1) second.rest uniting.ascends_1 (ascends_rest r second.others ascends)
-            (after_placed (key_of_record K r) ps uniting.after_1 uniting.places_1 (subst (λ k. IsBefore K k ps) (sym key) before)) (after_first r second.others ascends) counts
+            (is_later (hash_at K p) ps ps' ps_is before) (after_first (hash_at K p) r qs' second.others key second.rest ascends) counts
         uniting_on p ps' qs' counted (takes_both g h ps_is qs_is same made_of) counts = both (made_of.1 first.record_of second.record_of first.here second.here) where
           first : HasFirst g ps' uniting.after_1
           first = first_placed g ps' uniting.after_1 (subst (λ l. PlacesAll K l uniting.after_1) ps_is uniting.places_1)
@@ -191,17 +168,15 @@ module _ {H R : Type 0} (K : RecordKind H R) (laws : KindLaws K) where
           second : HasFirst h qs' uniting.after_2
           second = first_placed h qs' uniting.after_2 (subst (λ l. PlacesAll K l uniting.after_2) qs_is uniting.places_2)
 
-          one_key : key_of_record K second.record_of ≡ key_of_record K first.record_of
-          one_key = key_placed h second.record_of second.here ∙ sym same ∙ sym (key_placed g first.record_of first.here)
-
           both : (z : R) × Places K p z × makes (Some first.record_of) (Some second.record_of) (Some z) → IsUniting K makes xs ys ps' qs' (made ++ p ∷ []) counted
           both (z, places, is_made) =
               let ascends_1 = subst (Ascends K) first.is uniting.ascends_1 in
               let ascends_2 = subst (Ascends K) second.is uniting.ascends_2 in
-              let z_key = key_placed p z places ∙ made_of.0 ∙ sym (key_placed g first.record_of first.here) in
-              one_more (Some first.record_of) (Some second.record_of) z p first.others second.others ps' qs' (key_of_record K first.record_of) counted first.is second.is refl one_key is_made places z_key
-              (subst IsPassedBy first.is uniting.passed_1) first.rest second.rest (ascends_rest first.record_of first.others ascends_1) (ascends_rest second.record_of second.others ascends_2)
-              (after_first first.record_of first.others ascends_1) (subst (λ k. ComesAfter k second.others) one_key (after_first second.record_of second.others ascends_2)) counts
+              let key_1 = key_placed g first.record_of first.here ∙ sym made_of.0 in
+              let key_2 = key_placed h second.record_of second.here ∙ sym same ∙ sym made_of.0 in
+              one_more (Some first.record_of) (Some second.record_of) z p first.others second.others ps' qs' counted g.header first.is second.is key_1 key_2 is_made places (inl (ap next_header ps_is)) (sym made_of.0)
+              first.rest second.rest (ascends_rest first.record_of first.others ascends_1) (ascends_rest second.record_of second.others ascends_2)
+              (after_first (hash_at K p) first.record_of ps' first.others key_1 first.rest ascends_1) (after_first (hash_at K p) second.record_of qs' second.others key_2 second.rest ascends_2) counts
 
       -- nothing is left
       uniting_ends : ps ≡ [] → qs ≡ [] → Combines K makes xs ys uniting.zs
@@ -210,7 +185,7 @@ module _ {H R : Type 0} (K : RecordKind H R) (laws : KindLaws K) where
           let second = none_placed uniting.after_2 (subst (λ l. PlacesAll K l uniting.after_2) qs_none uniting.places_2) in
           let xs_are : uniting.before_1 ≡ xs = sym (uniting.first_is ∙ ap (λ rs. uniting.before_1 ++ rs) first ∙ append-nil uniting.before_1) in
           let ys_are : uniting.before_2 ≡ ys = sym (uniting.second_is ∙ ap (λ rs. uniting.before_2 ++ rs) second ∙ append-nil uniting.before_2) in
-          subst (λ p. p) (λ i. Combines K makes (xs_are i) (ys_are i) uniting.zs) uniting.combined
+          subst (λ p. p) (λ i. Combines K makes (xs_are i) (ys_are i) uniting.zs) uniting.fronts.combined
 
       pub few_rows : rows ≤ 4294967295 → total_rows K uniting.zs ≤ 4294967295
       few_rows few = of_count uniting.counted where

@@ -2,15 +2,12 @@
 use Rattle.std.proofs.Common.{◌≡◌, ◌⊎◌, inl, inr, ℕ, ◌+◌, ◌<◌, ◌≤◌, Bool, true, false, if◌then◌else◌, List, [], ◌∷◌, ◌++◌, flat_map, Option, None, Some, IfSome, is_some, refl, sym, ap, ◌∙◌, subst, arith, true≢false}
 use Rattle.std.specs.Prelude.{option_to_list}
 use Rattle.std.specs.Io.KnownBytes.{Appends}
-use Rattle.std.specs.List.Sorted.{IsStrictlySortedBy}
-use Rattle.std.specs.declared.cmp.Ordering.TheVariants.{Less}
 use Rattle.std.proofs.KnownBytes.{Appends-nil, Appends-trans}
 use Rattle.std.proofs.lemmas.Grind.{flat_map-append}
 use Rattle.std.proofs.lemmas.List.Sums.{sum_by-append, sum_by-cons}
 use Rattle.std.proofs.lemmas.Option.{same_Some, none-some}
 use Rattle.xet_base.specs.declared.error.CoreError.{CoreError}
 use Rattle.xet_base.specs.declared.merklehash.DataHash.{DataHash}
-use Rattle.xet_base.specs.Hash.{hash_cmp}
 use Rattle.xet_base.specs.Source.{Source, ReadsBytes, bytes_left, NoFailure}
 use Rattle.xet_records.specs.declared.row_copier.CopyFailure.{CopyFailure}
 use Rattle.xet_records.specs.declared.row_copier.CopyFailure.TheVariants.{Input, Output}
@@ -19,18 +16,17 @@ use Rattle.xet_records.specs.declared.record_reader.FormatVersion.{FormatVersion
 use Rattle.xet_records.specs.RecordKind.{RecordKind, in_version, KindLaws}
 use Rattle.xet_records.specs.Reading.{ReadsNextHeader}
 use Rattle.xet_records.proofs.RecordKinds.{laws_in}
-use Rattle.xet_shards.specs.Write.WithOptions.{Ascends}
 use Rattle.xet_shards.specs.Write.Section.{total_rows, section_bytes}
 use Rattle.xet_shards.specs.Read.SectionReading.{StreamsSection}
 use Rattle.xet_shards.proofs.Read.SectionReading.{section_ends}
-use Rattle.xet_core_structures.specs.Records.RecordPairs.{key_of_record, ComeBefore, ArePassed, Combines, IsMadeOf, rows_in}
+use Rattle.xet_core_structures.specs.Records.RecordPairs.{key_of_record, ComeBefore, ArePassed, IsMadeOf, rows_in}
 use Rattle.xet_core_structures.specs.Steps.RecordPairs.{IsNextPair}
-use Rattle.xet_core_structures.specs.Steps.MergeJoin.{Follows, ReadsFollowing, Advances, AdvanceFails, ReadsOptionalRecord, WritesMade, CannotMake, PairFails, WritesCombined, AscendingNotStreamed, CannotCombine, SectionsFail}
+use Rattle.xet_core_structures.specs.Steps.MergeJoin.{ReadsFollowing, Advances, AdvanceFails, ReadsOptionalRecord, WritesMade, CannotMake, PairFails, WritesCombined, AscendingNotStreamed, CannotCombine, SectionsFail}
 use Rattle.xet_core_structures.specs.Steps.MergeJoin.PairFails.{output_fails as pair_output_fails, first_fails as pair_first_fails, second_fails as pair_second_fails, refused as pair_refused}
 use Rattle.xet_core_structures.specs.Steps.MergeJoin.SectionsFail.{output_fails, first_fails, second_fails, refused}
 use Rattle.xet_core_structures.specs.TwoShards.Streams.{streams}
 use Rattle.xet_core_structures.specs.Steps.Streams.{sources}
-use Rattle.xet_core_structures.proofs.Records.RecordPairs.{IsUnder, hash_under, none_combined, passed_on, more_combined, still_ascending}
+use Rattle.xet_core_structures.proofs.Records.RecordPairs.{ComesLater, HasHash, IsUnder, hash_under, AreCombinedBefore, combined_start, next_passed, combined_on}
 use Rattle.xet_core_structures.proofs.TwoShards.OneSection.{serves_on, weight, passed_serves, HasPending, pending_start, pending_serves, pending_on, under_pending, front_of, weight_on, rows_not_read, no_next}
 
 module _ {H R : Type 0} (K : RecordKind H R) where
@@ -38,9 +34,9 @@ module _ {H R : Type 0} (K : RecordKind H R) where
   pub record IsPair (next_1 next_2 one two : Option H) (k : DataHash) : Type 0 where
     pub first : (h : H) → one ≡ Some h → (next_1 ≡ Some h) × (K.hash_of h ≡ k)
     pub second : (h : H) → two ≡ Some h → (next_2 ≡ Some h) × (K.hash_of h ≡ k)
-    pub later_1 : one ≡ None → IfSome next_1 (λ h. hash_cmp k (K.hash_of h) ≡ Less)
-    pub later_2 : two ≡ None → IfSome next_2 (λ h. hash_cmp k (K.hash_of h) ≡ Less)
-    pub some : one ≡ None → ¬ (two ≡ None)
+    pub later_1 : one ≡ None → ComesLater K k next_1
+    pub later_2 : two ≡ None → ComesLater K k next_2
+    pub some : ((h : H) × (one ≡ Some h)) ⊎ ((h : H) × (two ≡ Some h))
 
   -- both sections are read up to a record, and what is made of those before is written
   pub record IsMerging (v w : FormatVersion) (makes : Option R → Option R → Option R → Type 0) (start_1 now_1 start_2 now_2 : Source) (left_1 left_2 : ℕ) (next_1 next_2 : Option H) (Written : List R → Type 0) (old new : Option (List ℕ)) : Type 0 where
@@ -49,11 +45,7 @@ module _ {H R : Type 0} (K : RecordKind H R) where
     pub made : List R
     pub first : HasPending (in_version K v) start_1 now_1 left_1 next_1 firsts
     pub second : HasPending (in_version K w) start_2 now_2 left_2 next_2 seconds
-    pub first_ascends : Ascends K firsts
-    pub second_ascends : Ascends K seconds
-    pub combined : Combines K makes firsts seconds made
-    pub passed_1 : IfSome next_1 (λ h. ArePassed K firsts seconds made (K.hash_of h))
-    pub passed_2 : IfSome next_2 (λ h. ArePassed K firsts seconds made (K.hash_of h))
+    pub fronts : AreCombinedBefore K makes firsts seconds made next_1 next_2
     pub few : total_rows K made ≤ 4294967295
     pub rows : total_rows K made ≤ total_rows K firsts + total_rows K seconds
     pub written : Written made
@@ -71,19 +63,19 @@ module _ {H R : Type 0} (K : RecordKind H R) (laws : KindLaws K) where
   pair_of None None a b next (inr some) = absurd (true≢false (sym some))
   pair_of None (Some g) a b next some = (
     K.hash_of g,
-    record { first = λ h is. is_none h a next.0 is; second = λ h is. is_the g h b next.1 is; later_1 = λ _. tt; later_2 = λ none. is_none g b none next.1; some = λ _ none. is_none g b none next.1 },
+    record { first = λ h is. is_none h a next.0 is; second = λ h is. is_the g h b next.1 is; later_1 = λ _. tt; later_2 = λ none. is_none g b none next.1; some = inr (g, next.1) },
   )
   pair_of (Some g) None a b next some = (
     K.hash_of g,
-    record { first = λ h is. is_the g h a next.0 is; second = λ h is. is_none h b next.1 is; later_1 = λ none. is_none g a none next.0; later_2 = λ _. tt; some = λ none _. is_none g a none next.0 },
+    record { first = λ h is. is_the g h a next.0 is; second = λ h is. is_none h b next.1 is; later_1 = λ none. is_none g a none next.0; later_2 = λ _. tt; some = inl (g, next.0) },
   )
   pair_of (Some g) (Some h) a b (inl (less, one, two)) some = (
     K.hash_of g,
-    record { first = λ f is. is_the g f a one is; second = λ f is. is_none f b two is; later_1 = λ none. is_none g a none one; later_2 = λ _. less; some = λ none _. is_none g a none one },
+    record { first = λ f is. is_the g f a one is; second = λ f is. is_none f b two is; later_1 = λ none. is_none g a none one; later_2 = λ _. less; some = inl (g, one) },
   )
   pair_of (Some g) (Some h) a b (inr (inl (less, one, two))) some = (
     K.hash_of h,
-    record { first = λ f is. is_none f a one is; second = λ f is. is_the h f b two is; later_1 = λ _. less; later_2 = λ none. is_none h b none two; some = λ _ none. is_none h b none two },
+    record { first = λ f is. is_none f a one is; second = λ f is. is_the h f b two is; later_1 = λ _. less; later_2 = λ none. is_none h b none two; some = inr (h, two) },
   )
   pair_of (Some g) (Some h) a b (inr (inr (same, one, two))) some = (
     K.hash_of g,
@@ -92,7 +84,7 @@ module _ {H R : Type 0} (K : RecordKind H R) (laws : KindLaws K) where
       second = λ f is. let other = is_the h f b two is in (other.0, other.1 ∙ sym same);
       later_1 = λ none. is_none g a none one;
       later_2 = λ none. is_none h b none two;
-      some = λ none _. is_none g a none one;
+      some = inl (g, one);
     },
   )
 
@@ -111,34 +103,24 @@ module _ {H R : Type 0} (K : RecordKind H R) (laws : KindLaws K) (v w : FormatVe
     arith,
     weight_on K laws v p a p' old_1 new_1 left_1 after_1 (λ h is. (pair.first h is).0) one,
     weight_on K laws w q b q' old_2 new_2 left_2 after_2 (λ h is. (pair.second h is).0) other,
-    either a b pair.some,
+    either pair.some,
   )
     where
-      either : (a b : Option H) → (a ≡ None → ¬ (b ≡ None)) → 1 ≤ (if is_some a then 1 else 0) + (if is_some b then 1 else 0)
-      either None None some = absurd (some refl refl)
-      either None (Some h) some = omega arith
-      either (Some h) b some = omega arith
+      either : ((h : H) × (a ≡ Some h)) ⊎ ((h : H) × (b ≡ Some h)) → 1 ≤ (if is_some a then 1 else 0) + (if is_some b then 1 else 0)
+      either (inl (h, at)) = omega (arith, ap {B = ℕ} (λ (o : Option H). if is_some o then 1 else 0) at)
+      either (inr (h, at)) = omega (arith, ap {B = ℕ} (λ (o : Option H). if is_some o then 1 else 0) at)
 
   module _ (makes : Option R → Option R → Option R → Type 0) where
-    none_passed : (next : Option H) → IfSome next (λ h. ArePassed K [] [] [] (K.hash_of h))
-    none_passed None = tt
-    none_passed (Some h) = record { first = tt; second = tt; combined = tt }
-
     pub merging_start : makes None None None → (start_1 now_1 start_2 now_2 : Source) (left_1 left_2 : ℕ) (next_1 next_2 : Option H) (Written : List R → Type 0) (old : Option (List ℕ))
         → ReadsFollowing (in_version K v) None start_1 now_1 4294967295 left_1 next_1 → ReadsFollowing (in_version K w) None start_2 now_2 4294967295 left_2 next_2 → Written []
         → IsMerging K v w makes start_1 now_1 start_2 now_2 left_1 left_2 next_1 next_2 Written old old
-    unfolding IsStrictlySortedBy
     merging_start nothing start_1 now_1 start_2 now_2 left_1 left_2 next_1 next_2 Written old one other written = record {
       firsts = [];
       seconds = [];
       made = [];
       first = pending_start K laws v start_1 now_1 left_1 next_1 one;
       second = pending_start K laws w start_2 now_2 left_2 next_2 other;
-      first_ascends = tt;
-      second_ascends = tt;
-      combined = none_combined K makes nothing;
-      passed_1 = none_passed next_1;
-      passed_2 = none_passed next_2;
+      fronts = combined_start K makes nothing next_1 next_2;
       few = omega arith;
       rows = omega arith;
       written = written;
@@ -150,48 +132,31 @@ module _ {H R : Type 0} (K : RecordKind H R) (laws : KindLaws K) (v w : FormatVe
       -- one pair more
       module _ (one two : Option H) (k : DataHash) (pair : IsPair K next_1 next_2 one two k) where
         passed_at : ArePassed K merging.firsts merging.seconds merging.made k
-        passed_at = of_pair one two (λ h is. pair.first h is) (λ h is. pair.second h is) pair.some where
-          of_pair : (a b : Option H) → ((h : H) → a ≡ Some h → (next_1 ≡ Some h) × (K.hash_of h ≡ k)) → ((h : H) → b ≡ Some h → (next_2 ≡ Some h) × (K.hash_of h ≡ k)) → (a ≡ None → ¬ (b ≡ None))
-              → ArePassed K merging.firsts merging.seconds merging.made k
-          of_pair None None first second some = absurd (some refl refl)
-          of_pair None (Some h) first second some =
-              let is = second h refl in
-              subst (ArePassed K merging.firsts merging.seconds merging.made) is.1 (subst (λ o. IfSome o (λ h. ArePassed K merging.firsts merging.seconds merging.made (K.hash_of h))) is.0 merging.passed_2)
-          of_pair (Some h) b first second some =
-              let is = first h refl in
-              subst (ArePassed K merging.firsts merging.seconds merging.made) is.1 (subst (λ o. IfSome o (λ h. ArePassed K merging.firsts merging.seconds merging.made (K.hash_of h))) is.0 merging.passed_1)
+        passed_at = of_pair pair.some where
+          of_pair : ((h : H) × (one ≡ Some h)) ⊎ ((h : H) × (two ≡ Some h)) → ArePassed K merging.firsts merging.seconds merging.made k
+          of_pair (inl (h, at)) = let is = pair.first h at in next_passed K makes merging.firsts merging.seconds merging.made next_1 next_2 merging.fronts k h (inl is.0) is.1
+          of_pair (inr (h, at)) = let is = pair.second h at in next_passed K makes merging.firsts merging.seconds merging.made next_1 next_2 merging.fronts k h (inr is.0) is.1
+
+        -- what comes next of a section has a greater hash
+        later_on : (version : FormatVersion) (next a next' : Option H) (old new : Source) (left after : ℕ) → ((h : H) → a ≡ Some h → (next ≡ Some h) × (K.hash_of h ≡ k)) → (a ≡ None → ComesLater K k next)
+            → Advances (in_version K version) next a old new left after next' → ComesLater K k next'
+        later_on version next None next' old new left after is later (next_is, _, _) = subst (ComesLater K k) (sym next_is) (later refl)
+        later_on version next (Some g) next' old new left after is later following = subst (λ j. ComesLater K j next') (is g refl).1 following.follows
 
         -- the sources after the records of the pair were read
         module _ (mid_1 mid_2 : Source) (x y : Option R) (first : ReadsOptionalRecord K one now_1 mid_1 x) (second : ReadsOptionalRecord K two now_2 mid_2 y) where
-          x_under : IsUnder K k x
-          x_under = under_pending K laws v start_1 now_1 left_1 next_1 merging.firsts merging.first mid_1 k one x pair.first first
+          x_under : HasHash K k x
+          x_under = hash_under K k x (under_pending K laws v start_1 now_1 left_1 next_1 merging.firsts merging.first mid_1 k one x pair.first first)
 
-          y_under : IsUnder K k y
-          y_under = under_pending K laws w start_2 now_2 left_2 next_2 merging.seconds merging.second mid_2 k two y pair.second second
+          y_under : HasHash K k y
+          y_under = hash_under K k y (under_pending K laws w start_2 now_2 left_2 next_2 merging.seconds merging.second mid_2 k two y pair.second second)
 
           made_under : (z : Option R) → IfSome z (IsMadeOf K x y) → IsUnder K k z
           made_under None is = tt
-          made_under (Some z) is = (of_one one two x y first second x_under y_under pair.some is, is.stored) where
-            of_one : (a b : Option H) (x y : Option R) → ReadsOptionalRecord K a now_1 mid_1 x → ReadsOptionalRecord K b now_2 mid_2 y → IsUnder K k x → IsUnder K k y → (a ≡ None → ¬ (b ≡ None))
-                → IsMadeOf K x y z → key_of_record K z ≡ k
-            of_one None None x y p q u v some is = absurd (some refl refl)
-            of_one (Some g) b x y (r, same, _) q u v some is = is.hash r (inl same) ∙ (subst (IsUnder K k) same u).0
-            of_one None (Some g) x y p (r, same, _) u v some is = is.hash r (inr same) ∙ (subst (IsUnder K k) same v).0
-
-          passed_after : (version : FormatVersion) (z : Option R) → IfSome z (IsMadeOf K x y) → makes x y z → (next a next' : Option H) (old new : Source) (left after : ℕ) → ((h : H) → a ≡ Some h → K.hash_of h ≡ k)
-              → (a ≡ None → IfSome next (λ h. hash_cmp k (K.hash_of h) ≡ Less)) → Advances (in_version K version) next a old new left after next'
-              → IfSome next' (λ h. ArePassed K (merging.firsts ++ option_to_list x) (merging.seconds ++ option_to_list y) (merging.made ++ option_to_list z) (K.hash_of h))
-          passed_after version z made_of is_made next None next' old new left after same later (next_is, _, _) = on next' (subst (λ o. IfSome o (λ h. hash_cmp k (K.hash_of h) ≡ Less)) (sym next_is) (later refl)) where
-            on : (o : Option H) → IfSome o (λ h. hash_cmp k (K.hash_of h) ≡ Less)
-                → IfSome o (λ h. ArePassed K (merging.firsts ++ option_to_list x) (merging.seconds ++ option_to_list y) (merging.made ++ option_to_list z) (K.hash_of h))
-            on None less = tt
-            on (Some h) less = passed_on K makes k x y z (hash_under K k x x_under) (hash_under K k y y_under) (made_under z made_of) is_made merging.firsts merging.seconds merging.made passed_at (K.hash_of h) less
-          passed_after version z made_of is_made next (Some g) next' old new left after same later following = on next' following.follows where
-            on : (o : Option H) → IfSome o (Follows K (Some g))
-                → IfSome o (λ h. ArePassed K (merging.firsts ++ option_to_list x) (merging.seconds ++ option_to_list y) (merging.made ++ option_to_list z) (K.hash_of h))
-            on None less = tt
-            on (Some h) less = passed_on K makes k x y z (hash_under K k x x_under) (hash_under K k y y_under) (made_under z made_of) is_made merging.firsts merging.seconds merging.made passed_at (K.hash_of h)
-                (subst (λ j. hash_cmp j (K.hash_of h) ≡ Less) (same g refl) less)
+          made_under (Some z) is = (of_pair pair.some, is.stored) where
+            of_pair : ((h : H) × (one ≡ Some h)) ⊎ ((h : H) × (two ≡ Some h)) → key_of_record K z ≡ k
+            of_pair (inl (h, at)) = let read = subst (λ (o : Option H). ReadsOptionalRecord K o now_1 mid_1 x) at first in is.hash read.0 (inl read.1) ∙ subst (HasHash K k) read.1 x_under
+            of_pair (inr (h, at)) = let read = subst (λ (o : Option H). ReadsOptionalRecord K o now_2 mid_2 y) at second in is.hash read.0 (inr read.1) ∙ subst (HasHash K k) read.1 y_under
 
         few_made : (z : Option R) (rows : ℕ) → rows ≡ total_rows K merging.made → IfSome z (λ r. rows + K.row_count r ≤ 4294967295) → total_rows K (merging.made ++ option_to_list z) ≤ 4294967295
         few_made None rows is few = omega (arith, merging.few, sum_by-append K.row_count merging.made [])
@@ -225,21 +190,15 @@ module _ {H R : Type 0} (K : RecordKind H R) (laws : KindLaws K) (v w : FormatVe
             let x = wrote.one in
             let y = wrote.other in
             let z = wrote.made in
-            let z_under = made_under mid_1 mid_2 x y wrote.reads_first wrote.reads_second z wrote.made_of in
-            let ascending = still_ascending K makes k x y z (hash_under K k x (x_under mid_1 mid_2 x y wrote.reads_first wrote.reads_second)) (hash_under K k y (y_under mid_1 mid_2 x y wrote.reads_first wrote.reads_second)) z_under wrote.is_made
-            merging.firsts merging.seconds merging.made passed_at merging.first_ascends merging.second_ascends in
             record {
               firsts = merging.firsts ++ option_to_list x;
               seconds = merging.seconds ++ option_to_list y;
               made = merging.made ++ option_to_list z;
               first = pending_on K laws v start_1 now_1 left_1 next_1 merging.firsts merging.first mid_1 new_1 after_1 one next_1' x (λ h is. (pair.first h is).0) wrote.reads_first on_1;
               second = pending_on K laws w start_2 now_2 left_2 next_2 merging.seconds merging.second mid_2 new_2 after_2 two next_2' y (λ h is. (pair.second h is).0) wrote.reads_second on_2;
-              first_ascends = ascending.0;
-              second_ascends = ascending.1;
-              combined = more_combined K makes k x y z (hash_under K k x (x_under mid_1 mid_2 x y wrote.reads_first wrote.reads_second)) (hash_under K k y (y_under mid_1 mid_2 x y wrote.reads_first wrote.reads_second)) z_under wrote.is_made
-                  merging.firsts merging.seconds merging.made passed_at merging.combined;
-              passed_1 = passed_after mid_1 mid_2 x y wrote.reads_first wrote.reads_second v z wrote.made_of wrote.is_made next_1 one next_1' mid_1 new_1 left_1 after_1 (λ h is. (pair.first h is).1) pair.later_1 on_1;
-              passed_2 = passed_after mid_1 mid_2 x y wrote.reads_first wrote.reads_second w z wrote.made_of wrote.is_made next_2 two next_2' mid_2 new_2 left_2 after_2 (λ h is. (pair.second h is).1) pair.later_2 on_2;
+              fronts = combined_on K makes k x y z (x_under mid_1 mid_2 x y wrote.reads_first wrote.reads_second) (y_under mid_1 mid_2 x y wrote.reads_first wrote.reads_second)
+                  (made_under mid_1 mid_2 x y wrote.reads_first wrote.reads_second z wrote.made_of) wrote.is_made merging.firsts merging.seconds merging.made passed_at next_1 next_2 next_1' next_2' merging.fronts
+                  (later_on v next_1 one next_1' mid_1 new_1 left_1 after_1 pair.first pair.later_1 on_1) (later_on w next_2 two next_2' mid_2 new_2 left_2 after_2 pair.second pair.later_2 on_2);
               few = few_made z rows counted wrote.few;
               rows = rows_made x y z wrote.made_of;
               written = wrote.written merging.made merging.written;
@@ -267,14 +226,14 @@ module _ {H R : Type 0} (K : RecordKind H R) (laws : KindLaws K) (v w : FormatVe
               other = y;
               first_is = front_1.returned;
               second_is = front_2.returned;
-              first_ascends = merging.first_ascends;
-              second_ascends = merging.second_ascends;
-              combined = merging.combined;
+              first_ascends = merging.fronts.first_ascends;
+              second_ascends = merging.fronts.second_ascends;
+              combined = merging.fronts.combined;
               rows = merging.rows;
               hash = k;
               passed = passed_at;
-              one_hash = hash_under K k x (x_under new_1 new_2 x y first second);
-              other_hash = hash_under K k y (y_under new_1 new_2 x y first second);
+              one_hash = x_under new_1 new_2 x y first second;
+              other_hash = y_under new_1 new_2 x y first second;
               next_1 = front_1.goes_on;
               next_2 = front_2.goes_on;
               cannot = subst (λ n. CannotMake K makes n x y) counted cannot;
@@ -290,9 +249,9 @@ module _ {H R : Type 0} (K : RecordKind H R) (laws : KindLaws K) (v w : FormatVe
         made = merging.made;
         first = has_ended v start_1 now_1 left_1 next_1 merging.firsts merging.first none_1;
         second = has_ended w start_2 now_2 left_2 next_2 merging.seconds merging.second none_2;
-        first_ascends = merging.first_ascends;
-        second_ascends = merging.second_ascends;
-        combined = merging.combined;
+        first_ascends = merging.fronts.first_ascends;
+        second_ascends = merging.fronts.second_ascends;
+        combined = merging.fronts.combined;
         few = merging.few;
         written = merging.written;
         bytes = Appends-trans start now new (flat_map K.record_bytes merging.made) (K.header_bytes K.bookend) merging.bytes bookend;
@@ -317,9 +276,9 @@ module _ {H R : Type 0} (K : RecordKind H R) (laws : KindLaws K) (v w : FormatVe
         → SectionsFail K v w makes (sources start_1 start_2) (sources new_1 new_2) failure
     pair_failed new_1 new_2 rows failure counted (pair_output_fails e is device first second) = output_fails e is device (first ∙ served_1.bytes) (second ∙ served_2.bytes)
     pair_failed new_1 new_2 rows failure counted (pair_first_fails e is h at fails no_failure) =
-        first_fails e is (rows_not_read K laws v start_1 now_1 left_1 next_1 merging.firsts merging.first merging.first_ascends h new_1 e (pair.first h at).0 fails) (serves_on start_2 now_2 new_2 served_2 no_failure)
+        first_fails e is (rows_not_read K laws v start_1 now_1 left_1 next_1 merging.firsts merging.first merging.fronts.first_ascends h new_1 e (pair.first h at).0 fails) (serves_on start_2 now_2 new_2 served_2 no_failure)
     pair_failed new_1 new_2 rows failure counted (pair_second_fails e is h at fails no_failure) =
-        second_fails e is (rows_not_read K laws w start_2 now_2 left_2 next_2 merging.seconds merging.second merging.second_ascends h new_2 e (pair.second h at).0 fails) (serves_on start_1 now_1 new_1 served_1 no_failure)
+        second_fails e is (rows_not_read K laws w start_2 now_2 left_2 next_2 merging.seconds merging.second merging.fronts.second_ascends h new_2 e (pair.second h at).0 fails) (serves_on start_1 now_1 new_1 served_1 no_failure)
     pair_failed new_1 new_2 rows failure counted (pair_refused e is invalid x y first second cannot) =
         refused e is invalid (serves_on start_1 now_1 new_1 served_1 (passed_serves K one now_1 new_1 x first)) (serves_on start_2 now_2 new_2 served_2 (passed_serves K two now_2 new_2 y second))
         (none_made makes start_1 now_1 start_2 now_2 left_1 left_2 next_1 next_2 Before start now merging one two k pair new_1 new_2 rows x y counted first second cannot)
@@ -332,7 +291,7 @@ module _ {H R : Type 0} (K : RecordKind H R) (laws : KindLaws K) (v w : FormatVe
         of_header : (a : Option H) → ((h : H) → a ≡ Some h → (next_1 ≡ Some h) × (K.hash_of h ≡ k)) → (x : Option R) → ReadsOptionalRecord K a now_1 mid_1 x → AdvanceFails (in_version K v) a left_1 mid_1 new_1 e → AscendingNotStreamed K v start_1 new_1 e
         of_header None is x passed fails = absurd fails
         of_header (Some h) is x (r, same, read) fails =
-            no_next K laws v start_1 now_1 left_1 next_1 merging.firsts merging.first merging.first_ascends h mid_1 new_1 r e (is h refl).0
+            no_next K laws v start_1 now_1 left_1 next_1 merging.firsts merging.first merging.fronts.first_ascends h mid_1 new_1 r e (is h refl).0
             (subst (λ j. ComeBefore K j merging.firsts) (sym (is h refl).1) all_passed.first) (r, refl, read) fails
 
     pub second_not_next : (new_1 mid_2 new_2 : Source) (y : Option R) (e : CoreError) → NoFailure start_1 new_1 → ReadsOptionalRecord K two now_2 mid_2 y → AdvanceFails (in_version K w) two left_2 mid_2 new_2 e
@@ -341,7 +300,7 @@ module _ {H R : Type 0} (K : RecordKind H R) (laws : KindLaws K) (v w : FormatVe
       of_header : (a : Option H) → ((h : H) → a ≡ Some h → (next_2 ≡ Some h) × (K.hash_of h ≡ k)) → (y : Option R) → ReadsOptionalRecord K a now_2 mid_2 y → AdvanceFails (in_version K w) a left_2 mid_2 new_2 e → AscendingNotStreamed K w start_2 new_2 e
       of_header None is y passed fails = absurd fails
       of_header (Some h) is y (r, same, read) fails =
-          no_next K laws w start_2 now_2 left_2 next_2 merging.seconds merging.second merging.second_ascends h mid_2 new_2 r e (is h refl).0
+          no_next K laws w start_2 now_2 left_2 next_2 merging.seconds merging.second merging.fronts.second_ascends h mid_2 new_2 r e (is h refl).0
           (subst (λ j. ComeBefore K j merging.seconds) (sym (is h refl).1) all_passed.second) (r, refl, read) fails
 
     -- the sources after the turn
