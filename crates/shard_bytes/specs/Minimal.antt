@@ -46,7 +46,7 @@ Keeps (Listed hashes) hash = Contains hashes.items hash
 -- whether a filter accepts a hash
 abbrev pub Accepts : Filter → DataHash → Type 0
 Accepts all_hashes hash = ⊤
-Accepts (listed hashes) hash = Contains hashes.hashes.items hash
+Accepts (listed hashes) hash = Contains hashes.items.items hash
 
 -- one of the xorbs has the hash
 abbrev pub HasXorb : MinimalShard → DataHash → Type 0

@@ -23,6 +23,5 @@ pub mod query;
 pub mod records;
 mod room;
 pub mod rows;
-mod sorted_hashes;
 pub mod version;
 pub mod walk;

@@ -11,13 +11,13 @@ ghost use Rattle.shard_bytes.specs.Versions.{LaidOutIn, NotLaidOutIn};
 use crate::memory::in_memory;
 use crate::number::in_version;
 use crate::room::with_room;
-use crate::sorted_hashes::SortedHashes;
 use std::alloc::{AllocError, Global};
 use std::io::{self, ErrorKind};
 use xet_core_structures::error::{CoreError, Result};
 use xet_core_structures::file_structs::KeptParts;
 use xet_core_structures::merklehash::MerkleHash;
 use xet_core_structures::set_operations::FormatVersion;
+use xet_core_structures::sorted_hashes::SortedHashes;
 use xet_core_structures::streaming_shard::MDBMinimalShard;
 use xet_core_structures::xorb_structs::MDBXorbInfoView;
 

@@ -6,6 +6,5 @@ pub mod Filtered
 pub mod Limits
 pub mod Ordered
 pub mod Runs
-pub mod Searching
 pub mod Seen
 pub mod Starts

@@ -8,9 +8,10 @@ ghost use Rattle.shard_garbage.specs.Steps.{Adds, IsFound, IsOfXorbAmong, IsOneO
 
 use crate::finding::{GarbageFinding, Misfit, Segment};
 use crate::misfit::{segment_misfit, start_misfit, total_misfit};
-use crate::sorted::{SortedHashes, SortedSegments};
+use crate::sorted::SortedSegments;
 use std::alloc::AllocError;
 use xet_base::merklehash::MerkleHash;
+use xet_base::sorted_hashes::SortedHashes;
 use xet_records::xorb_structs::MDBXorbInfo;
 
 /// Adds the misfits of a xorb, and of these segments, which name it.

@@ -18,9 +18,10 @@ use crate::adding::{add_lacking, add_unnamed, add_xorb_misfits};
 use crate::finding::GarbageFinding;
 use crate::range::HashRange;
 use crate::segments::Segments;
-use crate::sorted::{SortedHashes, SortedSegments};
+use crate::sorted::SortedSegments;
 use std::alloc::{AllocError, Global};
 use xet_base::merklehash::MerkleHash;
+use xet_base::sorted_hashes::SortedHashes;
 use xet_records::file_structs::MDBFileInfo;
 use xet_records::xorb_structs::MDBXorbInfo;
 

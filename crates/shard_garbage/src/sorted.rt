@@ -1,9 +1,8 @@
-//! Segments and hashes that are sorted once, so that each search among them takes logarithmic time.
+//! Segments that are sorted once, so that each search among them takes logarithmic time.
 
-ghost use Rattle.std.specs.Prelude.{◌≡◌, ◌↔◌, ◌≤◌, true, false, length, Contains, IsTrue};
+ghost use Rattle.std.specs.Prelude.{◌≡◌, ◌↔◌, ◌≤◌, true, false, length, Contains};
 ghost use Rattle.std.specs.List.Sorted.{IsPartitionPoint, IsPermutation, IsSorted};
 ghost use Rattle.std.proofs.Props.{props};
-ghost use Rattle.xet_base.specs.Hash.{hash_cmp};
 ghost use Rattle.shard_garbage.specs.declared.finding.Segment.{Segment as Named};
 ghost use Rattle.shard_garbage.specs.Order.{segment_cmp, is_before, is_up_to};
 
@@ -65,28 +64,4 @@ fn end_of(segments: &[Segment], hash: MerkleHash) -> usize
             ensures { result ≡ is_up_to hash segment.now }
         { !(hash < segment.xorb) },
     )
-}
-
-/// Hashes in ascending order.
-#[derive(Drop)]
-pub(crate) struct SortedHashes {
-    pub(crate) items: Vec<MerkleHash>,
-    ghost sorted: { IsSorted hash_cmp items.items } by { Prim.hlevel props },
-}
-
-impl SortedHashes {
-    /// Sorts these hashes.
-    pub(crate) fn of(mut items: Vec<MerkleHash>) -> SortedHashes
-        ensures { IsPermutation items.items result.items.items }
-    {
-        items.sort_unstable();
-        SortedHashes { items }
-    }
-
-    /// Whether the hash is one of these.
-    pub(crate) fn contains(&self, hash: &MerkleHash) -> bool
-        ensures { IsTrue result ↔ Contains self.now.items.items hash.now }
-    {
-        self.items.as_slice().binary_search(hash).is_ok()
-    }
 }

@@ -8,4 +8,5 @@ pub mod input;
 mod keyed_hash;
 pub mod merklehash;
 pub mod serialization_utils;
+pub mod sorted_hashes;
 pub mod source;

@@ -6,7 +6,9 @@ pub mod laws;
 pub mod set_operations;
 pub mod well_formed;
 
-pub use xet_base::{count, error, fields, input, merklehash, serialization_utils, source};
+pub use xet_base::{
+    count, error, fields, input, merklehash, serialization_utils, sorted_hashes, source,
+};
 pub use xet_records::{file_structs, record_bytes, record_reader, rows, xorb_structs};
 pub use xet_shards::{
     interpolation_search, shard_format, shard_in_memory, shard_writer, streaming_shard, utils,

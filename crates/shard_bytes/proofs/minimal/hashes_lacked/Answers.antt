@@ -8,7 +8,7 @@ use Rattle.shard_bytes.proofs.minimal.hashes_lacked.Goals.{then-not-contains+in_
 pub loop-hash-preserved : goal.loop-hash-preserved
 loop-hash-preserved c =
     let m = c.args.shard.now in
-    let known = known_has m c.in_ok-present.present.items c.of-known.result.hashes.items c.in_ok-present.ensures c.of-known.ensures _ in
+    let known = known_has m c.in_ok-present.present.items c.of-known.result.items.items c.in_ok-present.ensures c.of-known.ensures _ in
     let decides = both_so c.contains.ensures known in
     elim c.if-not-contains.branch [
       | then-not-contains+in_ok-push w ↦

@@ -16,7 +16,7 @@ module _ (hash : DataHash) where
   itself : hash_cmp hash hash ≡ Equal
   itself = tied_itself hash_cmp-IsTotalOrder hash
 
-  pub not_less : (other : DataHash) → other ≡ hash → ¬ (hash_cmp other hash ≡ Less)
+  not_less : (other : DataHash) → other ≡ hash → ¬ (hash_cmp other hash ≡ Less)
   not_less other same less = true≢false (sym (ap is_lt (subst (λ h. hash_cmp h hash ≡ Less) same less)) ∙ ap is_lt itself)
 
   not_greater : (other : DataHash) → other ≡ hash → ¬ (hash_cmp other hash ≡ Greater)

@@ -1,8 +1,8 @@
 use Rattle.std.proofs.Common.{◌↔◌, IsTrue, Contains, sym, subst}
 use Rattle.std.specs.List.Sorted.{IsSorted}
 use Rattle.xet_base.specs.Hash.{hash_cmp}
-use Rattle.shard_garbage.proofs.Searching.{search_is_in_range}
-use Rattle.shard_garbage.proofs.sorted.SortedHashes.contains.Goals as goal
+use Rattle.xet_base.proofs.Searching.{search_is_in_range}
+use Rattle.xet_base.proofs.sorted_hashes.SortedHashes.contains.Goals as goal
 
 pub returns : goal.returns
 returns c =
