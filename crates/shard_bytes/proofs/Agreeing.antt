@@ -29,7 +29,7 @@ use Rattle.xet_core_structures.proofs.Agreement.AgreeingTrees.{of_hash, held_agr
 use Rattle.xet_core_structures.proofs.Agreement.Malformed.{held_formed}
 use Rattle.xet_core_structures.proofs.Records.ShardContents.{only_shard}
 use Rattle.xet_core_structures.proofs.Records.Items.{has_at, place_of_item}
-use Rattle.xet_core_structures.proofs.Records.Zipped.{zip_at, zip_back, zipped_member}
+use Rattle.xet_shards.proofs.Read.Zipped.{zip_at, zip_back, zipped_member}
 use Rattle.xet_core_structures.proofs.Trees.InVersions.{made_as}
 use Rattle.xet_core_structures.proofs.Trees.SameTrees.{join_of_same}
 use Rattle.xet_shards.proofs.Content.AgreeingJoins.{joins_exist}

@@ -23,9 +23,8 @@ use Rattle.xet_core_structures.proofs.Records.Items.{below_or_at}
 use Rattle.xet_core_structures.proofs.Trees.InVersions.{filled_numbered}
 use Rattle.xet_shards.proofs.Export.Rewriting.{sections_of_layout}
 use Rattle.xet_shards.proofs.Write.Sections.{fits_ever}
-use Rattle.shard_bytes.specs.Steps.Checking.{BeginsWith}
 use Rattle.shard_bytes.specs.Versions.{have_aux_rows}
-use Rattle.shard_bytes.proofs.Malformed.{HasLeft, drop_one, enough_rows, has_rows, left_after, left_from_it, same_header_read, same_tail, some_of, the_record}
+use Rattle.shard_bytes.proofs.RecordsLeft.{BeginsWith, HasLeft, drop_one, enough_rows, is_stored, left_after, left_from_it, same_header_read, same_tail, some_of, the_record}
 
 -- files, of which these are left
 module _ (files : List MDBFileInfo) (i : ℕ) (so_far : have_aux_rows files ≡ have_aux_rows (drop i files)) where
@@ -132,7 +131,7 @@ module _ (bytes : List ℕ) (files : List MDBFileInfo) (s : IsSection file_recor
 
     is_no_bookend : i < length files → header.file_hash ≢ all_ones
     is_no_bookend low = λ ones.
-        let stored = (has_rows file_records file_laws bytes files (length files) begins i low rest left row_bytes Fits as_read is_row header read).is_stored in
+        let stored = is_stored file_records file_laws bytes files (length files) begins i low rest left in
         let is = same_header_read file_records file_laws bytes files (length files) begins i low rest left row_bytes Fits as_read is_row header read in
         file_laws.is_record _ stored (ap (λ (h : FileDataSequenceHeader). h.file_hash) (sym is) ∙ ones)
 

@@ -1,6 +1,6 @@
 -- Findings that are added one after another, and the report that they make.
 use Rattle.std.proofs.Common.{◌≡◌, ◌≢◌, ◌⊎◌, ◌↔◌, Bool, true, false, inl, inr, Ok, Err, ℕ, zero, suc, ◌+◌, ◌-◌, ◌<◌, List, [], ◌∷◌, ◌++◌, length, map, take, drop, slice_index_or, refl, sym, ap, ◌∙◌, subst, arith, append-nil, rules}
-use Rattle.std.specs.Prelude.{All, Contains, IsTrue, OnOk, IfOk, if◌then◌else◌}
+use Rattle.std.specs.Prelude.{All, Contains, IsTrue, OnOk, if◌then◌else◌}
 use Rattle.std.specs.List.Sorted.{IsStrictlySortedBy}
 use Rattle.std.specs.declared.cmp.Ordering.TheVariants.{Less}
 use Rattle.std.specs.declared.result.Result.{Result}
@@ -45,10 +45,6 @@ use Rattle.shard_bytes.specs.Checking.{IsContent, IsWhole, IsIntact, IsReadAs, I
 use Rattle.shard_bytes.specs.Steps.Checking.{IsReport, Adds, AddsFaults, IsUnreadable, AddsDisorder, AddsMalformed, AddsPart, AddsTable, AddsSize, IsDifference, IsSame, IsAlike, Compares, AddsDifferences}
 
 -- what is known of a success, weakened
-pub IfOk-weaker : {T E : Type 0} (r : Result T E) (P Q : T → Type 0) → ((v : T) → P v → Q v) → IfOk r P → IfOk r Q
-IfOk-weaker (Ok v) P Q weaker is = weaker v is
-IfOk-weaker (Err e) P Q weaker is = is
-
 pub OnOk-weaker : {T E : Type 0} (r : Result T E) (P Q : Type 0) → (P → Q) → OnOk r P → OnOk r Q
 OnOk-weaker (Ok v) P Q weaker is = weaker is
 OnOk-weaker (Err e) P Q weaker is = is
@@ -402,8 +398,8 @@ module _ (bytes : List ℕ) (info : MDBShardInfo) (ends : HasHeaderAndFooter byt
         let size : n ≡ length written_all = is ∙ ap length (same_written other gs ys read) in
         inr (inr (inr (ap Size size, λ same. differs (same ∙ sym size))))
 
-    report_of : (l1 l2 l3 l4 l5 : List Finding) → AddsDisorder Files fs [] l1 → AddsDisorder Xorbs xs l1 l2 → AddsMalformed Files IsWellFormed files l2 l3 → AddsMalformed Xorbs IsXorb xorbs l3 l4
-        → Compares bytes info written_all footer_all l4 l5 → IsReport bytes l5
+    pub report_of : (l1 l2 l3 l4 l5 : List Finding) → AddsDisorder Files fs [] l1 → AddsDisorder Xorbs xs l1 l2 → AddsMalformed Files IsWellFormed files l2 l3 → AddsMalformed Xorbs IsXorb xorbs l3 l4
+        → AddsDifferences bytes info files xorbs l4 l5 → IsReport bytes l5
     report_of l1 l2 l3 l4 l5 files_order xorbs_order bad_files bad_xorbs compares =
         let order = adds_then FilesAscend FilesAscend XorbsAscend XorbsAscend (Disorder Files fs) (Disorder Xorbs xs) [] l1 l2 files_order xorbs_order in
         let bad = adds_then (All IsWellFormed files) (All IsWellFormed files) (All IsXorb xorbs) (All IsXorb xorbs) BadFile BadXorb l2 l3 l4 bad_files bad_xorbs in
@@ -428,14 +424,6 @@ module _ (bytes : List ℕ) (info : MDBShardInfo) (ends : HasHeaderAndFooter byt
 
         ascend_xorbs : IsStrictlySortedBy hash_cmp xs → Ascends xorb_records xorbs
         ascend_xorbs sorted = subst (IsStrictlySortedBy hash_cmp) xs_are sorted
-
-    -- the records that were written are those that were read
-    pub reports_all : (l1 l2 l3 l4 l5 : List Finding) → AddsDisorder Files fs [] l1 → AddsDisorder Xorbs xs l1 l2 → AddsMalformed Files IsWellFormed files l2 l3 → AddsMalformed Xorbs IsXorb xorbs l3 l4
-        → AddsDifferences bytes info l4 l5 → IsReport bytes l5
-    reports_all l1 l2 l3 l4 l5 files_order xorbs_order bad_files bad_xorbs (gs, ys, there, compares) =
-        let same = only_sections bytes gs files ys xorbs there have in
-        report_of l1 l2 l3 l4 l5 files_order xorbs_order bad_files bad_xorbs
-        (subst (λ p. p) (λ i. Compares bytes info (layout_of (same.0 i) (same.1 i) (options_of info)) (footer_value (same.0 i) (same.1 i) (options_of info)) l4 l5) compares)
 
 -- one finding that is true, and no other is
 pub one_finding : (bytes : List ℕ) (f : Finding) (findings : List Finding) → (¬ IsNote f) → IsFinding bytes f → ((g : Finding) → IsFinding bytes g → g ≡ f) → findings ≡ f ∷ [] → IsReport bytes findings

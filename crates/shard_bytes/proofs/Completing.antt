@@ -1,5 +1,5 @@
 -- Bytes whose sections are written again with all tables hold the shard that follows their header.
-use Rattle.std.proofs.Common.{◌≡◌, ◌⊎◌, inl, inr, ℕ, List, [], ◌++◌, map, Some, refl, sym, ap, ◌∙◌, subst, arith}
+use Rattle.std.proofs.Common.{◌≡◌, inl, inr, ℕ, List, map, refl, sym, ap, ◌∙◌, subst, arith}
 use Rattle.std.specs.FinMap.{values}
 use Rattle.std.proofs.lemmas.List.{map-id}
 use Rattle.xet_base.specs.Hash.{IsHash}
@@ -7,20 +7,15 @@ use Rattle.xet_core_structures.specs.declared.error.CoreError.{CoreError}
 use Rattle.xet_core_structures.specs.declared.error.CoreError.TheVariants.{OutOfMemory}
 use Rattle.xet_core_structures.specs.declared.file_structs.MDBFileInfo.{MDBFileInfo}
 use Rattle.xet_core_structures.specs.declared.merklehash.DataHash.{DataHash}
-use Rattle.xet_core_structures.specs.declared.shard_format.MDBShardFileFooter.{MDBShardFileFooter}
 use Rattle.xet_core_structures.specs.declared.xorb_structs.MDBXorbInfo.{MDBXorbInfo}
-use Rattle.xet_core_structures.specs.Errors.{IsWriteError}
 use Rattle.xet_core_structures.specs.FileRecord.{as_read, file_records, file_records_in}
-use Rattle.xet_core_structures.specs.KeyedExport.{ExportCase, ExportFails}
 use Rattle.xet_core_structures.specs.Layout.{info_of, layout_of}
 use Rattle.xet_core_structures.specs.Records.ShardContents.{HoldsShard}
 use Rattle.xet_core_structures.specs.Shard.{Shard, IsShard}
-use Rattle.xet_core_structures.specs.Source.{Source, FailedBy, bytes_left}
 use Rattle.xet_core_structures.specs.WithOptions.{FitsSection}
 use Rattle.xet_core_structures.specs.XorbRecord.{xorb_records}
 use Rattle.xet_records.specs.declared.record_reader.FormatVersion.TheVariants.{V3}
 use Rattle.xet_shards.specs.Export.InARow.{options_under}
-use Rattle.xet_shards.specs.Export.Rewriting.{WritesAgain}
 use Rattle.xet_shards.proofs.Export.Rewriting.{only_sections}
 use Rattle.xet_shards.proofs.Read.Readback.{file_section_in, xorb_section_in}
 use Rattle.xet_shards.proofs.Read.WholeSections.{layout_ends}
@@ -28,26 +23,6 @@ use Rattle.xet_shards.proofs.Write.Sections.{fits_ever}
 use Rattle.shard_bytes.specs.Completing.{Completes, RefusesCompletion}
 use Rattle.shard_bytes.specs.Exporting.{FollowsHeader}
 use Rattle.shard_bytes.proofs.ExportedShards.{stored_files, stored_xorbs, sections, only_memory}
-use Rattle.shard_bytes.proofs.MemoryErrors.{from_memory}
-
--- sections were written again behind nothing
-pub completes : (key : DataHash) (bytes : List ℕ) (old : Source) → bytes_left old ≡ bytes → (empty out : List ℕ) (footer : MDBShardFileFooter) → empty ≡ []
-    → WritesAgain (options_under key) old (Some empty) (Some out) footer → Completes key bytes out
-completes key bytes old left empty out footer none again = subst (λ left. Completes key left out) left (record {
-  files = again.files;
-  xorbs = again.xorbs;
-  sections = again.sections;
-  written = again.written ∙ ap (λ zs. zs ++ layout_of again.files again.xorbs (options_under key)) none;
-})
-
--- sections were not written again
-pub not_completed : (bytes : List ℕ) (old new : Source) → bytes_left old ≡ bytes → new.failures ≡ old.failures → (e r : CoreError) → ExportFails old new e
-    → ((r ≡ OutOfMemory) × IsWriteError e) ⊎ ((r ≡ e) × (¬ IsWriteError e)) → RefusesCompletion bytes r
-not_completed bytes old new left works e r fails becomes = from_memory (ExportCase bytes) e r becomes (λ none. go fails.cause)
-  where
-    go : FailedBy (ExportCase (bytes_left old)) old new e → ExportCase bytes e
-    go (inl failed) = absurd (omega (arith, works, failed.0))
-    go (inr (same, why)) = subst (λ left. ExportCase left e) left why
 
 -- a shard follows the header
 module _ (s : Shard) (shard : IsShard s) (bytes : List ℕ) (follows : FollowsHeader s bytes) where

@@ -17,7 +17,8 @@ use Rattle.xet_core_structures.specs.Ends.FormatCase.{unsupported_format, too_fe
 use Rattle.xet_core_structures.specs.Errors.{CoreResult, IsWriteError}
 use Rattle.xet_core_structures.specs.FileRecord.{as_read, file_records, file_records_in}
 use Rattle.xet_core_structures.specs.KeyedExport.{export_options, keyed_xorbs, xorbs_after, ExportCase}
-use Rattle.xet_core_structures.specs.KeyedExport.ExportCase.{bad_header, bad_files, bad_xorbs, not_written}
+use Rattle.xet_core_structures.specs.KeyedExport.ExportCase.{no_sections, not_written}
+use Rattle.xet_core_structures.specs.KeyedExport.SectionsCase.{bad_header, bad_files, bad_xorbs}
 use Rattle.xet_core_structures.specs.KeyedShards.{keyed_shard}
 use Rattle.xet_core_structures.specs.Layout.{if_included, info_of, layout_of}
 use Rattle.xet_core_structures.specs.Records.ShardContents.{HasShard, HoldsShard, IsSectionOf}
@@ -165,16 +166,16 @@ module _ (s : Shard) (bytes : List ℕ) (follows : FollowsHeader s bytes) where
 
   -- and only memory can be lacking when they are read
   pub only_memory : (e : CoreError) → ¬ IsWriteError e → ExportCase bytes e → e ≡ OutOfMemory
-  only_memory e read (bad_header (unsupported_format is (inl (long, other)))) = absurd (other follows.header.tag)
-  only_memory e read (bad_header (unsupported_format is (inr (long, other)))) = absurd (other follows.header.version follows.header.version_is)
-  only_memory e read (bad_header (too_few_bytes is (inl short))) = absurd (omega (arith, short, follows.header.size))
-  only_memory e read (bad_header (too_few_bytes is (inr (short, tag)))) = absurd (omega (arith, short, follows.header.size))
-  only_memory e read (bad_files header (not_read (out_of_memory is))) = is
-  only_memory e read (bad_files header (not_read (out_of_bytes is short))) = absurd (files_not_cut bytes stored_files stored_xorbs sections header short)
-  only_memory e read (bad_files header (passes_limit is refused)) = absurd (files_not_refused bytes stored_files stored_xorbs sections header refused)
-  only_memory e read (bad_xorbs header files there (not_read (out_of_memory is))) = is
-  only_memory e read (bad_xorbs header files there (not_read (out_of_bytes is short))) = absurd (xorbs_not_cut bytes stored_files stored_xorbs sections header files there short)
-  only_memory e read (bad_xorbs header files there (passes_limit is refused)) = absurd (xorbs_not_refused bytes stored_files stored_xorbs sections header files there refused)
+  only_memory e read (no_sections (bad_header (unsupported_format is (inl (long, other))))) = absurd (other follows.header.tag)
+  only_memory e read (no_sections (bad_header (unsupported_format is (inr (long, other))))) = absurd (other follows.header.version follows.header.version_is)
+  only_memory e read (no_sections (bad_header (too_few_bytes is (inl short)))) = absurd (omega (arith, short, follows.header.size))
+  only_memory e read (no_sections (bad_header (too_few_bytes is (inr (short, tag))))) = absurd (omega (arith, short, follows.header.size))
+  only_memory e read (no_sections (bad_files header (not_read (out_of_memory is)))) = is
+  only_memory e read (no_sections (bad_files header (not_read (out_of_bytes is short)))) = absurd (files_not_cut bytes stored_files stored_xorbs sections header short)
+  only_memory e read (no_sections (bad_files header (passes_limit is refused))) = absurd (files_not_refused bytes stored_files stored_xorbs sections header refused)
+  only_memory e read (no_sections (bad_xorbs header files there (not_read (out_of_memory is)))) = is
+  only_memory e read (no_sections (bad_xorbs header files there (not_read (out_of_bytes is short)))) = absurd (xorbs_not_cut bytes stored_files stored_xorbs sections header files there short)
+  only_memory e read (no_sections (bad_xorbs header files there (passes_limit is refused))) = absurd (xorbs_not_refused bytes stored_files stored_xorbs sections header files there refused)
   only_memory e read (not_written header write) = absurd (read write)
 
   pub export_held : (x : Export) (out : List ℕ) → IsShard s → IsHash x.key → x.now < 2 ^ 64 → ExportsBytes x bytes out → HoldsExport x s out

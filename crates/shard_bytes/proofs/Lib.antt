@@ -25,6 +25,7 @@ pub mod MinimalSizes
 pub mod RangeReads
 pub mod Reading
 pub mod Recording
+pub mod RecordsLeft
 pub mod Reordered
 pub mod RowMerges
 pub mod RowSearch

@@ -1,11 +1,10 @@
 -- Each record in bytes that no shard may have is found.
-use Rattle.std.proofs.Common.{◌≡◌, ◌⊎◌, ◌↔◌, inl, inr, Bool, ℕ, ◌+◌, ◌*◌, ◌<◌, ◌≤◌, List, [], ◌∷◌, ◌++◌, length, flat_map, take, drop, get_or, Some, refl, sym, ap, ◌∙◌, subst, append_assoc, append-nil, add-one, drop-cons, arith}
+use Rattle.std.proofs.Common.{◌≡◌, ◌⊎◌, ◌↔◌, inl, inr, Bool, ℕ, ◌+◌, ◌*◌, ◌<◌, ◌≤◌, List, [], ◌∷◌, ◌++◌, length, flat_map, take, drop, get_or, Some, refl, sym, ap, ◌∙◌, subst, append_assoc, append-nil, arith}
 use Rattle.std.specs.Prelude.{All, IsTrue, slice_get, if◌then◌else◌}
 use Rattle.std.proofs.lemmas.List.{length-append}
-use Rattle.std.proofs.lemmas.List.Concat.{flat_map-cons}
 use Rattle.std.proofs.lemmas.List.Elements.{All-nil, All-cons, All-drop}
 use Rattle.std.proofs.lemmas.List.Sums.{get_or-le-sum_by}
-use Rattle.std.proofs.lemmas.Option.{same_Some, slice_get_within, slice_get-get_or}
+use Rattle.std.proofs.lemmas.Option.{get_or_from_slice_get, same_Some, slice_get_within, slice_get-get_or}
 use Rattle.xet_base.specs.declared.merklehash.DataHash.{DataHash}
 use Rattle.xet_base.specs.Bytes.{u64_bytes}
 use Rattle.xet_base.specs.Hash.{hash_bytes}
@@ -14,8 +13,7 @@ use Rattle.xet_records.specs.declared.file_structs.rows.HashRow.{HashRow}
 use Rattle.xet_records.specs.FileRow.{FitsHashRow, hash_row, segment_row}
 use Rattle.xet_records.specs.Limits.{MAX_ROWS}
 use Rattle.xet_records.specs.Part.{optional_rows}
-use Rattle.xet_records.specs.RecordKind.{RecordKind, KindLaws, IsHeaderRow}
-use Rattle.xet_records.specs.Rows.{ReadsRow}
+use Rattle.xet_records.specs.RecordKind.{RecordKind, KindLaws}
 use Rattle.xet_records.proofs.Lengths.{length-hash_row, length-segment_rows}
 use Rattle.xet_records.proofs.Unique.{hash_row-injective}
 use Rattle.xet_core_structures.specs.declared.file_structs.FileDataSequenceHeader.{FileDataSequenceHeader}
@@ -26,12 +24,16 @@ use Rattle.xet_core_structures.specs.FileRecord.{IsPlainHeader, IsWellFormed, fi
 use Rattle.xet_core_structures.specs.XorbRecord.{IsXorb, size_of_chunks, xorb_records}
 use Rattle.xet_core_structures.proofs.Records.FrontRows.{FirstOf, first_of, none_left}
 use Rattle.xet_core_structures.proofs.Records.Items.{below_or_at}
+use Rattle.xet_shards.specs.declared.shard_writer.PlacedRecord.{PlacedRecord}
+use Rattle.xet_shards.specs.declared.shard_writer.StoredSection.{StoredSection}
+use Rattle.xet_shards.specs.Read.StoredSection.{StoresRecord, StoresSection}
 use Rattle.xet_shards.specs.Steps.FileStore.{AreClear}
+use Rattle.xet_shards.proofs.Read.Zipped.{zip_at}
 use Rattle.shard_bytes.specs.declared.check.Section.{Section}
 use Rattle.shard_bytes.specs.declared.check.Finding.{Finding}
 use Rattle.shard_bytes.specs.declared.check.Finding.TheVariants.{Malformed}
 use Rattle.shard_bytes.specs.Checking.{IsMalformedAt}
-use Rattle.shard_bytes.specs.Steps.Checking.{AddsFaults, AddsMalformed, BeginsWith, HasRows}
+use Rattle.shard_bytes.specs.Steps.Checking.{AddsFaults, AddsMalformed, HasRows}
 use Rattle.shard_bytes.proofs.Checking.{adds_as, adds_well, adds_then, adds_none, adds_if}
 
 -- what is added of the first records of a list
@@ -90,98 +92,32 @@ module _ {R : Type 0} (IsFormed : R → Type 0) (rs : List R) (section : Section
       all : FormedBefore n → All IsFormed rs
       all formed k d below = formed k (get_or rs k d) (omega (arith, past, below)) (slice_get-get_or rs k d below)
 
--- the rows that are left after the first records
-pub record HasLeft {H R : Type 0} (K : RecordKind H R) (rs : List R) (i : ℕ) (rest : List ℕ) : Type 0 where
-  pub tail : List ℕ
-  pub bytes_are : rest ≡ flat_map K.record_bytes (drop i rs) ++ tail
+-- the record at an index, and the bytes of its rows
+module _ {H R : Type 0} (K : RecordKind H R) (laws : KindLaws K) where
+  rows_size : (p : PlacedRecord H) (r : R) → StoresRecord K p r → length (K.bytes_after r) ≡ 48 * K.rows_after p.header
+  rows_size p r here = laws.size_after r here.is_stored ∙ ap (λ h. 48 * K.rows_after h) (sym here.header_is)
 
-pub all_left_of : {H R : Type 0} (K : RecordKind H R) (stored : List ℕ) (rs : List R) (count : ℕ) → BeginsWith K stored rs count → HasLeft K rs 0 stored
-all_left_of K stored rs count begins = record { tail = begins.rest; bytes_are = begins.held.bytes_are }
+  pub has_rows : (p : PlacedRecord H) (r : R) (rows : List ℕ) → StoresRecord K p r → K.row_count r ≤ MAX_ROWS → rows ≡ take (48 * K.rows_after p.header) p.rows.now → HasRows K p.header rows r
+  has_rows p r rows here few rows_are = record {
+    is_stored = here.is_stored;
+    few = few;
+    header_is = here.header_is;
+    rows_are = rows_are ∙ front_is (48 * K.rows_after p.header) p.rows.now (K.bytes_after r) here.rest (rows_size p r here) here.rows_are;
+  }
 
-pub drop_one : {X : Type 0} (xs : List X) (i : ℕ) (d : X) → i < length xs → drop i xs ≡ get_or xs i d ∷ drop (i + 1) xs
-drop_one xs i d below = rw (add-one, drop-cons xs i d) refl
+  pub rows_within : (p : PlacedRecord H) (r : R) → StoresRecord K p r → 48 * K.rows_after p.header ≤ length p.rows.now
+  rows_within p r here = omega (arith, rows_size p r here, ap length here.rows_are, length-append (K.bytes_after r) here.rest)
 
-pub some_of : {X : Type 0} (xs : List X) → 0 < length xs → X
-some_of [] some = absurd (omega arith)
-some_of (x ∷ xs) some = x
+-- the record at an index of a section
+module _ {H R : Type 0} (K : RecordKind H R) (section : StoredSection H) (rs : List R) (stores : StoresSection K section rs) (i : ℕ) (p : PlacedRecord H) (at : slice_get section.records.items i ≡ Some p) where
+  pub stored_there : (r : R) × (slice_get rs i ≡ Some r) × StoresRecord K p r
+  stored_there = zip_at (StoresRecord K) section.records.items rs i p stores.records at
 
--- the record at an index, its header and the rows after it
-module _ {H R : Type 0} (K : RecordKind H R) (laws : KindLaws K) (stored : List ℕ) (rs : List R) (count : ℕ) (begins : BeginsWith K stored rs count) (i : ℕ) (low : i < count)
-    (rest : List ℕ) (left : HasLeft K rs i rest) where
-  pub in_rs : i < length rs
-  in_rs = omega (arith, low, begins.count_is)
-
-  abbrev any : R
-  any = some_of rs (omega (arith, in_rs))
-
-  abbrev pub the_record : R
-  the_record = get_or rs i any
-
-  pub record_at : slice_get rs i ≡ Some the_record
-  record_at = slice_get-get_or rs i any in_rs
-
-  pub left_from_it : drop i rs ≡ the_record ∷ drop (i + 1) rs
-  left_from_it = drop_one rs i any in_rs
-
-  is_stored : K.IsStored the_record
-  is_stored = begins.held.are_stored i any in_rs
-
-  few : K.row_count the_record ≤ MAX_ROWS
-  few = omega (arith, get_or-le-sum_by K.row_count rs i any in_rs, begins.held.rows)
-
-  abbrev first_row : List ℕ
-  first_row = K.header_bytes (K.header_of the_record)
-
-  abbrev rows_after_it : List ℕ
-  rows_after_it = K.bytes_after the_record
-
-  abbrev after_it : List ℕ
-  after_it = flat_map K.record_bytes (drop (i + 1) rs) ++ left.tail
-
-  split_rest : rest ≡ first_row ++ (rows_after_it ++ after_it)
-  split_rest =
-      left.bytes_are ∙ ap (λ l. flat_map K.record_bytes l ++ left.tail) (drop_one rs i any in_rs)
-      ∙ ap (λ bs. bs ++ left.tail) (flat_map-cons K.record_bytes the_record (drop (i + 1) rs))
-      ∙ append_assoc (K.record_bytes the_record) (flat_map K.record_bytes (drop (i + 1) rs)) left.tail
-      ∙ ap (λ bs. bs ++ after_it) (laws.record_bytes_are the_record)
-      ∙ append_assoc first_row rows_after_it after_it
-
-  pub header_fits_rest : 48 ≤ length rest
-  header_fits_rest = omega (arith, ap length split_rest, length-append first_row (rows_after_it ++ after_it), laws.header_size (K.header_of the_record))
-
-  rows_left : drop 48 rest ≡ rows_after_it ++ after_it
-  rows_left = rest_is 48 rest first_row (rows_after_it ++ after_it) (laws.header_size (K.header_of the_record)) split_rest
-
-  -- the header that was read is that of the record
-  module _ (row_bytes : H → List ℕ) (Fits : H → Type 0) (as_read : H → H) (is_row : IsHeaderRow K row_bytes Fits as_read) (header : H)
-      (read : ReadsRow row_bytes Fits as_read (λ row. row ≡ take 48 (drop (48 * 0) rest)) header) where
-    pub same_header_read : header ≡ K.header_of the_record
-    same_header_read =
-        let bytes = sym (is_row.bytes read.stored) ∙ read.taken ∙ front_is 48 rest first_row (rows_after_it ++ after_it) (laws.header_size (K.header_of the_record)) split_rest in
-        let front = laws.header_front read.stored (K.header_of the_record) [] [] (is_row.widths read.stored read.widths) (laws.header_fits the_record is_stored) (ap (λ bs. bs ++ []) bytes) in
-        sym read.returned ∙ is_row.same read.stored ∙ front.0
-
-    size : length rows_after_it ≡ 48 * K.rows_after header
-    size = laws.size_after the_record is_stored ∙ ap (λ h. 48 * K.rows_after h) (sym same_header_read)
-
-    pub enough_rows : 48 * K.rows_after header + 48 ≤ length rest
-    enough_rows =
-        omega (arith, size, ap length split_rest, length-append first_row (rows_after_it ++ after_it), length-append rows_after_it after_it, laws.header_size (K.header_of the_record))
-
-    pub has_rows : HasRows K header (take (48 * K.rows_after header) (drop 48 rest)) the_record
-    has_rows = record {
-      is_stored = is_stored;
-      few = few;
-      header_is = same_header_read;
-      rows_are = front_is (48 * K.rows_after header) (drop 48 rest) rows_after_it after_it size rows_left;
-    }
-
-    pub left_after : HasLeft K rs (i + 1) (drop (48 * K.rows_after header) (drop 48 rest))
-    left_after = record { tail = left.tail; bytes_are = rest_is (48 * K.rows_after header) (drop 48 rest) rows_after_it after_it size rows_left }
-
-    pub same_tail : left_after.tail ≡ left.tail
-    unfolding left_after
-    same_tail = refl
+  pub few_there : K.row_count stored_there.0 ≤ MAX_ROWS
+  few_there =
+      let within = slice_get_within rs i stored_there.0 stored_there.1 in
+      let same = get_or_from_slice_get rs i stored_there.0 stored_there.0 stored_there.1 in
+      omega (arith, get_or-le-sum_by K.row_count rs i stored_there.0 within, ap K.row_count same, stores.fits.rows)
 
 -- a file is well-formed exactly if its header is plain and the rows of its parts have no reserved words
 module _ (header : FileDataSequenceHeader) (rows : List ℕ) (r : MDBFileInfo) (has : HasRows file_records header rows r) where

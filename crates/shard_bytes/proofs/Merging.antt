@@ -16,7 +16,7 @@ use Rattle.xet_core_structures.specs.Trees.MergeTrees.{leaves, HasUnion, InputIs
 use Rattle.xet_core_structures.specs.Trees.RangeTrees.{IsRangeMerge}
 use Rattle.xet_core_structures.specs.Shard.{Shard, empty_shard}
 use Rattle.xet_shards.proofs.Content.MappedShards.{mapped_member, unmapped_member}
-use Rattle.xet_core_structures.proofs.Records.Zipped.{zipped_made}
+use Rattle.xet_shards.proofs.Read.Zipped.{zipped_made}
 use Rattle.xet_core_structures.proofs.Trees.SameTrees.{join_of_same}
 use Rattle.shard_bytes.specs.Merging.{IsBalanced, IsMergePlan, IsMergeOfList, IsRangeMergeOfList}
 

@@ -4,14 +4,16 @@ ghost use Rattle.std.specs.Prelude.{◌≡◌, ◌↔◌, [], ◌∷◌, ◌++�
 ghost use Rattle.std.specs.List.{slice_range};
 ghost use Rattle.std.specs.List.Sorted.{IsStrictlySortedBy};
 ghost use Rattle.std.specs.declared.cmp.Ordering.TheVariants.{Less};
-ghost use Rattle.xet_core_structures.specs.declared.merklehash.DataHash.{DataHash};
+ghost use Rattle.xet_core_structures.specs.declared.file_structs.MDBFileInfo.{MDBFileInfo};
+ghost use Rattle.xet_core_structures.specs.declared.xorb_structs.MDBXorbInfo.{MDBXorbInfo};
+ghost use Rattle.xet_shards.specs.Read.StoredSection.{StoresShard};
 ghost use Rattle.xet_core_structures.specs.declared.shard_format.MDBShardInfo.{MDBShardInfo};
 ghost use Rattle.xet_core_structures.specs.Ends.{HasHeaderAndFooter};
 ghost use Rattle.xet_core_structures.specs.TwoShards.ByteResults.{LoadRefusal};
 ghost use Rattle.xet_core_structures.specs.Hash.{hash_cmp};
 ghost use Rattle.shard_bytes.specs.declared.check.Finding.{Finding};
 ghost use Rattle.shard_bytes.specs.Checking.{IsWhole, IsIntact, IsFinding, IsNote, IsOutOfOrder, IsSamePart, HoldsSomeShard};
-ghost use Rattle.shard_bytes.specs.Steps.Checking.{IsReport, IsUnloaded, IsUnreadable, AddsPart, AddsTable, FindsInTable, AddsSize, AddsDisorder, AddsDifferences, Compares, IsWritten, IsWrittenTable};
+ghost use Rattle.shard_bytes.specs.Steps.Checking.{IsReport, IsUnloaded, IsUnreadable, AddsPart, AddsTable, FindsInTable, AddsSize, AddsDisorder, AddsDifferences, Compares, hashes_at, IsWritten, IsWrittenTable};
 
 mod malformed;
 mod reordered;
@@ -24,11 +26,13 @@ use std::alloc::Global;
 use std::cmp::Ordering;
 use xet_core_structures::error::{CoreError, Result};
 use xet_core_structures::file_structs::MDBFileInfo;
-use xet_core_structures::merklehash::MerkleHash;
+use xet_core_structures::record_reader::{FormatVersion, SectionRecord};
 use xet_core_structures::shard_format::{HEADER_SIZE, MDBShardFileFooter, MDBShardInfo};
-use xet_core_structures::shard_writer::{LayoutOptions, write_again};
-use xet_core_structures::source::{MemorySource, ShardSource};
-use xet_core_structures::xorb_structs::{MDBXorbInfo, XorbChunkSequenceHeader};
+use xet_core_structures::shard_writer::{
+    LayoutOptions, PlacedRecord, StoredSection, StoredShard, bytes_from, end_of_section,
+    read_stored_section, write_again,
+};
+use xet_core_structures::xorb_structs::MDBXorbInfo;
 
 /// One of the two sections of a shard.
 #[derive(Clone, Copy, Debug, PartialEq, Eq)]
@@ -134,38 +138,25 @@ fn check_sections(alloc: Global, bytes: &[u8], info: &MDBShardInfo) -> Result<Ve
     ensures report { IfOk result (λ findings. IsReport bytes.now findings.items) }
     ensures causes { IfErr result (λ e. e ≡ CoreError.OutOfMemory) }
 {
-    let mut source = MemorySource::new(bytes);
-    let files = match MDBShardInfo::read_file_info_ranges(alloc, &mut source) {
+    let version = FormatVersion::of_header(info.header.version);
+    let from_files = bytes_from(bytes, HEADER_SIZE);
+    let files = match read_stored_section::<MDBFileInfo>(alloc, from_files, version) {
         Ok(files) => files,
         Err(error) => return section_findings(alloc, Section::Files, error),
     };
     // The xorb section comes next, whatever the footer says.
-    let xorbs_start = source.position()?;
-    let mut after_files = *info;
-    after_files.metadata.xorb_info_offset = xorbs_start;
-    let xorbs = match after_files.read_all_xorb_blocks(alloc, &mut source) {
+    let from_xorbs = bytes_from(from_files, end_of_section(&files));
+    let xorbs = match read_stored_section::<MDBXorbInfo>(alloc, from_xorbs, FormatVersion::V3) {
         Ok(xorbs) => xorbs,
         Err(error) => return section_findings(alloc, Section::Xorbs, error),
     };
+    let shard = StoredShard { files, xorbs };
     let mut findings = Vec::new(alloc);
-    push_disorder(&mut findings, Section::Files, files.as_slice())?;
-    push_disorder(&mut findings, Section::Xorbs, xorbs.as_slice())?;
-    let end = bytes.len() as u64;
-    let from_files = slice(bytes, HEADER_SIZE, end);
-    push_malformed::<MDBFileInfo>(
-        &mut findings,
-        Section::Files,
-        files.as_slice().len(),
-        from_files,
-    )?;
-    let from_xorbs = slice(bytes, xorbs_start, end);
-    push_malformed::<MDBXorbInfo>(
-        &mut findings,
-        Section::Xorbs,
-        xorbs.as_slice().len(),
-        from_xorbs,
-    )?;
-    push_differences(alloc, &mut findings, bytes, info)?;
+    push_disorder::<MDBFileInfo>(&mut findings, Section::Files, &shard.files)?;
+    push_disorder::<MDBXorbInfo>(&mut findings, Section::Xorbs, &shard.xorbs)?;
+    push_malformed::<MDBFileInfo>(&mut findings, Section::Files, &shard.files)?;
+    push_malformed::<MDBXorbInfo>(&mut findings, Section::Xorbs, &shard.xorbs)?;
+    push_differences(alloc, &mut findings, bytes, info, &shard)?;
     Ok(findings)
 }
 
@@ -190,61 +181,30 @@ fn single_finding(alloc: Global, finding: Finding) -> Result<Vec<Finding>>
     Ok(findings)
 }
 
-// What is read of a record, with its hash.
-trait Hashed {
-    ghost hash_of: { Self → DataHash };
-
-    fn record_hash(&self) -> MerkleHash
-        ensures { result ≡ hash_of self.now };
-}
-
-// A file's hash and its byte ranges.
-impl Hashed
-    for (
-        MerkleHash,
-        (u64, u64),
-        Option<(u64, u64)>,
-        Option<MerkleHash>,
-    ) {
-    ghost hash_of = { λ ranges. ranges.0 };
-
-    fn record_hash(&self) -> MerkleHash {
-        self.0
-    }
-}
-
-// A xorb's header and its offset.
-impl Hashed for (XorbChunkSequenceHeader, u64) {
-    ghost hash_of = { λ located. located.0.xorb_hash };
-
-    fn record_hash(&self) -> MerkleHash {
-        self.0.xorb_hash
-    }
-}
-
 // Adds the first record that is out of order, if there is one.
-fn push_disorder<T: Hashed>(
+fn push_disorder<R: SectionRecord>(
     findings: &mut Vec<Finding>,
     section: Section,
-    records: &[T],
+    stored: &StoredSection<'_, R::Header>,
 ) -> Result<()>
     ensures added { OnOk result
-        (AddsDisorder section (map T.hash_of records.now) findings.old.items findings.new.items) }
+        (AddsDisorder section (hashes_at R.kind stored.now) findings.old.items findings.new.items) }
     ensures causes { IfErr result (λ e. e ≡ CoreError.OutOfMemory) }
 {
-    if let Some(index) = first_out_of_order(records) {
+    if let Some(index) = first_out_of_order::<R>(stored.records.as_slice()) {
         findings.push(Finding::OutOfOrder(section, index))?;
     }
     Ok(())
 }
 
 // The index of the first record whose hash is not greater than that of the record before it.
-fn first_out_of_order<T: Hashed>(records: &[T]) -> Option<usize>
-    ensures { MatchOption result (IsStrictlySortedBy hash_cmp (map T.hash_of records.now))
-        (λ index. IsOutOfOrder index (map T.hash_of records.now)) }
+fn first_out_of_order<R: SectionRecord>(records: &[PlacedRecord<'_, R::Header>]) -> Option<usize>
+    ensures { MatchOption result
+        (IsStrictlySortedBy hash_cmp (map (λ p. R.kind.hash_of p.header) records.now))
+        (λ index. IsOutOfOrder index (map (λ p. R.kind.hash_of p.header) records.now)) }
 {
     for index in 1..records.len() {
-        if !ascend(&records[index - 1], &records[index]) {
+        if !ascend::<R>(&records[index - 1], &records[index]) {
             return Some(index);
         }
     }
@@ -252,11 +212,14 @@ fn first_out_of_order<T: Hashed>(records: &[T]) -> Option<usize>
 }
 
 // Whether the second record's hash is greater than that of the first.
-fn ascend<T: Hashed>(first: &T, second: &T) -> bool
+fn ascend<R: SectionRecord>(
+    first: &PlacedRecord<'_, R::Header>,
+    second: &PlacedRecord<'_, R::Header>,
+) -> bool
     ensures { IsTrue result
-        ↔ (hash_cmp (T.hash_of first.now) (T.hash_of second.now) ≡ Less) }
+        ↔ (hash_cmp (R.kind.hash_of first.now.header) (R.kind.hash_of second.now.header) ≡ Less) }
 {
-    first.record_hash().cmp(&second.record_hash()) == Ordering::Less
+    R::hash(&first.header).cmp(&R::hash(&second.header)) == Ordering::Less
 }
 
 // Adds what differs from the shard of the same records as the library writes it.
@@ -265,20 +228,18 @@ fn push_differences(
     findings: &mut Vec<Finding>,
     bytes: &[u8],
     info: &MDBShardInfo,
+    shard: &StoredShard<'_>,
 ) -> Result<()>
-    requires { HasHeaderAndFooter bytes.now info.now }
-    ensures added { OnOk result
-        (AddsDifferences bytes.now info.now findings.old.items findings.new.items) }
+    requires { (files : List MDBFileInfo) × (xorbs : List MDBXorbInfo)
+        × StoresShard shard.now files xorbs }
+    ensures added { OnOk result ((files : List MDBFileInfo) → (xorbs : List MDBXorbInfo)
+        → StoresShard shard.now files xorbs
+        → AddsDifferences bytes.now info.now files xorbs findings.old.items findings.new.items) }
     ensures causes { IfErr result (λ e. e ≡ CoreError.OutOfMemory) }
 {
-    let mut source = MemorySource::new(bytes);
-    let mut written = Vec::new(alloc);
     let options = LayoutOptions::of_info(info);
-    match write_again(alloc, &mut source, &mut written, &options) {
-        Ok(footer) => compare(alloc, findings, bytes, info, written.as_slice(), &footer),
-        // Both sections were read before, so only memory can be lacking.
-        Err(_) => Err(CoreError::OutOfMemory),
-    }
+    let (written, footer) = write_again(alloc, shard, &options)?;
+    compare(alloc, findings, bytes, info, written.as_slice(), &footer)
 }
 
 // Adds each part that differs from the one that was written, which has this footer, and the size.

@@ -8,14 +8,11 @@ ghost use Rattle.shard_bytes.specs.Completing.{Completes, RefusesCompletion};
 ghost use Rattle.shard_bytes.specs.Exporting.{FollowsHeader};
 ghost use Rattle.shard_bytes.specs.Sizes.{IsRewriteSize};
 
-use crate::memory::in_memory;
-use crate::room::with_room;
 use std::alloc::Global;
 use xet_core_structures::error::Result;
 use xet_core_structures::merklehash::HMACKey;
 use xet_core_structures::record_reader::FormatVersion;
-use xet_core_structures::shard_writer::{LayoutOptions, write_again};
-use xet_core_structures::source::MemorySource;
+use xet_core_structures::shard_writer::{LayoutOptions, read_stored_shard, write_again};
 
 /// The bytes of the shard of which these bytes have the header and both sections, whatever comes
 /// after these, if anything. It is in version 3, with all tables, creation 0 and no expiry, and its
@@ -42,10 +39,7 @@ pub fn complete_bytes(alloc: Global, bytes: &[u8], key: HMACKey) -> Result<Vec<u
         creation: 0,
         expiry: u64::MAX,
     };
-    let mut whole = with_room(alloc, bytes.len())?;
-    let mut source = MemorySource::new(bytes);
-    match write_again(alloc, &mut source, &mut whole, &options) {
-        Ok(_) => Ok(whole),
-        Err(error) => Err(in_memory(error)),
-    }
+    let shard = read_stored_shard(alloc, bytes)?;
+    let (whole, _footer) = write_again(alloc, &shard, &options)?;
+    Ok(whole)
 }

@@ -4,16 +4,14 @@ ghost use Rattle.std.specs.Prelude.{length, IfOk, MatchResult};
 ghost use Rattle.shard_bytes.specs.Versions.{IsInVersion2, RefusesVersion2};
 ghost use Rattle.shard_bytes.specs.Sizes.{IsRewriteSize};
 
-use crate::aux_rows::has_aux_rows;
 use crate::load::load_bytes;
-use crate::memory::in_memory;
-use crate::room::with_room;
 use std::alloc::Global;
 use xet_core_structures::error::{CoreError, Result};
 pub use xet_core_structures::record_reader::FormatVersion;
 use xet_core_structures::shard_format::MDBShardInfo;
-use xet_core_structures::shard_writer::{LayoutOptions, write_again};
-use xet_core_structures::source::MemorySource;
+use xet_core_structures::shard_writer::{
+    LayoutOptions, have_aux_rows, read_stored_shard, write_again,
+};
 
 /// The bytes of the same shard in version 2, from its bytes in either version: its records, in
 /// their order, under its key and with its timestamps, and the tables of which its footer says that
@@ -27,17 +25,14 @@ pub fn version_2_bytes(alloc: Global, bytes: &[u8]) -> Result<Vec<u8>>
     ensures size { IfOk result (λ written. IsRewriteSize bytes.now (length written.items)) }
 {
     let info = load_bytes(alloc, bytes)?;
+    let shard = read_stored_shard(alloc, bytes)?;
+    if have_aux_rows(shard.files.records.as_slice()) {
+        return Err(CoreError::InvalidArguments);
+    }
     let options = LayoutOptions {
         version: FormatVersion::V2,
         ..LayoutOptions::of_info(&info)
     };
-    let mut written = with_room(alloc, bytes.len())?;
-    let mut source = MemorySource::new(bytes);
-    if let Err(error) = write_again(alloc, &mut source, &mut written, &options) {
-        return Err(in_memory(error));
-    }
-    if has_aux_rows(bytes) {
-        return Err(CoreError::InvalidArguments);
-    }
+    let (written, _footer) = write_again(alloc, &shard, &options)?;
     Ok(written)
 }

@@ -16,6 +16,5 @@ pub mod Equalities
 pub mod FrontRows
 pub mod Items
 pub mod Turns
-pub mod Zipped
 pub mod SectionWays
 pub mod OneResult

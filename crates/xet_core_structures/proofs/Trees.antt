@@ -21,7 +21,7 @@ pub mod PlacedMixes
 pub mod PlacedShards
 pub mod PlacedRanges
 pub mod PlacedUnions
-pub mod PlacedWriting
+pub mod PlacedRecords
 pub mod Placing
 pub mod Filling
 pub mod SameTrees

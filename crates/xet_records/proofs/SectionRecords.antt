@@ -47,11 +47,11 @@ module _ {H R : Type 0} (K : RecordKind H R) (laws : KindLaws K) where
       }
 
   -- before the first record of a section
-  pub nothing_read : (Took : List ℕ → Type 0) → Took [] → HasRead K Took [] 4294967295
+  unfoldable pub nothing_read : (Took : List ℕ → Type 0) → Took [] → HasRead K Took [] 4294967295
   nothing_read Took nothing = record { stored = []; are_stored = All-nil K.IsStored; taken = nothing; rows = refl; returned = refl }
 
   -- one record more
-  pub more_read : (First Next Both : List ℕ → Type 0) (found : List R) (left after : ℕ) (r : R) → ((xs ys : List ℕ) → First xs → Next ys → Both (xs ++ ys))
+  unfoldable pub more_read : (First Next Both : List ℕ → Type 0) (found : List R) (left after : ℕ) (r : R) → ((xs ys : List ℕ) → First xs → Next ys → Both (xs ++ ys))
       → HasRead K First found left → CountsRecord K Next left after r → HasRead K Both (found ++ r ∷ []) after
   more_read First Next Both found left after r joins before next =
       let x = next.reads.stored in

@@ -8,4 +8,6 @@ pub mod SectionUnique
 pub mod WholeSections
 pub mod TableReading
 pub mod FileRanges
+pub mod StoredSections
 pub mod TruncatedHashes
+pub mod Zipped

@@ -13,6 +13,7 @@ pub mod ChunkSorting
 pub mod WrittenTables
 pub mod Written
 pub mod Copying
+pub mod Collecting
 pub mod WithOptions
 pub mod SameBytes
 pub mod Worked

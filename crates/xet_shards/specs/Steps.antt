@@ -1,6 +1,7 @@
 -- Words that only proofs speak of, and contracts of this crate and of those above.
 
 pub mod ChunkLookup
+pub mod Collecting
 pub mod ChunkMerging
 pub mod FileStore
 pub mod Filling

@@ -3,7 +3,7 @@
 pub(crate) mod ends;
 pub(crate) mod export;
 mod lookup;
-mod read;
+pub(crate) mod read;
 pub(crate) mod write;
 
 pub use ends::footer::MDBShardFileFooter;

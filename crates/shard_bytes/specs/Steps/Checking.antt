@@ -1,5 +1,5 @@
 -- Steps towards what `Checking` defines, which only contracts inside the crate speak of.
-use Rattle.std.specs.Prelude.{◌≡◌, ◌≢◌, ◌⊎◌, ℕ, ◌<◌, ◌≤◌, List, [], ◌∷◌, ◌++◌, length, flat_map, All, Contains, Option, MatchOption}
+use Rattle.std.specs.Prelude.{◌≡◌, ◌≢◌, ◌⊎◌, ℕ, ◌<◌, ◌≤◌, List, [], ◌∷◌, ◌++◌, length, map, flat_map, All, Contains, Option, MatchOption}
 use Rattle.std.specs.List.Sorted.{IsPermutation, IsSortedBy, IsStrictlySortedBy}
 use Rattle.std.specs.Ordering.{is_lt}
 use Rattle.xet_core_structures.specs.declared.error.CoreError.{CoreError}
@@ -13,13 +13,13 @@ use Rattle.xet_core_structures.specs.Ends.{IsTooShort}
 use Rattle.xet_core_structures.specs.Errors.{IsInvalidShard}
 use Rattle.xet_core_structures.specs.Hash.{hash_cmp}
 use Rattle.xet_core_structures.specs.Layout.{footer_value, layout_of}
-use Rattle.xet_core_structures.specs.SectionReading.{HoldsRecords}
 use Rattle.xet_core_structures.specs.WithOptions.{FitsSection}
 use Rattle.xet_core_structures.specs.XorbRecord.{xorb_records}
 use Rattle.xet_records.specs.Limits.{MAX_ROWS}
 use Rattle.xet_records.specs.RecordKind.{RecordKind}
 use Rattle.xet_shards.specs.declared.shard_writer.LayoutOptions.{LayoutOptions}
-use Rattle.xet_shards.specs.Export.Rewriting.{HasSections, options_of}
+use Rattle.xet_shards.specs.Export.Rewriting.{options_of}
+use Rattle.xet_shards.specs.declared.shard_writer.StoredSection.{StoredSection}
 use Rattle.xet_shards.specs.Read.TableReading.{FitsTriple, triple_of}
 use Rattle.xet_shards.specs.declared.shard_writer.ChunkTableRow.{ChunkTableRow}
 use Rattle.xet_shards.specs.Write.Tables.{chunk_table_bytes, chunk_table_row_bytes, chunk_table_row_cmp}
@@ -72,12 +72,9 @@ AddsDisorder section hashes =
     AddsFaults (IsStrictlySortedBy hash_cmp hashes)
     (λ f. (n : ℕ) × (f ≡ OutOfOrder section n) × IsOutOfOrder n hashes)
 
--- bytes begin with those of these records of a section, of which there are so many
-pub record BeginsWith {H R : Type 0} (K : RecordKind H R) (bytes : List ℕ) (rs : List R) (count : ℕ)
-    : Type 0 where
-  pub rest : List ℕ
-  pub held : HoldsRecords K bytes rs rest
-  pub count_is : length rs ≡ count
+-- the hashes of the records of a section in memory
+abbrev pub hashes_at : {H R : Type 0} → RecordKind H R → StoredSection H → List DataHash
+hashes_at K section = map (λ p. K.hash_of p.header) section.records.items
 
 -- a record of a section has this header, and these are the bytes of the rows after it
 pub record HasRows {H R : Type 0} (K : RecordKind H R) (header : H) (rows : List ℕ) (r : R)
@@ -181,9 +178,9 @@ Compares bytes info written footer =
     Adds (IsSame bytes info written footer) (IsAlike bytes info written footer)
     (IsDifference bytes info written footer)
 
--- the records were read, and each difference from what the library writes of them was added
-abbrev pub AddsDifferences : List ℕ → MDBShardInfo → List Finding → List Finding → Type 0
-AddsDifferences bytes info old new =
-    (files : List MDBFileInfo) × (xorbs : List MDBXorbInfo) × HasSections bytes files xorbs
-    × Compares bytes info (layout_of files xorbs (options_of info))
+-- each difference from what the library writes of these records was added
+abbrev pub AddsDifferences : List ℕ → MDBShardInfo → List MDBFileInfo → List MDBXorbInfo
+    → List Finding → List Finding → Type 0
+AddsDifferences bytes info files xorbs old new =
+    Compares bytes info (layout_of files xorbs (options_of info))
     (footer_value files xorbs (options_of info)) old new

@@ -10,15 +10,17 @@ ghost use Rattle.xet_core_structures.specs.XorbRecord.{IsXorb};
 ghost use Rattle.xet_records.specs.declared.file_structs.rows.HashRow.{HashRow};
 ghost use Rattle.xet_records.specs.FileRow.{FitsHashRow, hash_row};
 ghost use Rattle.xet_shards.specs.Steps.FileStore.{AreClear};
-ghost use Rattle.shard_bytes.specs.Steps.Checking.{AddsMalformed, BeginsWith, HasRows};
+ghost use Rattle.xet_records.specs.Limits.{MAX_ROWS};
+ghost use Rattle.xet_shards.specs.Read.StoredSection.{StoresRecord, StoresSection};
+ghost use Rattle.shard_bytes.specs.Steps.Checking.{AddsMalformed, HasRows};
 
 use super::{Finding, Section, push_unless};
 use xet_core_structures::error::Result;
 use xet_core_structures::fields::{split_hash, split_u64};
 use xet_core_structures::file_structs::{FileDataSequenceHeader, MDBFileInfo};
-use xet_core_structures::record_bytes::row;
 use xet_core_structures::record_reader::SectionRecord;
 use xet_core_structures::rows::ROW_SIZE;
+use xet_core_structures::shard_writer::{PlacedRecord, StoredSection};
 use xet_core_structures::well_formed::have_few_bytes;
 use xet_core_structures::xorb_structs::{MDBXorbInfo, XorbChunkSequenceHeader};
 
@@ -33,30 +35,34 @@ pub(super) trait Judged: SectionRecord {
             → IsTrue result ↔ formed r };
 }
 
-/// Adds each record of a section that no shard may have. `stored` begins with the rows of its
-/// records, of which there are `count`.
+/// Adds each record of a section that no shard may have.
 pub(super) fn push_malformed<R: Judged>(
     findings: &mut Vec<Finding>,
     section: Section,
-    count: usize,
-    stored: &[u8],
+    stored: &StoredSection<'_, R::Header>,
 ) -> Result<()>
-    requires { (rs : List R) × BeginsWith R.kind stored.now rs count }
-    ensures added { OnOk result ((rs : List R) → BeginsWith R.kind stored.now rs count
+    requires { (rs : List R) × StoresSection R.kind stored.now rs }
+    ensures added { OnOk result ((rs : List R) → StoresSection R.kind stored.now rs
         → AddsMalformed section R.formed rs findings.old.items findings.new.items) }
     ensures causes { IfErr result (λ e. e ≡ CoreError.OutOfMemory) }
 {
-    R::laws();
-    let mut rest = stored;
-    for index in 0..count {
-        let header: R::Header = row(rest, 0);
-        let (_header, rows) = rest.split_at(ROW_SIZE);
-        let (rows, after) = rows.split_at(ROW_SIZE * R::rows_after(&header) as usize);
-        let formed = R::is_formed(&header, rows);
+    let records = stored.records.as_slice();
+    for index in 0..records.len() {
+        let formed = is_formed_at::<R>(&records[index]);
         push_unless(findings, formed, Finding::Malformed(section, index))?;
-        rest = after;
     }
     Ok(())
+}
+
+// Whether a shard may have the record at a place.
+fn is_formed_at<R: Judged>(placed: &PlacedRecord<'_, R::Header>) -> bool
+    requires { (r : R) × StoresRecord R.kind placed.now r × (R.kind.row_count r ≤ MAX_ROWS) }
+    ensures { (r : R) → StoresRecord R.kind placed.now r → R.kind.row_count r ≤ MAX_ROWS
+        → IsTrue result ↔ R.formed r }
+{
+    R::laws();
+    let size = ROW_SIZE * R::rows_after(&placed.header) as usize;
+    R::is_formed(&placed.header, &placed.rows[..size])
 }
 
 impl Judged for MDBFileInfo {

@@ -21,7 +21,7 @@ use Rattle.xet_core_structures.specs.Trees.MergeTrees.{leaves, HasUnion, TreeWri
 use Rattle.xet_core_structures.specs.TwoShards.Readable.{IsBytesUnderKey}
 use Rattle.xet_core_structures.proofs.LawProofs.FileLookups.{union_under, tree_under}
 use Rattle.xet_core_structures.proofs.Trees.MergeTrees.{keyed_tree}
-use Rattle.xet_core_structures.proofs.Records.Zipped.{zipped_append, zipped_member, zipped_and}
+use Rattle.xet_shards.proofs.Read.Zipped.{zipped_append, zipped_member, zipped_and}
 
 -- two inputs that disagree are not such that agree
 pub of_hash : (s t : Shard) (h : RecordHash) → DisagreeShards s t h → ¬ ShardsAgree s t

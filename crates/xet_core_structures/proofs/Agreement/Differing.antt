@@ -6,16 +6,16 @@ use Rattle.std.proofs.lemmas.List.Elements.{Contains-push, Contains-push_cases, 
 use Rattle.std.proofs.lemmas.Option.{same_Some}
 use Rattle.xet_base.specs.Hash.{all_ones}
 use Rattle.xet_records.specs.RecordKind.{RecordKind, KindLaws}
+use Rattle.xet_shards.specs.declared.shard_format.read.stored_section.PlacedRecord.{PlacedRecord}
 use Rattle.xet_core_structures.specs.declared.set_operations.agreement.differing.Differing.{Differing}
 use Rattle.xet_core_structures.specs.declared.set_operations.agreement.differing.ReadRecord.{ReadRecord}
 use Rattle.xet_core_structures.specs.declared.set_operations.agreement.runs.Place.{Place}
-use Rattle.xet_core_structures.specs.declared.set_operations.trees.placed.PlacedRecord.{PlacedRecord}
 use Rattle.xet_core_structures.specs.Steps.Differing.{AgreeWithin, DifferWithin, ComparesPlace, DiffersAt}
 use Rattle.xet_core_structures.specs.Steps.Differing.{IsRun, IsPlace, IsRecordAt, Covers, KeepsRecord, IsAgainst}
 use Rattle.xet_core_structures.specs.Steps.Placed.{Places}
 use Rattle.xet_core_structures.specs.Steps.MergeJoin.{IsRecordHeader}
 use Rattle.xet_core_structures.proofs.Records.Items.{below_or_at}
-use Rattle.xet_core_structures.proofs.Trees.PlacedWriting.{placed_once}
+use Rattle.xet_core_structures.proofs.Trees.PlacedRecords.{placed_once}
 
 -- a record lies where its header and the bytes of its rows do
 pub copied_placed : {H R : Type 0} (K : RecordKind H R) (one other : PlacedRecord H) (n : ℕ) → one.header ≡ other.header → n ≡ 48 * K.rows_after one.header → take n one.rows.now ≡ take n other.rows.now → (r : R)

@@ -10,9 +10,9 @@ use Rattle.std.proofs.lemmas.Option.{slice_get_within}
 use Rattle.xet_base.specs.declared.merklehash.DataHash.{DataHash}
 use Rattle.xet_base.specs.Hash.{hash_cmp}
 use Rattle.xet_records.specs.RecordKind.{RecordKind, KindLaws}
+use Rattle.xet_shards.specs.declared.shard_format.read.stored_section.PlacedRecord.{PlacedRecord}
 use Rattle.xet_core_structures.specs.declared.set_operations.agreement.differing.Differing.{Differing}
 use Rattle.xet_core_structures.specs.declared.set_operations.agreement.runs.Place.{Place}
-use Rattle.xet_core_structures.specs.declared.set_operations.trees.placed.PlacedRecord.{PlacedRecord}
 use Rattle.xet_core_structures.specs.Records.RecordPairs.{key_of_record}
 use Rattle.xet_core_structures.specs.Steps.Differing.{AgreeWithin, DifferWithin, ComparesRun, Differ, FindsDiffering}
 use Rattle.xet_core_structures.specs.Steps.Differing.{IsRun, IsPlace, HasPlaces, IsRecordAt, HasRecord}
@@ -20,7 +20,7 @@ use Rattle.xet_core_structures.specs.Steps.Placed.{Places, MayUnite, hash_at}
 use Rattle.xet_core_structures.proofs.Agreement.HashRuns.{less_apart, ascends_more}
 use Rattle.xet_core_structures.proofs.Records.Items.{has_at, place_of_item, mapped_back, below_or_from}
 use Rattle.xet_core_structures.proofs.Trees.PlacedUnions.{key_placed}
-use Rattle.xet_core_structures.proofs.Records.Zipped.{zip_at, zip_back}
+use Rattle.xet_shards.proofs.Read.Zipped.{zip_at, zip_back}
 
 abbrev hashes : List Differing → List DataHash
 hashes found = map (λ d. d.hash) found

@@ -15,8 +15,8 @@ use Rattle.xet_base.specs.declared.merklehash.DataHash.{DataHash}
 use Rattle.xet_base.specs.Hash.{hash_cmp}
 use Rattle.xet_base.proofs.HashOrder.{hash_cmp-IsTotalOrder, hash_cmp-IsAntisymmetric}
 use Rattle.xet_records.specs.RecordKind.{RecordKind}
+use Rattle.xet_shards.specs.declared.shard_format.read.stored_section.PlacedRecord.{PlacedRecord}
 use Rattle.xet_core_structures.specs.declared.set_operations.agreement.runs.Place.{Place}
-use Rattle.xet_core_structures.specs.declared.set_operations.trees.placed.PlacedRecord.{PlacedRecord}
 use Rattle.xet_core_structures.specs.Steps.Differing.{place_cmp, IsRun, IsIn, IsPlace, AddsPlaces, HasPlaces}
 use Rattle.xet_core_structures.specs.Steps.Placed.{hash_at}
 use Rattle.xet_core_structures.proofs.Records.Items.{below_or_at}

@@ -23,6 +23,7 @@ use Rattle.xet_records.specs.XorbRecord.{xorb_records, IsStoredXorb, IsXorb}
 use Rattle.xet_records.specs.XorbRow.{FitsChunk, chunk_row}
 use Rattle.xet_records.proofs.Parts.{rows_of-returned}
 use Rattle.xet_records.proofs.RecordKinds.{stored_ever}
+use Rattle.xet_shards.specs.declared.shard_format.read.stored_section.PlacedRecord.{PlacedRecord}
 use Rattle.xet_shards.specs.Content.Shard.{Shard, IsShard}
 use Rattle.xet_shards.specs.Read.SectionReading.{files_of}
 use Rattle.xet_shards.specs.Write.Section.{total_rows}
@@ -31,7 +32,6 @@ use Rattle.xet_shards.specs.Steps.FileStore.{AreClear}
 use Rattle.xet_shards.proofs.Write.StoredParts.{clear_parts}
 use Rattle.xet_core_structures.specs.declared.set_operations.agreement.RecordHash.TheVariants.{File, Xorb}
 use Rattle.xet_core_structures.specs.declared.set_operations.trees.parts.PlacedShard.{PlacedShard}
-use Rattle.xet_core_structures.specs.declared.set_operations.trees.placed.PlacedRecord.{PlacedRecord}
 use Rattle.xet_core_structures.specs.Agreement.Agreement.{HasMalformed, HoldShards, IsHeld}
 use Rattle.xet_core_structures.specs.Steps.Agreement.{IsPlainFile, HasFewBytes, FindsMalformed}
 use Rattle.xet_core_structures.specs.Steps.ByteResults.{Records}
@@ -42,7 +42,7 @@ use Rattle.xet_core_structures.specs.Steps.Placed.{Places, PlacesAll}
 use Rattle.xet_core_structures.proofs.Records.Items.{has_at, has_mapped, mapped_back, below_or_at}
 use Rattle.xet_core_structures.proofs.Records.ListMaps.{list_map, values-list_map, get-list_map, with_hash_of, shard_of, lists_hold}
 use Rattle.xet_core_structures.proofs.Records.ShardContents.{only_shard}
-use Rattle.xet_core_structures.proofs.Records.Zipped.{zip_at, zip_back}
+use Rattle.xet_shards.proofs.Read.Zipped.{zip_at, zip_back}
 use Rattle.xet_core_structures.proofs.Trees.Parts.{may_be_united}
 use Rattle.xet_core_structures.proofs.Trees.PlacedUnions.{key_placed}
 

@@ -22,6 +22,7 @@ use Rattle.xet_records.proofs.Lengths.{length-segment_rows, length-hash_row, len
 use Rattle.xet_records.proofs.Parts.{rows_of-returned}
 use Rattle.xet_records.proofs.RecordKinds.{length-record_bytes}
 use Rattle.xet_records.specs.declared.record_reader.FormatVersion.TheVariants.{V3}
+use Rattle.xet_shards.specs.declared.shard_format.read.stored_section.PlacedRecord.{PlacedRecord}
 use Rattle.xet_shards.specs.declared.shard_format.ends.options.LayoutOptions.{LayoutOptions}
 use Rattle.xet_shards.specs.declared.shard_format.write.written.WrittenFiles.{WrittenFiles}
 use Rattle.xet_shards.specs.declared.shard_format.write.written.WrittenXorbs.{WrittenXorbs}
@@ -32,7 +33,6 @@ use Rattle.xet_shards.proofs.Write.Layouts.{length-file_section, length-xorb_sec
 use Rattle.xet_shards.proofs.Write.Written.{layout-parts}
 use Rattle.xet_core_structures.specs.declared.set_operations.trees.filling.Frame.{Frame}
 use Rattle.xet_core_structures.specs.declared.set_operations.trees.parts.PlacedShard.{PlacedShard}
-use Rattle.xet_core_structures.specs.declared.set_operations.trees.placed.PlacedRecord.{PlacedRecord}
 use Rattle.xet_core_structures.specs.TwoShards.ByteResults.{keyed_options}
 use Rattle.xet_core_structures.specs.Steps.ByteResults.{Records}
 use Rattle.xet_core_structures.specs.Steps.Filling.{Puts, IsFrame}

@@ -8,7 +8,7 @@ use Rattle.xet_shards.specs.Content.Shard.{Shard, IsShard}
 use Rattle.xet_shards.proofs.Content.MappedShards.{unmapped_member}
 use Rattle.xet_core_structures.specs.declared.set_operations.MergePlan.{MergePlan}
 use Rattle.xet_core_structures.specs.Trees.MergeTrees.{leaves, InputIs, IsMergeOf}
-use Rattle.xet_core_structures.proofs.Records.Zipped.{zipped_with}
+use Rattle.xet_shards.proofs.Read.Zipped.{zipped_with}
 
 pub record PreservesJoins (f : Shard → Shard) : Type 0 where
   pub shards : (s : Shard) → IsShard s → IsShard (f s)

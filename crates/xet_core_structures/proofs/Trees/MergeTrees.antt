@@ -18,7 +18,7 @@ use Rattle.xet_core_structures.specs.TwoShards.ByteResults.{keyed_layout}
 use Rattle.xet_core_structures.specs.Records.ShardContents.{HoldsShard}
 use Rattle.xet_core_structures.specs.Trees.MergeTrees.{leaves, LeafWrites, LeafRefusal, TreeWrites, TreeRefusal, InputIs, IsMergeUnder, IsMerge, IsMergeOfWritten, MergeRefused}
 use Rattle.xet_core_structures.proofs.Records.ByteUnions.{written_held}
-use Rattle.xet_core_structures.proofs.Records.Zipped.{zipped_as}
+use Rattle.xet_shards.proofs.Read.Zipped.{zipped_as}
 use Rattle.xet_core_structures.proofs.Trees.UnionTrees.{tree_made, tree_refused as refused}
 
 module _ (inputs : List (List ℕ)) (key : DataHash) where

@@ -11,7 +11,7 @@ use Rattle.xet_core_structures.specs.declared.set_operations.trees.inputs.OpenSh
 use Rattle.xet_core_structures.specs.declared.set_operations.trees.parts.TreePart.{TreePart}
 use Rattle.xet_core_structures.specs.Trees.MergeTrees.{TreeWrites, TreeRefusal}
 use Rattle.xet_core_structures.specs.Steps.Parts.{IsOpenOf, AreOpened, IsPartOfTree}
-use Rattle.xet_core_structures.proofs.Records.Zipped.{zipped_append}
+use Rattle.xet_shards.proofs.Read.Zipped.{zipped_append}
 
 -- the first inputs, one more
 pub taken_more : (xs : List (List ℕ)) (i : ℕ) (y : List ℕ) → slice_get xs i ≡ Some y → take i xs ++ y ∷ [] ≡ take (i + 1) xs

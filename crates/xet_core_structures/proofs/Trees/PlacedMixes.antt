@@ -6,7 +6,7 @@ use Rattle.xet_records.specs.declared.file_structs.MDBFileInfo.{MDBFileInfo}
 use Rattle.xet_records.specs.FileRecord.{file_records, file_rows_bytes, as_read, rows_after}
 use Rattle.xet_records.specs.Merging.{IncludesBits, mixed_header}
 use Rattle.xet_records.proofs.RecordKinds.{file_laws}
-use Rattle.xet_core_structures.specs.declared.set_operations.trees.placed.PlacedRecord.{PlacedRecord}
+use Rattle.xet_shards.specs.declared.shard_format.read.stored_section.PlacedRecord.{PlacedRecord}
 use Rattle.xet_core_structures.specs.Records.ByteUnion.{mixed_file, IsEitherFile}
 use Rattle.xet_core_structures.specs.Steps.Placed.{MakesPlaced}
 use Rattle.xet_core_structures.specs.Steps.Placed.{Places}

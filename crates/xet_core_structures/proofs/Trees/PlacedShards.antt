@@ -10,10 +10,10 @@ use Rattle.xet_records.specs.Version.{version_of}
 use Rattle.xet_records.specs.FileRecord.{file_records}
 use Rattle.xet_records.specs.XorbRecord.{xorb_records}
 use Rattle.xet_records.proofs.RecordKinds.{file_laws}
+use Rattle.xet_shards.specs.declared.shard_format.read.stored_section.PlacedRecord.{PlacedRecord}
 use Rattle.xet_shards.specs.declared.shard_format.ends.info.MDBShardInfo.{MDBShardInfo}
 use Rattle.xet_shards.specs.Read.SectionReading.{files_of, IsSection, StreamsSection, ReadsSection}
 use Rattle.xet_core_structures.specs.declared.set_operations.trees.parts.PlacedShard.{PlacedShard}
-use Rattle.xet_core_structures.specs.declared.set_operations.trees.placed.PlacedRecord.{PlacedRecord}
 use Rattle.xet_core_structures.specs.TwoShards.ByteResults.{key_of}
 use Rattle.xet_core_structures.specs.Records.ShardContents.{HasFiles, files_at, xorbs_at}
 use Rattle.xet_core_structures.specs.Steps.ShardContents.{HoldsLists}

@@ -12,17 +12,17 @@ use Rattle.xet_base.specs.declared.merklehash.DataHash.{DataHash}
 use Rattle.xet_base.specs.Errors.{IsInvalidShard}
 use Rattle.xet_base.specs.Hash.{hash_cmp}
 use Rattle.xet_records.specs.RecordKind.{RecordKind, KindLaws}
+use Rattle.xet_shards.specs.declared.shard_format.read.stored_section.PlacedRecord.{PlacedRecord}
 use Rattle.xet_shards.specs.Write.WithOptions.{Ascends}
 use Rattle.xet_shards.specs.Write.Section.{total_rows}
 use Rattle.xet_shards.proofs.Write.Copying.{rows_returned}
-use Rattle.xet_core_structures.specs.declared.set_operations.trees.placed.PlacedRecord.{PlacedRecord}
 use Rattle.xet_core_structures.specs.Records.RecordPairs.{key_of_record, Combines}
 use Rattle.xet_core_structures.specs.Steps.Placed.{MakesNothing, KeepsNext, HaveNoListUnion}
 use Rattle.xet_core_structures.specs.Steps.Placed.{CountsRows, Places, PlacesAll, MayUnite, hash_at, IsBefore}
 use Rattle.xet_core_structures.specs.Steps.Placed.KeepsNext.{takes_first, takes_second, takes_both}
 use Rattle.xet_core_structures.proofs.Records.RecordPairs.{ComesLater, HasHash, AreCombinedBefore, combined_start, next_passed, combined_on}
 use Rattle.xet_core_structures.proofs.TwoShards.OneSection.{header_of_found}
-use Rattle.xet_core_structures.proofs.Records.Zipped.{zipped_append}
+use Rattle.xet_shards.proofs.Read.Zipped.{zipped_append}
 
 -- the header of the first of a list of records in place, if there is one
 abbrev next_header : {H : Type 0} → List (PlacedRecord H) → Option H

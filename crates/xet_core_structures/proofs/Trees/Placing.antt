@@ -9,15 +9,15 @@ use Rattle.xet_records.specs.declared.record_reader.FormatVersion.{FormatVersion
 use Rattle.xet_records.specs.RecordKind.{RecordKind, in_version, KindLaws}
 use Rattle.xet_records.specs.Reading.{ReadsNextHeader, ReadsRowsAfter}
 use Rattle.xet_records.proofs.RecordKinds.{laws_in}
+use Rattle.xet_shards.specs.declared.shard_format.read.stored_section.PlacedRecord.{PlacedRecord}
 use Rattle.xet_shards.specs.Write.WithOptions.{Ascends}
 use Rattle.xet_shards.proofs.Read.SectionReading.{section_ends}
-use Rattle.xet_core_structures.specs.declared.set_operations.trees.placed.PlacedRecord.{PlacedRecord}
 use Rattle.xet_core_structures.specs.Records.RecordPairs.{ComeBefore}
 use Rattle.xet_core_structures.specs.Steps.Placed.{Places, PlacesAll, ReadsPlaced}
 use Rattle.xet_core_structures.specs.Steps.MergeJoin.{Follows, ReadsFollowing, FollowingFails, AscendingNotStreamed}
 use Rattle.xet_core_structures.proofs.Records.RecordPairs.{IsUnder, before_later, before_push, ascends_push}
 use Rattle.xet_core_structures.proofs.TwoShards.OneSection.{HasPending, pending_start, pending_on, pending_header, pending_serves, under_pending, no_next}
-use Rattle.xet_core_structures.proofs.Records.Zipped.{zipped_append}
+use Rattle.xet_shards.proofs.Read.Zipped.{zipped_append}
 
 module _ {H R : Type 0} (K : RecordKind H R) where
   -- records were read, whose hashes strictly ascend, and the header of the next

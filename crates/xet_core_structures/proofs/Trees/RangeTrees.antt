@@ -26,7 +26,7 @@ use Rattle.xet_core_structures.specs.Trees.RangeTrees.{IsRangeOf, LeafWritesRang
 use Rattle.xet_core_structures.proofs.Records.ByteUnions.{held_with_options, info_found, loads_well, fits_key}
 use Rattle.xet_core_structures.proofs.Records.ShardContents.{only_shard, held_whole, held_well}
 use Rattle.xet_core_structures.proofs.Records.Within.{part_is_shard, one_part, part_of, part_of_is, part_of-preserves}
-use Rattle.xet_core_structures.proofs.Records.Zipped.{zipped_with}
+use Rattle.xet_shards.proofs.Read.Zipped.{zipped_with}
 use Rattle.xet_core_structures.proofs.Trees.MappedJoins.{mapped_agree}
 use Rattle.xet_core_structures.proofs.Trees.UnionTrees.{no_memory_after, tree_made, tree_refused}
 

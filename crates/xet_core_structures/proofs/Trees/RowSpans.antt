@@ -5,9 +5,9 @@ use Rattle.xet_base.specs.declared.error.CoreError.TheVariants.{OutOfMemory, Inv
 use Rattle.xet_records.specs.declared.record_reader.FormatVersion.{FormatVersion}
 use Rattle.xet_records.specs.RecordKind.{RecordKind, in_version}
 use Rattle.xet_records.proofs.RecordKinds.{KindLaws, laws_in}
+use Rattle.xet_shards.specs.declared.shard_format.read.stored_section.PlacedRecord.{PlacedRecord}
 use Rattle.xet_shards.specs.Read.SectionReading.{BeginsWithBookend}
 use Rattle.xet_core_structures.specs.declared.set_operations.ranges.HashRange.{HashRange}
-use Rattle.xet_core_structures.specs.declared.set_operations.trees.placed.PlacedRecord.{PlacedRecord}
 use Rattle.xet_core_structures.specs.Steps.Placed.{PlacesAll}
 use Rattle.xet_core_structures.specs.Steps.Rows.{RowsFollow}
 use Rattle.xet_core_structures.specs.Trees.RowTrees.{HasInRows}

@@ -16,17 +16,17 @@ use Rattle.xet_records.specs.RecordKind.{RecordKind, in_version, IsHeaderRow}
 use Rattle.xet_records.specs.Reading.{ReadsNextHeader, ReadsRowsAfter, CountsHeader, CountsRecord, BeginsWithHeader, BeginsWithBookend, BeginsRefused, EndsEarly}
 use Rattle.xet_records.proofs.RecordKinds.{KindLaws, StopsAt, laws_in, no_record, stored_begins, same_front}
 use Rattle.xet_records.proofs.SectionRecords.{rows_after_header}
+use Rattle.xet_shards.specs.declared.shard_format.read.stored_section.PlacedRecord.{PlacedRecord}
 use Rattle.xet_shards.specs.Read.SectionReading.{SectionCase}
 use Rattle.xet_shards.specs.Read.SectionReading.SectionCase.{not_read, passes_limit}
 use Rattle.xet_shards.specs.Steps.SectionReading.{RecordFails}
 use Rattle.xet_core_structures.specs.declared.set_operations.ranges.HashRange.{HashRange}
-use Rattle.xet_core_structures.specs.declared.set_operations.trees.placed.PlacedRecord.{PlacedRecord}
 use Rattle.xet_core_structures.specs.Records.Ranges.{is_within}
 use Rattle.xet_core_structures.specs.Steps.MergeJoin.{Follows, FollowingFails}
 use Rattle.xet_core_structures.specs.Steps.MergeJoin.FollowingFails.{not_read as next_not_read, falls}
 use Rattle.xet_core_structures.specs.Steps.Placed.{PlacesAll}
 use Rattle.xet_core_structures.specs.Steps.Rows.{NextIs, RowsFollow, PlacesNext}
-use Rattle.xet_core_structures.proofs.Records.Zipped.{zipped_append}
+use Rattle.xet_shards.proofs.Read.Zipped.{zipped_append}
 use Rattle.xet_core_structures.proofs.TwoShards.InMemory.{in_memory}
 
 module _ {H R : Type 0} (K : RecordKind H R) (laws : KindLaws K) (range : HashRange) where

@@ -14,7 +14,7 @@ use Rattle.xet_core_structures.specs.TwoShards.ByteResults.{keyed_layout, Unites
 use Rattle.xet_core_structures.specs.Records.ShardContents.{HoldsShard}
 use Rattle.xet_core_structures.specs.Trees.MergeTrees.{leaves, MergeRefused}
 use Rattle.xet_core_structures.proofs.Records.ByteUnions.{held_union, refused_union}
-use Rattle.xet_core_structures.proofs.Records.Zipped.{zipped_parts}
+use Rattle.xet_shards.proofs.Read.Zipped.{zipped_parts}
 
 -- over what it means that a shard is at a leaf
 module _ (key : DataHash) (IsAt : ℕ → Shard → Type 0) where

@@ -23,7 +23,7 @@ use Rattle.xet_core_structures.specs.Trees.MergeTrees.{leaves, TreeWrites, TreeR
 use Rattle.xet_core_structures.proofs.LawProofs.ExportTrees.{export_held, export_of_join, export_of_bytes, exports_refused, before_timestamps, after_timestamps, split_at_timestamps, after_timestamps_size}
 use Rattle.xet_core_structures.proofs.Trees.MappedJoins.{PreservesJoins, mapped_merge}
 use Rattle.xet_core_structures.proofs.Trees.MergeTrees.{one_layout, merge_of_written}
-use Rattle.xet_core_structures.proofs.Records.Zipped.{zipped_and}
+use Rattle.xet_shards.proofs.Read.Zipped.{zipped_and}
 
 -- an export of a shard without auxiliary rows is the export of the shard that has none
 exported_bytes-without_aux : (s : Shard) (options : LayoutOptions)

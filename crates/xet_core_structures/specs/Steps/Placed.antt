@@ -8,10 +8,10 @@ use Rattle.xet_base.specs.Source.{Source}
 use Rattle.xet_records.specs.declared.record_reader.FormatVersion.{FormatVersion}
 use Rattle.xet_records.specs.RecordKind.{RecordKind, in_version}
 use Rattle.xet_records.specs.Reading.{ReadsRowsAfter}
+use Rattle.xet_shards.specs.declared.shard_format.read.stored_section.PlacedRecord.{PlacedRecord}
 use Rattle.xet_shards.specs.Write.WithOptions.{Ascends}
 use Rattle.xet_shards.specs.Write.Section.{total_rows}
 use Rattle.xet_shards.specs.Read.SectionReading.{StreamsSection}
-use Rattle.xet_core_structures.specs.declared.set_operations.trees.placed.PlacedRecord.{PlacedRecord}
 use Rattle.xet_core_structures.specs.declared.set_operations.trees.placed.MergeStep.{MergeStep}
 use Rattle.xet_core_structures.specs.declared.set_operations.trees.placed.MergeStep.TheVariants.{End, Keep, Nothing}
 use Rattle.xet_core_structures.specs.Records.RecordPairs.{key_of_record, Combines}

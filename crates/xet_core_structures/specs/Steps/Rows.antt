@@ -2,8 +2,8 @@
 use Rattle.std.specs.Prelude.{◌≡◌, ℕ, ◌+◌, ◌≤◌, true, List, [], ◌∷◌, ◌++◌, Option, Some}
 use Rattle.xet_records.specs.declared.record_reader.FormatVersion.{FormatVersion}
 use Rattle.xet_records.specs.RecordKind.{RecordKind, in_version}
+use Rattle.xet_shards.specs.declared.shard_format.read.stored_section.PlacedRecord.{PlacedRecord}
 use Rattle.xet_core_structures.specs.declared.set_operations.ranges.HashRange.{HashRange}
-use Rattle.xet_core_structures.specs.declared.set_operations.trees.placed.PlacedRecord.{PlacedRecord}
 use Rattle.xet_core_structures.specs.Records.Ranges.{is_within}
 use Rattle.xet_core_structures.specs.Records.RecordPairs.{key_of_record}
 use Rattle.xet_core_structures.specs.Steps.MergeJoin.{Follows}

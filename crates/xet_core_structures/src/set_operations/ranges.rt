@@ -18,7 +18,7 @@ ghost use Rattle.xet_core_structures.specs.Trees.RangeTrees.{IsRangeOf, RangeWri
 use super::MergePlan;
 use super::trees::inputs::open_input;
 use super::trees::parts::{PlacedShard, TreePart, unite_parts};
-use super::trees::placed::{PlacedRecord, copy_of};
+use super::trees::placed::copy_of;
 use super::trees::versions::{fill_with_part_in, part_bytes_in};
 use bumpalo::Bump;
 use std::alloc::Global;
@@ -28,6 +28,7 @@ use xet_base::merklehash::MerkleHash;
 use xet_records::file_structs::MDBFileInfo;
 use xet_records::record_reader::{FormatVersion, SectionRecord};
 use xet_records::xorb_structs::MDBXorbInfo;
+use xet_shards::shard_writer::PlacedRecord;
 
 /// The hashes from `from` on and below `to`. There is none if `to` is not above `from`.
 #[derive(Clone, Copy, Debug, PartialEq, Eq)]

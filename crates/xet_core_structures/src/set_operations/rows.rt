@@ -15,7 +15,6 @@ ghost use Rattle.xet_shards.specs.Content.Shard.{Shard};
 use super::MergePlan;
 use super::ranges::HashRange;
 use super::trees::parts::{PlacedShard, TreePart, unite_parts};
-use super::trees::placed::bytes_from;
 use super::trees::rows::{RowSpan, place_rows};
 use super::trees::versions::fill_with_part_in;
 use bumpalo::Bump;
@@ -26,6 +25,7 @@ use xet_records::file_structs::MDBFileInfo;
 use xet_records::record_reader::FormatVersion;
 use xet_records::xorb_structs::MDBXorbInfo;
 use xet_shards::shard_format::MDBShardInfo;
+use xet_shards::shard_writer::bytes_from;
 
 /// A row of the file section and a row of the xorb section of a shard. The first row of a section
 /// is 0, and each has 48 bytes.

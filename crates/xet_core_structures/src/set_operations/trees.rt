@@ -11,9 +11,9 @@
 //!
 //! The bytes go to a slice: a new `Vec`, or the caller's own memory (`shard_union_tree_into`),
 //! which stays as it is if the call fails. So all that may fail comes before the first byte.
-//! `frame_of` makes the header, the tables and the footer, a `Frame`, for which `write_placed`
-//! collects the rows of the tables while it writes the sections to a sink; and `put_shard`, which
-//! has no error, copies the records to where they belong. `Puts` of `specs/Steps/Filling.antt` says
+//! `frame_of` makes the header, the tables and the footer, a `Frame`, for which `collect_records`
+//! collects the rows of the tables; and `put_shard`, which has no error, copies the records to where
+//! they belong. `Puts` of `specs/Steps/Filling.antt` says
 //! what was put where, and `proofs/Trees/Filling.antt` that parts which are put one after another
 //! are the whole.
 

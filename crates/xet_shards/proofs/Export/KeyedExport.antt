@@ -41,7 +41,8 @@ use Rattle.xet_shards.specs.Read.SectionReading.{IsSection, SectionNotStreamed}
 use Rattle.xet_shards.specs.Steps.SectionReading.{RecordFails}
 use Rattle.xet_shards.specs.Export.KeyedExport.{ExportsWith, ExportFails, ExportCase, OutcomeOfExport, CannotExport, ExpiresTooLate, BadSection, xorbs_after, keyed_xorb, keyed_xorbs}
 use Rattle.xet_shards.specs.Steps.KeyedExport.{ReadsThroughSection, ExportsSection, WritingFails, ExportsNoSection, HasExported, exported_file, exported_xorb}
-use Rattle.xet_shards.specs.Export.KeyedExport.ExportCase.{bad_files, bad_xorbs, not_written}
+use Rattle.xet_shards.specs.Export.KeyedExport.ExportCase.{no_sections, not_written}
+use Rattle.xet_shards.specs.Export.KeyedExport.SectionsCase.{bad_files, bad_xorbs}
 use Rattle.xet_shards.specs.Export.Rewriting.{HasSections}
 use Rattle.xet_shards.proofs.Ends.EndsUnique.{ends_of_layout}
 use Rattle.xet_shards.proofs.ShardInMemory.Files.{length-le-rows}
@@ -273,7 +274,7 @@ module _ {old s1 : Source} (h : MDBShardFileHeader) (taken : ReadsBytes old s1 (
   pub files_not_exported : (new : Source) (e : CoreError) → ExportsNoSection file_records version s1 new e → ExportFails old new e
   files_not_exported new e why =
       section_not_exported file_records version old s1 new 48 e at_files header_there
-      (λ bad. bad_files header_there (subst (λ bs. BadSection (file_records_in version) bs e) files_left bad)) why
+      (λ bad. no_sections (bad_files header_there (subst (λ bs. BadSection (file_records_in version) bs e) files_left bad))) why
 
   pub header_not_written : (e : CoreError) → IsWriteError e → ExportFails old s1 e
   header_not_written e cause = files_not_exported s1 e (inr (record { bytes = refl; seeks = refl; failures = refl; cause = cause }))
@@ -295,7 +296,7 @@ module _ {old s1 : Source} (h : MDBShardFileHeader) (taken : ReadsBytes old s1 (
     pub xorbs_not_exported : (new : Source) (e : CoreError) → ExportsNoSection xorb_records V3 s2 new e → ExportFails old new e
     xorbs_not_exported new e why =
         section_not_exported xorb_records V3 old s2 new (xorbs_after files) e at_xorbs header_there
-        (λ bad. bad_xorbs header_there files file_section (subst (λ bs. BadSection xorb_records bs e) xorbs_left bad)) why
+        (λ bad. no_sections (bad_xorbs header_there files file_section (subst (λ bs. BadSection xorb_records bs e) xorbs_left bad))) why
 
     -- after the xorbs
     module _ {s3 : Source} {xorbs : List MDBXorbInfo} (rest : ReadsThroughSection xorb_records s2 s3 xorbs) where

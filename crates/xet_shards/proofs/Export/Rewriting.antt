@@ -1,13 +1,9 @@
--- Shards that are written again: their sections are as they were read, and bytes have one such shard.
-use Rattle.std.proofs.Common.{◌≡◌, Ok, Err, ℕ, ◌+◌, ◌-◌, ◌<◌, ◌≤◌, Bool, true, false, List, [], ◌∷◌, ◌++◌, length, map, flat_map, drop, refl, sym, ap, ◌∙◌, subst, arith}
-use Rattle.std.specs.Prelude.{OnOk, IfOk, IfErr, MatchResult, nat_lt}
+-- Bytes have the sections of one shard, and are its layout if all parts are.
+use Rattle.std.proofs.Common.{◌≡◌, ℕ, ◌+◌, ◌-◌, ◌<◌, ◌≤◌, Bool, true, false, List, [], ◌∷◌, ◌++◌, length, flat_map, drop, refl, sym, ap, ◌∙◌, subst, arith}
+use Rattle.std.specs.Prelude.{nat_lt}
 use Rattle.std.specs.List.{slice_range}
-use Rattle.std.specs.declared.result.Result.{Result}
 use Rattle.std.proofs.lemmas.Bool.Decides.{nat_tests}
-use Rattle.std.proofs.lemmas.List.{map-id}
-use Rattle.std.proofs.lemmas.List.Concat.{flat_map_single}
 use Rattle.std.proofs.lemmas.List.Folds.{drop_split}
-use Rattle.xet_base.specs.KeyedHash.{no_key}
 use Rattle.xet_records.specs.declared.file_structs.MDBFileInfo.{MDBFileInfo}
 use Rattle.xet_records.specs.declared.xorb_structs.MDBXorbInfo.{MDBXorbInfo}
 use Rattle.xet_records.specs.FileRecord.{file_records, file_records_in}
@@ -17,8 +13,7 @@ use Rattle.xet_shards.specs.declared.shard_format.ends.footer.MDBShardFileFooter
 use Rattle.xet_shards.specs.declared.shard_format.ends.info.MDBShardInfo.{MDBShardInfo}
 use Rattle.xet_shards.specs.Ends.Ends.{HasHeaderAndFooter, FitsFooter}
 use Rattle.xet_shards.specs.Write.WithOptions.{FitsSection}
-use Rattle.xet_shards.specs.Export.KeyedExport.{keyed_xorb, xorbs_after}
-use Rattle.xet_shards.specs.Steps.KeyedExport.{exported_file, exported_xorb}
+use Rattle.xet_shards.specs.Export.KeyedExport.{xorbs_after}
 use Rattle.xet_shards.specs.Write.Layout.{LayoutOptions, if_included, footer_value, header_value, info_of, layout_of, shard_footer_bytes}
 use Rattle.xet_shards.specs.Export.Rewriting.{HasSections, options_of}
 use Rattle.xet_shards.specs.Write.Section.{section_bytes}
@@ -31,26 +26,6 @@ use Rattle.xet_shards.proofs.Ends.Loading.{header_of, one_version}
 use Rattle.xet_shards.proofs.Read.Readback.{layout_from_48, file_section_in, xorb_section_in}
 use Rattle.xet_shards.proofs.Write.Sections.{files_laws, fits_ever}
 use Rattle.xet_shards.proofs.Read.SectionUnique.{only_list}
-
--- with a table and all rows, files are as they were
-pub files_as_stored : (options : LayoutOptions) → options.file_table ≡ true → (files : List MDBFileInfo) → flat_map (exported_file true options) files ≡ files
-files_as_stored options table files =
-    ap (λ b. flat_map (exported_file true (record options { file_table = b })) files) table ∙ flat_map_single (λ (r : MDBFileInfo). r) files ∙ map-id files
-
--- without a key, xorbs are
-pub xorbs_as_stored : (options : LayoutOptions) → options.key ≡ no_key → (xorbs : List MDBXorbInfo) → flat_map (exported_xorb true options) xorbs ≡ xorbs
-xorbs_as_stored options none xorbs =
-    ap (λ k. flat_map (exported_xorb true (record options { key = k })) xorbs) none ∙ flat_map_single (keyed_xorb no_key) xorbs ∙ each xorbs
-  where
-    each : (xs : List MDBXorbInfo) → map (keyed_xorb no_key) xs ≡ xs
-    each [] = refl
-    each (x ∷ xs) = λ i. record x { chunks = map-id x.chunks i } ∷ each xs i
-
--- a result of two clauses on success and one on failure
-pub both_ways : {T E : Type 0} (r : Result T E) (P : Type 0) (Q Right : T → Type 0) (R Wrong : E → Type 0) → OnOk r P → IfOk r Q → IfErr r R
-    → ((v : T) → P → Q v → Right v) → ((e : E) → R e → Wrong e) → MatchResult r Right Wrong
-both_ways (Ok v) P Q Right R Wrong p q _ right wrong = right v p q
-both_ways (Err e) P Q Right R Wrong _ _ r right wrong = wrong e r
 
 -- bytes have the sections of one list each
 pub only_sections : (bytes : List ℕ) (fs gs : List MDBFileInfo) (xs ys : List MDBXorbInfo) → HasSections bytes fs xs → HasSections bytes gs ys → (fs ≡ gs) × (xs ≡ ys)

@@ -95,15 +95,19 @@ Exports options = ExportsWith true options
 abbrev pub BadSection : {H R : Type 0} → RecordKind H R → List ℕ → CoreError → Type 0
 BadSection K bytes e = SectionCase (IsRefusedSection K) (IsTruncatedSection K) bytes e
 
+-- why the header and the sections of a shard were not read, if the device did not fail
+pub data SectionsCase (bytes : List ℕ) (e : CoreError) : Type 0 where
+  bad_header : FormatCase HasUnsupportedHeader EndsInHeader bytes e → SectionsCase bytes e
+  bad_files : (header : HasHeader bytes)
+      → BadSection (file_records_in header.version) (drop 48 bytes) e → SectionsCase bytes e
+  bad_xorbs : (header : HasHeader bytes) → (files : List MDBFileInfo)
+      → IsSection (file_records_in header.version) (drop 48 bytes) files
+      → BadSection xorb_records (drop (xorbs_after files) bytes) e → SectionsCase bytes e
+
 -- why a shard was not exported, if the source's device did not fail: the header or a section was
 -- not read, or the writer failed or an allocation did
 pub data ExportCase (bytes : List ℕ) (e : CoreError) : Type 0 where
-  bad_header : FormatCase HasUnsupportedHeader EndsInHeader bytes e → ExportCase bytes e
-  bad_files : (header : HasHeader bytes)
-      → BadSection (file_records_in header.version) (drop 48 bytes) e → ExportCase bytes e
-  bad_xorbs : (header : HasHeader bytes) → (files : List MDBFileInfo)
-      → IsSection (file_records_in header.version) (drop 48 bytes) files
-      → BadSection xorb_records (drop (xorbs_after files) bytes) e → ExportCase bytes e
+  no_sections : SectionsCase bytes e → ExportCase bytes e
   not_written : HasHeader bytes → IsWriteError e → ExportCase bytes e
 
 -- a shard was not exported, without a seek; the position is unspecified

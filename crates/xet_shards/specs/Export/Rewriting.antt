@@ -1,7 +1,5 @@
--- A shard that is written again with layout options, of the records that are read.
-use Rattle.std.specs.Prelude.{◌≡◌, ℕ, List, drop, nat_lt, Option}
-use Rattle.std.specs.Io.KnownBytes.{Appends}
-use Rattle.xet_base.specs.Source.{Source, bytes_left}
+-- A shard that is written again with layout options, of its records as they are stored.
+use Rattle.std.specs.Prelude.{◌≡◌, ℕ, List, drop, nat_lt}
 use Rattle.xet_records.specs.declared.file_structs.MDBFileInfo.{MDBFileInfo}
 use Rattle.xet_records.specs.declared.xorb_structs.MDBXorbInfo.{MDBXorbInfo}
 use Rattle.xet_records.specs.FileRecord.{file_records_in}
@@ -21,14 +19,10 @@ pub record HasSections (bytes : List ℕ) (files : List MDBFileInfo) (xorbs : Li
   pub file_section : IsSection (file_records_in header.version) (drop 48 bytes) files
   pub xorb_section : IsSection xorb_records (drop (xorbs_after files) bytes) xorbs
 
--- the records from the source's position on were written with layout options, and this is the
--- footer
-pub record WritesAgain (options : LayoutOptions) (old : Source) (before after : Option (List ℕ))
-    (footer : MDBShardFileFooter) : Type 0 where
-  pub files : List MDBFileInfo
-  pub xorbs : List MDBXorbInfo
-  pub sections : HasSections (bytes_left old) files xorbs
-  pub written : Appends before after (layout_of files xorbs options)
+-- the bytes are the layout of files and xorbs with layout options, and this is its footer
+pub record IsWrittenAgain (files : List MDBFileInfo) (xorbs : List MDBXorbInfo)
+    (options : LayoutOptions) (bytes : List ℕ) (footer : MDBShardFileFooter) : Type 0 where
+  pub bytes_are : bytes ≡ layout_of files xorbs options
   pub footer_is : footer ≡ footer_value files xorbs options
 
 -- the layout options that a header and a footer name: a table is in if it has a row

@@ -20,9 +20,9 @@
 //! Header, sections and end are `layout_of` the records with these options (`whole_layout` in
 //! `proofs/Write/Written.antt`), and so `layout` where the options are plain. A writer that has no
 //! maps adds one record after another to `WrittenFiles` and `WrittenXorbs`, and then calls
-//! `write_end`: so do the keyed export and `MDBMinimalShard`, and union, difference and trees of
-//! unions of bytes, which call `WrittenSection::copy`: it writes the rows of a record as they are
-//! read, so that no record is held.
+//! `write_end`: so do the keyed export and `MDBMinimalShard`, and union and difference of bytes, which
+//! call `WrittenSection::copy`: it writes the rows of a record as they are read, so that no record
+//! is held. Of records that lie in memory, `collect_records` collects what the tables need.
 
 pub(super) mod file_writer;
 pub(super) mod record_table;

@@ -6,5 +6,5 @@ use Rattle.shard_bytes.proofs.check.first_out_of_order.Given as goal
 
 abbrev pub invariant-loop-index : goal.invariant-loop-index
 invariant-loop-index g l =
-    let hashes = map g.T.Hashed.hash_of l.records in
+    let hashes = map (λ p. g.R.SectionRecord.kind.hash_of p.header) l.records in
     (k : ℕ) (d : DataHash) → k + 1 < l.index → hash_cmp (slice_index_or hashes k d) (slice_index_or hashes (k + 1) d) ≡ Less

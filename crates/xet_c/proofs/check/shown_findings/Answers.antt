@@ -1,5 +1,5 @@
 use Rattle.std.proofs.Common.{◌≡◌, map, ap, ◌∙◌}
-use Rattle.shard_bytes.proofs.Checking.{IfOk-weaker}
+use Rattle.std.proofs.lemmas.Result.{IfOk-weaker}
 use Rattle.xet_c.specs.Checking.{c_finding, ShowsFindings}
 use Rattle.xet_c.proofs.check.shown_findings.Goals as goal
 

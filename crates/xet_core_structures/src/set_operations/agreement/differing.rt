@@ -12,10 +12,11 @@ use super::kinds::Agreement;
 use super::pairs::{are_copies, read_placed};
 use super::runs::{Place, run_end, sorted_places};
 use crate::set_operations::trees::inputs::OpenShard;
-use crate::set_operations::trees::placed::{PlacedRecord, copy_of};
+use crate::set_operations::trees::placed::copy_of;
 use std::alloc::Global;
 use xet_base::error::Result;
 use xet_base::merklehash::MerkleHash;
+use xet_shards::shard_writer::PlacedRecord;
 
 /// Two inputs that have records with one hash that do not agree.
 #[derive(Clone, Copy)]

@@ -5,19 +5,19 @@ ghost use Rattle.std.specs.Prelude.{◌≡◌, ◌↔◌, IsTrue, List};
 ghost use Rattle.xet_base.specs.declared.merklehash.DataHash.{DataHash};
 ghost use Rattle.xet_records.specs.Merging.{Agree};
 ghost use Rattle.xet_records.specs.Part.{rows_of};
+ghost use Rattle.xet_shards.specs.declared.shard_format.read.stored_section.PlacedRecord.{PlacedRecord};
 ghost use Rattle.xet_core_structures.specs.declared.set_operations.agreement.RecordHash.{RecordHash};
 ghost use Rattle.xet_core_structures.specs.declared.set_operations.agreement.RecordHash.TheVariants.{File, Xorb};
 ghost use Rattle.xet_core_structures.specs.declared.set_operations.trees.inputs.OpenShard.{OpenShard};
-ghost use Rattle.xet_core_structures.specs.declared.set_operations.trees.placed.PlacedRecord.{PlacedRecord};
 ghost use Rattle.xet_core_structures.specs.Steps.Agreement.{AreEqual, AgreeOn};
 
 use super::RecordHash;
 use crate::set_operations::trees::inputs::OpenShard;
-use crate::set_operations::trees::placed::PlacedRecord;
 use xet_base::merklehash::MerkleHash;
 use xet_records::file_structs::{FileDataSequenceHeader, MDBFileInfo, OptionalPart};
 use xet_records::record_reader::SectionRecord;
 use xet_records::xorb_structs::{MDBXorbInfo, XorbChunkSequenceHeader};
+use xet_shards::shard_writer::PlacedRecord;
 
 /// When two records with one hash agree.
 pub trait Agreement: SectionRecord {

@@ -7,13 +7,13 @@ ghost use Rattle.std.specs.Prelude.{◌≡◌, ◌↔◌, IsTrue};
 ghost use Rattle.xet_core_structures.specs.Steps.Agreement.{IsPlainFile, HasFewBytes, FindsMalformed};
 ghost use Rattle.xet_core_structures.specs.Steps.Placed.{Places};
 
-use crate::set_operations::trees::placed::PlacedRecord;
 use crate::well_formed::have_few_bytes;
 use xet_base::merklehash::MerkleHash;
 use xet_records::file_structs::{FileDataSequenceHeader, MDBFileInfo};
 use xet_records::record_reader::SectionRecord;
 use xet_records::rows::ROW_SIZE;
 use xet_records::xorb_structs::{MDBXorbInfo, XorbChunkSequenceHeader};
+use xet_shards::shard_writer::PlacedRecord;
 
 /// The rule by which a shard may have a record that can be read.
 pub trait RecordRule: SectionRecord {

@@ -5,13 +5,13 @@ ghost use Rattle.xet_base.specs.declared.error.CoreError.TheVariants.{OutOfMemor
 ghost use Rattle.xet_core_structures.specs.Steps.Placed.{Places};
 
 use super::kinds::Agreement;
-use crate::set_operations::trees::placed::PlacedRecord;
 use std::alloc::Global;
 use xet_base::error::{CoreError, Result};
 use xet_base::input::OfSource;
 use xet_base::source::MemorySource;
 use xet_records::record_reader::SectionRecord;
 use xet_records::rows::ROW_SIZE;
+use xet_shards::shard_writer::PlacedRecord;
 
 /// Whether two records agree. Copies are not read.
 pub fn agree_in_place<R: Agreement + Drop>(

@@ -8,11 +8,11 @@ ghost use Rattle.xet_core_structures.specs.Steps.Differing.{place_cmp, AddsPlace
 
 use super::kinds::Agreement;
 use crate::set_operations::trees::inputs::OpenShard;
-use crate::set_operations::trees::placed::PlacedRecord;
 use std::alloc::Global;
 use xet_base::error::Result;
 use xet_base::merklehash::MerkleHash;
 use xet_records::record_reader::SectionRecord;
+use xet_shards::shard_writer::PlacedRecord;
 
 /// Where a record is: the number of the input that has it, and its index among the input's.
 #[derive(Clone, Copy, Debug, PartialEq, Eq, PartialOrd, Ord)]

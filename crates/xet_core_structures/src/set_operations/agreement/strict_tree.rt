@@ -12,12 +12,13 @@ use super::pairs::agree_in_place;
 use crate::set_operations::MergePlan;
 use crate::set_operations::trees::inputs::OpenShard;
 use crate::set_operations::trees::parts::{TreePart, list_both, open_leaf, unite_lists};
-use crate::set_operations::trees::placed::{PlacedRecord, PlacedUnion};
+use crate::set_operations::trees::placed::PlacedUnion;
 use crate::set_operations::two_shards::record_operation::OfUnion;
 use bumpalo::Bump;
 use std::alloc::Global;
 use std::marker::PhantomData;
 use xet_base::error::Result;
+use xet_shards::shard_writer::PlacedRecord;
 
 /// Marks what a union makes of records that agree; of others it makes nothing.
 pub struct OfAgreeing<U> {

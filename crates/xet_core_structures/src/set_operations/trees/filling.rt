@@ -15,10 +15,8 @@ ghost use Rattle.xet_core_structures.specs.Steps.Parts.{MayBeWritten};
 ghost use Rattle.xet_core_structures.specs.Steps.Placed.{Places, PlacesAll};
 
 use super::parts::PlacedShard;
-use super::placed::{PlacedRecord, write_placed};
 use crate::set_operations::two_shards::results::{write_header, write_tables};
 use std::alloc::Global;
-use std::io::{self, Sink};
 use xet_base::error::{CoreError, Result};
 use xet_base::fields::{put, put_u64};
 use xet_records::file_structs::{FileDataSequenceHeader, MDBFileInfo};
@@ -26,8 +24,9 @@ use xet_records::record_reader::SectionRecord;
 use xet_records::row_copier::{CopyFailure, CopyResult};
 use xet_records::rows::{ROW_SIZE, Row};
 use xet_records::xorb_structs::{MDBXorbInfo, XorbChunkSequenceHeader};
-use xet_shards::shard_format::{CHUNK_ROW_SIZE, FOOTER_SIZE};
-use xet_shards::shard_writer::{LayoutOptions, WrittenFiles, WrittenXorbs};
+use xet_shards::shard_writer::{
+    LayoutOptions, PlacedRecord, WrittenFiles, WrittenXorbs, collect_records, end_size,
+};
 
 /// What stands before the sections of a shard and after them, and the size of the whole.
 #[derive(Drop)]
@@ -37,8 +36,7 @@ pub struct Frame {
     pub size: usize,
 }
 
-/// Makes the frame of a shard under its key. The records are there to be read, and writing to a
-/// vector fails only if it is out of memory.
+/// Makes the frame of a shard under its key. Writing to a vector fails only if it is out of memory.
 pub fn frame_of(alloc: Global, shard: &PlacedShard<'_>) -> Result<Frame>
     requires { (records : Records) × MayBeWritten shard.now records }
     ensures { (records : Records) → MayBeWritten shard.now records → MatchResult result
@@ -50,7 +48,7 @@ pub fn frame_of(alloc: Global, shard: &PlacedShard<'_>) -> Result<Frame>
     }
 }
 
-// The frame, for which the rows of the lookup tables are collected from the sections.
+// The frame, for which the rows of the lookup tables are collected from the records.
 fn collected_frame(alloc: Global, shard: &PlacedShard<'_>) -> CopyResult<Frame>
     requires { (records : Records) × MayBeWritten shard.now records }
     ensures { IfOk result (λ frame. (records : Records) → MayBeWritten shard.now records
@@ -58,16 +56,15 @@ fn collected_frame(alloc: Global, shard: &PlacedShard<'_>) -> CopyResult<Frame>
 {
     let mut header = with_room(alloc, ROW_SIZE)?;
     write_header(&mut header)?;
-    let mut nowhere = io::sink();
-    let files = write_placed::<WrittenFiles, Sink>(alloc, shard.files.as_slice(), &mut nowhere)?;
-    let xorbs = write_placed::<WrittenXorbs, Sink>(alloc, shard.xorbs.as_slice(), &mut nowhere)?;
+    let files = collect_records::<WrittenFiles>(alloc, shard.files.as_slice())?;
+    let xorbs = collect_records::<WrittenXorbs>(alloc, shard.xorbs.as_slice())?;
     // The header has the size of a row, and each section ends in a bookend.
     let rows = files.table.rows as usize + xorbs.table.rows as usize + 3;
     let options = LayoutOptions {
         key: shard.key,
         ..LayoutOptions::plain(None)
     };
-    let mut tables = with_room(alloc, size_after_sections(&files, &xorbs))?;
+    let mut tables = with_room(alloc, end_size(&files, &xorbs))?;
     write_tables(&mut tables, &files, xorbs, &options)?;
     let size = ROW_SIZE * rows + tables.len();
     Ok(Frame {
@@ -85,18 +82,6 @@ fn with_room(alloc: Global, size: usize) -> CopyResult<Vec<u8>>
         Ok(bytes) => Ok(bytes),
         Err(error) => Err(CopyFailure::Output(CoreError::from(error))),
     }
-}
-
-// The size of the lookup tables and the footer of a shard with these sections.
-fn size_after_sections(files: &WrittenFiles, xorbs: &WrittenXorbs) -> usize {
-    let chunk_table = CHUNK_ROW_SIZE.saturating_mul(xorbs.chunk_rows.len());
-    let tables = files
-        .table
-        .bytes
-        .len()
-        .saturating_add(xorbs.table.bytes.len())
-        .saturating_add(chunk_table);
-    tables.saturating_add(FOOTER_SIZE as usize)
 }
 
 /// Writes a shard with its frame to the front of a slice that has room for it.

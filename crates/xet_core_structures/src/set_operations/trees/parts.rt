@@ -17,7 +17,7 @@ ghost use Rattle.xet_core_structures.specs.Steps.Parts.{PlacesRecords, MayBeUnit
 
 use super::filling::{frame_of, put_shard};
 use super::inputs::OpenShard;
-use super::placed::{PlacedRecord, PlacedUnion, place_records, unite_placed};
+use super::placed::{PlacedUnion, place_records, unite_placed};
 use crate::set_operations::MergePlan;
 use crate::set_operations::two_shards::record_operation::OfUnion;
 use crate::set_operations::two_shards::results::seek;
@@ -30,6 +30,7 @@ use xet_records::file_structs::{FileDataSequenceHeader, MDBFileInfo};
 use xet_records::record_reader::FormatVersion;
 use xet_records::xorb_structs::{MDBXorbInfo, XorbChunkSequenceHeader};
 use xet_shards::shard_format::MDBShardInfo;
+use xet_shards::shard_writer::PlacedRecord;
 
 /// The records of a shard in memory, and the key of its chunk hashes.
 #[derive(Drop)]

@@ -1,13 +1,12 @@
 //! Placed records, which stay in the bytes of their input: reading a section as a list of them,
-//! uniting two lists, and writing one.
+//! and uniting two lists.
 
-ghost use Rattle.std.specs.Prelude.{◌≡◌, ◌⊎◌, ◌+◌, ◌<◌, ◌≤◌, ℕ, List, drop, Option, None, Some, MatchOption, MatchResult, IfOk};
-ghost use Rattle.std.specs.Io.KnownBytes.{Appends};
+ghost use Rattle.std.specs.Prelude.{◌≡◌, ◌⊎◌, ◌+◌, ◌<◌, ◌≤◌, ℕ, List, Option, None, Some, MatchOption, MatchResult};
 ghost use Rattle.xet_base.specs.declared.error.CoreError.TheVariants.{OutOfMemory};
 ghost use Rattle.xet_base.specs.Errors.{IsInvalidShard};
 ghost use Rattle.xet_records.specs.FileRecord.{file_records, file_rows_bytes};
 ghost use Rattle.xet_records.specs.Merging.{mixed_header};
-ghost use Rattle.xet_shards.specs.Write.Section.{total_rows, section_bytes};
+ghost use Rattle.xet_shards.specs.Write.Section.{total_rows};
 ghost use Rattle.xet_core_structures.specs.Steps.MergeJoin.{AscendingNotStreamed};
 ghost use Rattle.xet_core_structures.specs.Records.RecordPairs.{Combines};
 ghost use Rattle.xet_core_structures.specs.Records.ByteUnion.{mixed_file, IsEitherFile, IsEitherXorb};
@@ -17,27 +16,18 @@ ghost use Rattle.xet_records.specs.Limits.{MAX_ROWS};
 
 use crate::set_operations::two_shards::mix::mix_rows;
 use crate::set_operations::two_shards::record_operation::OfUnion;
-use crate::set_operations::two_shards::sections::{next_header, write_bookend};
+use crate::set_operations::two_shards::sections::next_header;
 use bumpalo::Bump;
 use std::alloc::Global;
 use std::cmp::Ordering;
-use std::io::Write;
 use xet_base::error::{CoreError, Result};
 use xet_base::input::OfSource;
 use xet_base::source::{MemorySource, ShardSource};
 use xet_records::file_structs::{FileDataSequenceHeader, MDBFileInfo, SupersetResult};
 use xet_records::record_reader::{FormatVersion, SectionRecord};
-use xet_records::row_copier::CopyResult;
 use xet_records::rows::ROW_LIMIT;
 use xet_records::xorb_structs::{MDBXorbInfo, XorbChunkSequenceHeader};
-use xet_shards::shard_writer::WrittenSection;
-
-/// A record of a section in memory: its header, and the bytes from the rows after it on.
-#[derive(Clone, Copy)]
-pub struct PlacedRecord<'a, H> {
-    pub header: H,
-    pub rows: &'a [u8],
-}
+use xet_shards::shard_writer::{PlacedRecord, bytes_from};
 
 /// Reads the section from the position of a source of these bytes on, whose records stay where they
 /// are.
@@ -67,16 +57,6 @@ pub fn place_records<'a, R: SectionRecord, S: ShardSource>(
         next = next_header::<R, S>(alloc, source, version, &mut rows_left, Some(header))?;
     }
     Ok(placed)
-}
-
-/// The bytes from an offset on; none if it is past the end.
-pub fn bytes_from(bytes: &[u8], offset: u64) -> &[u8]
-    ensures { result.now ≡ drop offset bytes.now }
-{
-    if offset >= bytes.len() as u64 {
-        return &bytes[bytes.len()..];
-    }
-    &bytes[offset as usize..]
 }
 
 /// A union of lists of records.
@@ -314,26 +294,4 @@ fn if_rows_fit<'a, H: Copy>(
         return Err(CoreError::InvalidShard(String::new(alloc)));
     }
     Ok(made)
-}
-
-/// Writes a section of the records of a list.
-pub fn write_placed<Sec: WrittenSection + Drop, W: Write>(
-    alloc: Global,
-    placed: &[PlacedRecord<'_, <Sec::Record as SectionRecord>::Header>],
-    out: &mut W,
-) -> CopyResult<Sec>
-    requires { (rs : List Sec.Record) × PlacesAll Sec.Record.kind placed.now rs
-        × (total_rows Sec.Record.kind rs ≤ MAX_ROWS) }
-    ensures { IfOk result (λ written. (rs : List Sec.Record)
-        → PlacesAll Sec.Record.kind placed.now rs → Sec.has_written written rs
-        × Appends (W.contents out.old) (W.contents out.new) (section_bytes Sec.Record.kind rs)) }
-{
-    Sec::Record::laws();
-    let mut written = Sec::new(alloc);
-    for record in placed {
-        let mut rows = MemorySource::new(record.rows);
-        written.copy::<OfSource, MemorySource<'_>, W>(&mut rows, out, record.header)?;
-    }
-    write_bookend::<Sec, W>(out)?;
-    Ok(written)
 }

@@ -9,7 +9,6 @@ ghost use Rattle.xet_core_structures.specs.Trees.RowTrees.{HasInRows};
 ghost use Rattle.xet_core_structures.specs.Steps.Placed.{PlacesAll};
 ghost use Rattle.xet_core_structures.specs.Steps.Rows.{PlacesNext, NextIs, RowsFollow};
 
-use super::placed::{PlacedRecord, bytes_from};
 use crate::set_operations::ranges::HashRange;
 use crate::set_operations::two_shards::sections::next_header;
 use std::alloc::Global;
@@ -18,6 +17,7 @@ use xet_base::input::OfSource;
 use xet_base::source::MemorySource;
 use xet_records::record_reader::{FormatVersion, SectionRecord};
 use xet_records::rows::{ROW_SIZE, Row};
+use xet_shards::shard_writer::{PlacedRecord, bytes_from};
 
 /// Rows of a section, counted from its start: from `first` on, and before `end`.
 #[derive(Clone, Copy)]

@@ -3,21 +3,18 @@
 //! gets the other number.
 
 ghost use Rattle.std.specs.Prelude.{◌≡◌, ◌≤◌, ℕ, true, List, length, MatchResult};
-ghost use Rattle.std.specs.List.{list_any};
 ghost use Rattle.xet_base.specs.declared.error.CoreError.TheVariants.{InvalidArguments};
-ghost use Rattle.xet_records.specs.FileRecord.{has_aux_ext};
 ghost use Rattle.xet_core_structures.specs.Trees.Filling.{FillsWith};
 ghost use Rattle.xet_core_structures.specs.Steps.InVersions.{AreNumbered, IsPartIn, IsTooNew, IsNotWritten, GetsNumber};
 ghost use Rattle.xet_core_structures.specs.Steps.Parts.{IsPart};
 
 use super::parts::{TreePart, fill_with_part, part_bytes};
-use super::placed::PlacedRecord;
 use std::alloc::Global;
 use xet_base::error::{CoreError, Result};
 use xet_base::fields::put_u64;
-use xet_records::file_structs::FileDataSequenceHeader;
 use xet_records::record_reader::FormatVersion;
 use xet_shards::shard_format::TAG_SIZE;
+use xet_shards::shard_writer::have_aux_rows;
 
 // Where the number of the version is in a header: after the tag.
 const VERSION_OFFSET: usize = TAG_SIZE;
@@ -73,13 +70,6 @@ fn gets_number_2(part: &TreePart<'_>, version: FormatVersion) -> Result<bool>
         }
         _ => Ok(false),
     }
-}
-
-// Whether a file has an auxiliary row.
-fn have_aux_rows(files: &[PlacedRecord<'_, FileDataSequenceHeader>]) -> bool
-    ensures { result ≡ list_any (λ p. has_aux_ext p.header.file_flags) files.now }
-{
-    files.iter().any(|file| file.header.contains_aux_ext())
 }
 
 /// Puts the number of version 2 into the header at the front of bytes, if it is wanted.

@@ -239,7 +239,7 @@ fn export<S: ShardSource, W: Write>(
 }
 
 // A record as an export reads it from a source, and writes it with layout options.
-pub(in crate::shard_format) trait ExportedRecord {
+trait ExportedRecord {
     type Section: WrittenSection + Drop;
 
     // the stored record that was read
@@ -391,7 +391,7 @@ impl ExportedRecord for MDBXorbInfo {
 
 // Reads a section, and writes what the options have of each record as it is read.
 #[tactic(auto, unfolding(crate::specs::Write::Section::section_bytes))]
-pub(in crate::shard_format) fn export_section<E: ExportedRecord + Drop, S: ShardSource, W: Write>(
+fn export_section<E: ExportedRecord + Drop, S: ShardSource, W: Write>(
     alloc: Global,
     source: &mut S,
     version: FormatVersion,

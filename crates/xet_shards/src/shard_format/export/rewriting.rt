@@ -1,23 +1,30 @@
 //! Writing a shard again with layout options.
 
-ghost use Rattle.std.specs.Prelude.{◌≡◌, MatchResult};
-ghost use Rattle.xet_shards.specs.Export.KeyedExport.{ExportFails};
-ghost use Rattle.xet_shards.specs.Export.Rewriting.{WritesAgain, options_of};
+ghost use Rattle.std.specs.Prelude.{◌≡◌, List, flat_map, MatchResult, OnOk, IfOk};
+ghost use Rattle.std.specs.Io.KnownBytes.{Appends};
+ghost use Rattle.xet_base.specs.declared.error.CoreError.{CoreError};
+ghost use Rattle.xet_records.specs.declared.file_structs.MDBFileInfo.{MDBFileInfo};
+ghost use Rattle.xet_records.specs.declared.xorb_structs.MDBXorbInfo.{MDBXorbInfo};
+ghost use Rattle.xet_shards.specs.Export.Rewriting.{IsWrittenAgain, options_of};
+ghost use Rattle.xet_shards.specs.Read.StoredSection.{StoresShard};
+ghost use Rattle.xet_shards.specs.Write.Layout.{footer_value, layout_of};
+ghost use Rattle.xet_shards.specs.Write.Section.{section_bytes};
+ghost use Rattle.xet_shards.specs.Write.Written.{HasWritten, HasWrittenXorbs};
 
-use super::keyed_export::export_section;
+use crate::shard_format::EMPTY_SIZE;
 use crate::shard_format::ends::footer::MDBShardFileFooter;
 use crate::shard_format::ends::header::MDBShardFileHeader;
-use crate::shard_format::ends::info::{MDBShardInfo, read_header};
+use crate::shard_format::ends::info::MDBShardInfo;
 use crate::shard_format::ends::options::LayoutOptions;
-use crate::shard_format::write::writer::write_end;
+use crate::shard_format::read::stored_section::StoredShard;
+use crate::shard_format::write::writer::{end_size, write_end};
+use crate::shard_format::write::written::{
+    WrittenFiles, WrittenSection, WrittenXorbs, collect_records,
+};
 use std::alloc::Global;
 use std::io::Write;
-use xet_base::error::Result;
-use xet_base::merklehash::HMACKey;
-use xet_base::source::ShardSource;
-use xet_records::file_structs::MDBFileInfoView;
-use xet_records::record_reader::FormatVersion;
-use xet_records::xorb_structs::MDBXorbInfo;
+use xet_base::error::{CoreError, Result};
+use xet_base::serialization_utils::write_bytes;
 
 impl LayoutOptions {
     /// The layout options of a shard with this header and footer. A table is in if the footer says
@@ -38,38 +45,67 @@ impl LayoutOptions {
     }
 }
 
-/// Reads a shard's header and sections from the source's position on, writes the shard of these
-/// records with layout options, and returns its footer. All records are written as they are stored,
-/// also files whose table the options leave out, and chunk hashes that the options say are keyed.
-///
-/// `ShardVersion` if the source's header is unsupported, `UnexpectedEof` if the source ends before
-/// both sections do, `InvalidShard` if its version does not have the header of a file or the rows
-/// of a section pass 4294967295. May fail with `OutOfMemory`. Any other error is the source's or
-/// the writer's.
-pub fn write_again<S: ShardSource, W: Write>(
+/// The bytes of the shard of these records with layout options, and its footer. All records are
+/// written as they are stored, also files whose table the options leave out, and chunk hashes that
+/// the options say are keyed. `OutOfMemory` if an allocation fails.
+pub fn write_again(
     alloc: Global,
-    source: &mut S,
+    shard: &StoredShard<'_>,
+    options: &LayoutOptions,
+) -> Result<(Vec<u8>, MDBShardFileFooter)>
+    requires { (files : List MDBFileInfo) × (xorbs : List MDBXorbInfo)
+        × StoresShard shard.now files xorbs }
+    ensures { MatchResult result
+        (λ written. (files : List MDBFileInfo) → (xorbs : List MDBXorbInfo)
+        → StoresShard shard.now files xorbs
+        → IsWrittenAgain files xorbs options.now written.0.items written.1)
+        (λ e. e ≡ CoreError.OutOfMemory) }
+{
+    let files = collect_records::<WrittenFiles>(alloc, shard.files.records.as_slice())?;
+    let xorbs = collect_records::<WrittenXorbs>(alloc, shard.xorbs.records.as_slice())?;
+    let sections = shard
+        .files
+        .bytes
+        .len()
+        .saturating_add(shard.xorbs.bytes.len());
+    let rest = end_size(&files, &xorbs).saturating_add(EMPTY_SIZE as usize);
+    let mut bytes = Vec::with_capacity(alloc, sections.saturating_add(rest))?;
+    match write_parts(&mut bytes, shard, &files, xorbs, options) {
+        Ok(footer) => Ok((bytes, footer)),
+        // Writing to a vector fails only if it is out of memory.
+        Err(_) => Err(CoreError::OutOfMemory),
+    }
+}
+
+// Writes header, sections, tables and footer, of sections of which this was collected.
+fn write_parts<W: Write>(
     writer: &mut W,
+    shard: &StoredShard<'_>,
+    files: &WrittenFiles,
+    xorbs: WrittenXorbs,
     options: &LayoutOptions,
 ) -> Result<MDBShardFileFooter>
-    ensures { MatchResult result
-        (WritesAgain options.now (S.meaning source.old) (W.contents writer.old)
-        (W.contents writer.new))
-        (ExportFails (S.meaning source.old) (S.meaning source.new)) }
+    ensures bytes { OnOk result ((rs : List MDBFileInfo) → (xs : List MDBXorbInfo)
+        → StoresShard shard.now rs xs → HasWritten files.now rs → HasWrittenXorbs xorbs xs
+        → Appends (W.contents writer.old) (W.contents writer.new) (layout_of rs xs options.now)) }
+    ensures footer { IfOk result (λ footer. (rs : List MDBFileInfo) → (xs : List MDBXorbInfo)
+        → StoresShard shard.now rs xs → HasWritten files.now rs → HasWrittenXorbs xorbs xs
+        → footer ≡ footer_value rs xs options.now) }
 {
-    let as_stored = LayoutOptions {
-        file_table: true,
-        key: HMACKey::default(),
-        ..*options
-    };
-    let version = read_header(alloc, source)?.format_version();
     MDBShardFileHeader::of_version(options.version).serialize(writer)?;
-    let files = export_section::<MDBFileInfoView, S, W>(
-        alloc, source, version, writer, true, &as_stored,
-    )?;
-    let newest = FormatVersion::V3;
-    let xorbs = export_section::<MDBXorbInfo, S, W>(
-        alloc, source, newest, writer, true, &as_stored,
-    )?;
-    write_end(writer, &files, xorbs, options)
+    write_section::<WrittenFiles, W>(writer, shard.files.bytes)?;
+    write_section::<WrittenXorbs, W>(writer, shard.xorbs.bytes)?;
+    write_end(writer, files, xorbs, options)
+}
+
+// Writes the bytes of the records of a section, and the bookend.
+#[tactic(auto, unfolding(crate::specs::Write::Section::section_bytes))]
+fn write_section<Sec: WrittenSection, W: Write>(writer: &mut W, records: &[u8]) -> Result<()>
+    ensures { OnOk result ((rs : List Sec.Record)
+        → records.now ≡ flat_map Sec.Record.kind.record_bytes rs
+        → Appends (W.contents writer.old) (W.contents writer.new)
+        (section_bytes Sec.Record.kind rs)) }
+{
+    write_bytes(writer, records)?;
+    Sec::write_bookend(writer)
 }

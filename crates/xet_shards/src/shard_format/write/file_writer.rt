@@ -1,20 +1,24 @@
 //! Writing the file section, and collecting the table by which its records are found.
 
-ghost use Rattle.std.specs.Prelude.{◌≡◌, ◌+◌, ◌*◌, ◌≤◌, ◌++◌, [], ◌∷◌, List, OnOk, IfErr};
+ghost use Rattle.std.specs.Prelude.{◌≡◌, ◌+◌, ◌*◌, ◌≤◌, ◌++◌, [], ◌∷◌, List, length, sum_by, OnOk, IfErr};
 ghost use Rattle.std.specs.Io.KnownBytes.{Appends};
 ghost use Rattle.xet_base.specs.Errors.{IsWriteError};
 ghost use Rattle.xet_records.specs.declared.file_structs.MDBFileInfo.{MDBFileInfo};
 ghost use Rattle.xet_records.specs.FileRecord.{file_record_bytes, row_count, FitsItsHeader};
+ghost use Rattle.xet_records.specs.declared.file_structs.rows.FileDataSequenceEntry.{FileDataSequenceEntry};
+ghost use Rattle.xet_shards.specs.Steps.Collecting.{BeginsWithSegments};
 ghost use Rattle.xet_shards.specs.Write.Written.{IsFileOf, HasWritten};
 ghost use Rattle.xet_records.specs.Limits.{MAX_ROWS};
 
 use super::written::{RecordTable, WrittenFiles, WrittenSection};
+use crate::shard_format::read::stored_section::PlacedRecord;
 use std::alloc::Global;
 use std::io::Write;
 use xet_base::error::{CoreError, Result};
 use xet_base::input::ByteInput;
 use xet_records::file_copier::copy_file_rows;
-use xet_records::file_structs::{FileDataSequenceHeader, MDBFileInfo};
+use xet_records::file_structs::{FileDataSequenceEntry, FileDataSequenceHeader, MDBFileInfo};
+use xet_records::record_bytes::row;
 use xet_records::row_copier::{CopyFailure, CopyResult, write_copied_row};
 
 impl WrittenFiles {
@@ -82,8 +86,30 @@ impl WrittenSection for WrittenFiles {
         }
     }
 
+    fn collect(&mut self, placed: &PlacedRecord<'_, FileDataSequenceHeader>) -> Result<()> {
+        let header = &placed.header;
+        let size = size_of_segments(placed.rows, header.num_entries);
+        let rows = 1 + header.rows_after();
+        self.add(header.file_hash.word0, rows, size)
+    }
+
     fn write_bookend<W: Write>(writer: &mut W) -> Result<()> {
         FileDataSequenceHeader::bookend().serialize(writer)?;
         Ok(())
     }
+}
+
+// The bytes of the segments in the first rows of these.
+fn size_of_segments(rows: &[u8], count: u32) -> u64
+    requires { 48 * count ≤ length rows.now }
+    ensures size { (segments : List FileDataSequenceEntry) → BeginsWithSegments rows.now count segments
+        → result ≡ sum_by (λ s. s.unpacked_segment_bytes) segments }
+    ensures bound { result ≤ 4294967295 * count }
+{
+    let mut size = 0;
+    for index in 0..count {
+        let segment: FileDataSequenceEntry = row(rows, index as usize);
+        size += u64::from(segment.unpacked_segment_bytes);
+    }
+    size
 }

@@ -1,6 +1,6 @@
 //! Writing a shard with any layout options: sections, lookup tables and footer.
 
-ghost use Rattle.std.specs.Prelude.{◌≡◌, ◌≤◌, length, true, None, List, All, OnOk, IfOk, IfErr, map, flat_map, if◌then◌else◌};
+ghost use Rattle.std.specs.Prelude.{◌≡◌, ◌+◌, ◌*◌, ◌≤◌, length, min, true, None, List, All, OnOk, IfOk, IfErr, map, flat_map, if◌then◌else◌};
 ghost use Rattle.std.specs.Io.KnownBytes.{Appends};
 ghost use Rattle.std.specs.BTreeMap.{values};
 ghost use Rattle.xet_base.specs.Errors.{IsWriteError};
@@ -21,7 +21,7 @@ use super::xorb_writer::ChunkTableRow;
 use crate::shard_format::ends::footer::MDBShardFileFooter;
 use crate::shard_format::ends::info::MDBShardInfo;
 use crate::shard_format::ends::options::LayoutOptions;
-use crate::shard_format::{CHUNK_ROW_SIZE, HEADER_SIZE, START_ROW_SIZE};
+use crate::shard_format::{CHUNK_ROW_SIZE, FOOTER_SIZE, HEADER_SIZE, START_ROW_SIZE};
 use crate::shard_in_memory::MDBInMemoryShard;
 use std::alloc::Global;
 use std::collections::BTreeMap;
@@ -139,6 +139,24 @@ pub fn write_end<W: Write>(
     write_chunk_table(writer, options.chunk_table, xorbs.chunk_rows)?;
     footer.serialize(writer)?;
     Ok(footer)
+}
+
+/// The size of the tables and the footer of a shard with these sections, in bytes, or `usize::MAX`
+/// if it passes that.
+pub fn end_size(files: &WrittenFiles, xorbs: &WrittenXorbs) -> usize
+    ensures { result ≡ min 18446744073709551615
+        (length files.now.table.bytes.items + length xorbs.now.table.bytes.items
+        + 16 * length xorbs.now.chunk_rows.items + 200) }
+{
+    let chunk_table = CHUNK_ROW_SIZE.saturating_mul(xorbs.chunk_rows.len());
+    let tables = files
+        .table
+        .bytes
+        .len()
+        .saturating_add(xorbs.table.bytes.len());
+    tables
+        .saturating_add(chunk_table)
+        .saturating_add(FOOTER_SIZE as usize)
 }
 
 // Writes the table of a section, if it is in.

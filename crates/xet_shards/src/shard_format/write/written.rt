@@ -1,15 +1,19 @@
 //! What is collected while the sections of a shard are written.
 
 ghost use Rattle.std.specs.Prelude.{◌≡◌, ◌≢◌, ℕ, ◌+◌, ◌*◌, ◌≤◌, List, [], ◌∷◌, ◌++◌, OnOk, IfErr, MatchResult, IsTrue, ◌↔◌};
+ghost use Rattle.std.specs.List.{AllZip};
 ghost use Rattle.std.specs.Io.KnownBytes.{Appends};
+ghost use Rattle.xet_base.specs.declared.error.CoreError.{CoreError};
 ghost use Rattle.xet_base.specs.Errors.{IsWriteError};
 ghost use Rattle.xet_base.specs.Hash.{all_ones};
 ghost use Rattle.xet_records.specs.Copying.{CopyFails};
 ghost use Rattle.xet_shards.specs.Write.Section.{total_rows};
-ghost use Rattle.xet_shards.specs.Write.Copying.{CopiesRecord};
+ghost use Rattle.xet_shards.specs.Read.StoredSection.{StoresRecord};
+ghost use Rattle.xet_shards.specs.Write.Copying.{CopiesRecord, CollectsRecord, CollectsAll};
 ghost use Rattle.xet_records.specs.Limits.{MAX_ROWS};
 
 use super::xorb_writer::ChunkTableRow;
+use crate::shard_format::read::stored_section::PlacedRecord;
 use std::alloc::Global;
 use std::io::Write;
 use xet_base::error::Result;
@@ -70,6 +74,19 @@ pub trait WrittenSection {
             (CopyFails I.reads I.fails input.old input.new
             (48 * Self.Record.kind.rows_after header)) };
 
+    /// Adds a record that is written elsewhere. `OutOfMemory` if an allocation fails.
+    fn collect(
+        &mut self,
+        placed: &PlacedRecord<'_, <Self::Record as SectionRecord>::Header>,
+    ) -> Result<()>
+        requires there { (r : Self.Record) × StoresRecord Self.Record.kind placed.now r }
+        requires rows { rows self.old + (1 + Self.Record.kind.rows_after placed.now.header)
+            ≤ MAX_ROWS }
+        ensures collected { OnOk result
+            (CollectsRecord Self.Record.kind placed.now (has_written self.old)
+            (has_written self.new)) }
+        ensures causes { IfErr result (λ e. e ≡ CoreError.OutOfMemory) };
+
     /// Writes the bookend, which ends the section. The error is the writer's.
     fn write_bookend<W: Write>(writer: &mut W) -> Result<()>
         ensures bytes { OnOk result
@@ -79,6 +96,26 @@ pub trait WrittenSection {
 
     ghost counts_rows: { (written : Self) (records : List Self.Record)
         → has_written written records → rows written ≡ total_rows Self.Record.kind records };
+}
+
+/// Collects what the tables of records need that are written elsewhere. `OutOfMemory` if an
+/// allocation fails.
+pub fn collect_records<Sec: WrittenSection + Drop>(
+    alloc: Global,
+    placed: &[PlacedRecord<'_, <Sec::Record as SectionRecord>::Header>],
+) -> Result<Sec>
+    requires { (rs : List Sec.Record) × AllZip (StoresRecord Sec.Record.kind) placed.now rs
+        × (total_rows Sec.Record.kind rs ≤ MAX_ROWS) }
+    ensures { MatchResult result
+        (λ written. CollectsAll Sec.Record.kind placed.now (Sec.has_written written))
+        (λ e. e ≡ CoreError.OutOfMemory) }
+{
+    Sec::Record::laws();
+    let mut written = Sec::new(alloc);
+    for record in placed {
+        written.collect(record)?;
+    }
+    Ok(written)
 }
 
 /// The records written so far: how many there are, their rows, and the bytes of their lookup table.

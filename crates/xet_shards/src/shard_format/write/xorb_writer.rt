@@ -10,17 +10,20 @@ ghost use Rattle.xet_records.specs.Copying.{CopiesRows, CopyFails, IsOutputFailu
 ghost use Rattle.xet_records.specs.XorbRecord.{xorb_record_bytes, xorb_row_count, HasItsChunks};
 ghost use Rattle.xet_records.specs.XorbRow.{chunk_row, FitsChunk};
 ghost use Rattle.xet_shards.specs.Write.Tables.{chunk_table_row_bytes};
+ghost use Rattle.xet_shards.specs.Steps.Collecting.{BeginsWithChunks};
 ghost use Rattle.xet_shards.specs.Steps.Tables.{AddsChunkRows};
 ghost use Rattle.xet_shards.specs.Write.Written.{AddsRecord, HasWrittenFor, HasWrittenXorbs};
 ghost use Rattle.xet_records.specs.Limits.{MAX_ROWS};
 
 use super::written::{RecordTable, WrittenSection, WrittenXorbs};
 use crate::shard_format::CHUNK_ROW_SIZE;
+use crate::shard_format::read::stored_section::PlacedRecord;
 use std::alloc::Global;
 use std::io::Write;
 use xet_base::error::{CoreError, Result};
 use xet_base::fields::{put_u32, put_u64};
 use xet_base::input::ByteInput;
+use xet_records::record_bytes::row;
 use xet_records::row_copier::{CopyFailure, CopyResult, copy_row, write_copied_row};
 use xet_records::xorb_structs::{MDBXorbInfo, XorbChunkSequenceEntry, XorbChunkSequenceHeader};
 
@@ -144,6 +147,12 @@ impl WrittenSection for WrittenXorbs {
         Ok(())
     }
 
+    fn collect(&mut self, placed: &PlacedRecord<'_, XorbChunkSequenceHeader>) -> Result<()> {
+        let first = self.add(&placed.header)?;
+        let count = placed.header.num_entries;
+        collect_rows_of(&mut self.chunk_rows, first, placed.rows, count)
+    }
+
     fn write_bookend<W: Write>(writer: &mut W) -> Result<()> {
         XorbChunkSequenceHeader::bookend().serialize(writer)?;
         Ok(())
@@ -185,6 +194,30 @@ fn push_chunk_rows(
         let word = chunk.chunk_hash.word0;
         chunk_rows.push(ChunkTableRow { word, row, index })?;
         index += 1;
+    }
+    Ok(())
+}
+
+// Adds the rows of the chunks in the first rows of these, of a xorb that starts at a row.
+fn collect_rows_of(
+    chunk_rows: &mut Vec<ChunkTableRow>,
+    first: u32,
+    rows: &[u8],
+    count: u32,
+) -> Result<()>
+    requires { 48 * count ≤ length rows.now }
+    ensures added { OnOk result ((chunks : List XorbChunkSequenceEntry)
+        → BeginsWithChunks rows.now count chunks
+        → AddsChunkRows chunk_rows.old.items chunk_rows.new.items first chunks) }
+    ensures causes { IfErr result (λ e. e ≡ CoreError.OutOfMemory) }
+{
+    for index in 0..count {
+        let chunk: XorbChunkSequenceEntry = row(rows, index as usize);
+        chunk_rows.push(ChunkTableRow {
+            word: chunk.chunk_hash.word0,
+            row: first,
+            index,
+        })?;
     }
     Ok(())
 }

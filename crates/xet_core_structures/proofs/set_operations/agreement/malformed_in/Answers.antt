@@ -3,7 +3,7 @@ use Rattle.xet_base.specs.declared.merklehash.DataHash.{DataHash}
 use Rattle.xet_records.specs.RecordKind.{RecordKind}
 use Rattle.xet_records.specs.FileRecord.{file_records}
 use Rattle.xet_records.specs.XorbRecord.{xorb_records}
-use Rattle.xet_core_structures.specs.declared.set_operations.trees.placed.PlacedRecord.{PlacedRecord}
+use Rattle.xet_shards.specs.declared.shard_format.read.stored_section.PlacedRecord.{PlacedRecord}
 use Rattle.xet_core_structures.specs.Steps.Agreement.{IsPlainFile, HasFewBytes, FindsMalformed}
 use Rattle.xet_core_structures.proofs.Agreement.Malformed.{malformed_file, malformed_xorb, all_well_formed}
 use Rattle.xet_core_structures.proofs.set_operations.agreement.malformed_in.Goals as goal

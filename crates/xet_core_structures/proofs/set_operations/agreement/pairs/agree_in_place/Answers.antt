@@ -1,6 +1,6 @@
 use Rattle.std.proofs.Common.{◌↔◌, refl, subst}
 use Rattle.std.specs.Prelude.{IsTrue}
-use Rattle.xet_core_structures.proofs.Trees.PlacedWriting.{placed_once}
+use Rattle.xet_core_structures.proofs.Trees.PlacedRecords.{placed_once}
 use Rattle.xet_core_structures.proofs.set_operations.agreement.pairs.agree_in_place.Goals as goal
 
 pub returns-then-are_copies : goal.returns-then-are_copies

@@ -1,7 +1,7 @@
 use Rattle.std.proofs.Common.{sym, ap}
 use Rattle.xet_base.specs.Source.{Source, bytes_left}
 use Rattle.xet_core_structures.proofs.TwoShards.InMemory.{in_memory}
-use Rattle.xet_core_structures.proofs.Trees.PlacedWriting.{placed_read}
+use Rattle.xet_core_structures.proofs.Trees.PlacedRecords.{placed_read}
 use Rattle.xet_core_structures.proofs.set_operations.agreement.pairs.read_placed.Goals as goal
 
 pub returns-in-Ok : goal.returns-in-Ok

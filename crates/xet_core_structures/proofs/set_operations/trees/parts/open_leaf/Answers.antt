@@ -2,7 +2,7 @@ use Rattle.std.proofs.Common.{◌<◌, ◌≤◌, length, refl, rules, sym, subs
 use Rattle.std.proofs.lemmas.Option.{slice_get_read}
 use Rattle.std.proofs.lemmas.Slice.Zip.{AllZip-long}
 use Rattle.xet_core_structures.specs.Steps.Parts.{IsOpenOf}
-use Rattle.xet_core_structures.proofs.Records.Zipped.{zip_at}
+use Rattle.xet_shards.proofs.Read.Zipped.{zip_at}
 use Rattle.xet_core_structures.proofs.set_operations.trees.parts.open_leaf.Goals as goal
 
 pub returns-then-index-opened : goal.returns-then-index-opened

@@ -3,7 +3,7 @@ use Rattle.xet_base.specs.Source.{Source, bytes_left}
 use Rattle.xet_records.specs.FileRecord.{file_records, file_rows_bytes}
 use Rattle.xet_records.proofs.RecordKinds.{file_laws}
 use Rattle.xet_core_structures.specs.Records.ByteUnion.{mixed_file}
-use Rattle.xet_core_structures.proofs.Trees.PlacedWriting.{placed_read}
+use Rattle.xet_core_structures.proofs.Trees.PlacedRecords.{placed_read}
 use Rattle.xet_core_structures.proofs.set_operations.trees.placed.mixed_rows.Goals as goal
 
 pub returns-in-Ok : goal.returns-in-Ok

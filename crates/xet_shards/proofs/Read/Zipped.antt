@@ -1,5 +1,5 @@
 -- Lists whose items are related place by place.
-use Rattle.std.proofs.Common.{◌≡◌, ℕ, zero, suc, List, [], ◌∷◌, ◌++◌, map, Some, refl, ap, subst, arith}
+use Rattle.std.proofs.Common.{◌≡◌, ℕ, zero, suc, List, [], ◌∷◌, ◌++◌, length, map, Some, refl, ap, subst, arith}
 use Rattle.std.specs.List.{AllZip}
 use Rattle.std.specs.Prelude.{All, Contains, slice_get}
 use Rattle.std.proofs.lemmas.List.Elements.{All-drop, Contains-append_right}
@@ -19,6 +19,13 @@ zipped_append R [] js [] cs one other = other
 zipped_append R [] js (b ∷ bs) cs one other = absurd one
 zipped_append R (a ∷ ks) js [] cs one other = absurd one
 zipped_append R (a ∷ ks) js (b ∷ bs) cs (here, rest) other = (here, zipped_append R ks js bs cs rest other)
+
+-- there are as many in both
+pub zipped_length : {A B : Type 0} (R : A → B → Type 0) (ks : List A) (bs : List B) → AllZip R ks bs → length bs ≡ length ks
+zipped_length R [] [] related = refl
+zipped_length R [] (b ∷ bs) related = absurd related
+zipped_length R (a ∷ ks) [] related = absurd related
+zipped_length R (a ∷ ks) (b ∷ bs) (here, rest) = ap suc (zipped_length R ks bs rest)
 
 -- an item of the second list is related to one of the first
 pub zipped_member : {A B : Type 0} (R : A → B → Type 0) (ks : List A) (bs : List B) → AllZip R ks bs → (b : B) → Contains bs b → (a : A) × R a b

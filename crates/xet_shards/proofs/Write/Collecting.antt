@@ -1,0 +1,130 @@
+-- The rows of records that stay where they are, and what is collected of them.
+use Rattle.std.proofs.Common.{◌≡◌, true, ℕ, ◌+◌, ◌*◌, ◌<◌, ◌≤◌, List, [], ◌∷◌, ◌++◌, length, map, flat_map, take, drop, get_or, Some, refl, sym, ap, ◌∙◌, subst, arith, append_assoc}
+use Rattle.std.specs.List.{AllZip, slice_get}
+use Rattle.std.proofs.lemmas.List.{length-append, map-append, take-append-drop, take_all, take_more}
+use Rattle.std.proofs.lemmas.List.Sums.{sum_by-append, sum_by_push}
+use Rattle.std.proofs.lemmas.Option.{get_or_from_slice_get, slice_get_within}
+use Rattle.xet_records.specs.declared.file_structs.header.FileDataSequenceHeader.{FileDataSequenceHeader}
+use Rattle.xet_records.specs.declared.file_structs.MDBFileInfo.{MDBFileInfo}
+use Rattle.xet_records.specs.declared.xorb_structs.MDBXorbInfo.{MDBXorbInfo}
+use Rattle.xet_records.specs.declared.xorb_structs.XorbChunkSequenceHeader.{XorbChunkSequenceHeader}
+use Rattle.xet_records.specs.FileRecord.{file_records, file_rows_bytes, rows_after, size_of_file}
+use Rattle.xet_records.specs.FileRow.{hash_row, segment_row}
+use Rattle.xet_records.specs.Limits.{MAX_ROWS}
+use Rattle.xet_records.specs.Part.{optional_rows}
+use Rattle.xet_records.specs.RecordKind.{RecordKind, KindLaws}
+use Rattle.xet_records.specs.Rows.{ReadsRow}
+use Rattle.xet_records.specs.XorbRecord.{xorb_records}
+use Rattle.xet_records.proofs.RecordKinds.{file_laws}
+use Rattle.xet_records.proofs.RowsWithin.{HasRows, RowLaws, length-rows, row_at_index}
+use Rattle.xet_shards.specs.declared.shard_format.read.stored_section.PlacedRecord.{PlacedRecord}
+use Rattle.xet_shards.specs.declared.shard_format.write.written.WrittenXorbs.{WrittenXorbs}
+use Rattle.xet_shards.specs.Read.StoredSection.{StoresRecord}
+use Rattle.xet_shards.specs.Steps.Collecting.{BeginsWithRows, BeginsWithSegments, BeginsWithChunks}
+use Rattle.xet_shards.specs.Steps.Tables.{AddsChunkRows}
+use Rattle.xet_shards.specs.Write.Copying.{CollectsRecord}
+use Rattle.xet_shards.specs.Write.Section.{total_rows}
+use Rattle.xet_shards.specs.Write.Written.{AddsRecord, IsFileOf, HasWrittenXorbs}
+use Rattle.xet_shards.proofs.Read.Zipped.{zip_at, zipped_length}
+use Rattle.xet_shards.proofs.Write.Written.{xorb_written}
+
+-- rows at the front of bytes
+module _ {T : Type 0} (row_bytes : T → List ℕ) (Fits : T → Type 0) (laws : RowLaws row_bytes Fits) (bytes : List ℕ) (count : ℕ) (rows : List T) (begins : BeginsWithRows row_bytes Fits bytes count rows) where
+  has_rows : HasRows row_bytes Fits bytes 0 rows
+  has_rows = record { before = []; after = begins.rest; start_is = refl; fit = begins.fit; bytes_are = begins.bytes_are }
+
+  pub rows_there : 48 * count ≤ length bytes
+  rows_there = omega (arith, ap length begins.bytes_are, length-append (flat_map row_bytes rows) begins.rest, length-rows row_bytes Fits laws rows begins.fit, begins.count_is)
+
+  -- the one at an index
+  pub row_there : (i : ℕ) (row : T) → i < count → ReadsRow row_bytes Fits (λ t. t) (λ taken. taken ≡ take 48 (drop (48 * i) bytes)) row → slice_get rows i ≡ Some row
+  row_there i row below read =
+      let found = row_at_index row_bytes Fits laws (λ t. t) bytes 0 rows i i row has_rows (omega (arith, below, begins.count_is)) (omega arith) read in
+      found.1 ∙ ap Some found.2
+
+  pub one_row_more : (i : ℕ) (row : T) → i < count → ReadsRow row_bytes Fits (λ t. t) (λ taken. taken ≡ take 48 (drop (48 * i) bytes)) row → take (i + 1) rows ≡ take i rows ++ row ∷ []
+  one_row_more i row below read =
+      take_more rows i row (omega (arith, below, begins.count_is)) ∙ ap (λ y. take i rows ++ y ∷ []) (get_or_from_slice_get rows i row row (row_there i row below read))
+
+  pub row_or : (i : ℕ) (row d : T) → i < count → ReadsRow row_bytes Fits (λ t. t) (λ taken. taken ≡ take 48 (drop (48 * i) bytes)) row → get_or rows i d ≡ row
+  row_or i row d below read = get_or_from_slice_get rows i row d (row_there i row below read)
+
+  -- all of them
+  pub all_rows : take count rows ≡ rows
+  all_rows = take_all count rows (omega (arith, begins.count_is))
+
+-- the rows of a file begin with its segments
+module _ (p : PlacedRecord FileDataSequenceHeader) (r : MDBFileInfo) (there : StoresRecord file_records p r) where
+  pub segments_first : BeginsWithSegments p.rows.now p.header.num_entries r.segments
+  unfolding file_rows_bytes
+  segments_first = record {
+    rest = flat_map hash_row (optional_rows r) ++ there.rest;
+    fit = there.is_stored.widths.segments;
+    count_is = there.is_stored.whole.segments ∙ ap (λ (h : FileDataSequenceHeader). h.num_entries) (sym there.header_is);
+    bytes_are = there.rows_are ∙ append_assoc (flat_map segment_row r.segments) (flat_map hash_row (optional_rows r)) there.rest;
+  }
+
+  pub file_at : (total size : ℕ) → total ≡ 1 + rows_after p.header → size ≡ size_of_file r → IsFileOf p.header.file_hash.word0 total size r
+  file_at total size total_is size_is = record {
+    word = ap (λ (h : FileDataSequenceHeader). h.file_hash.word0) (sym there.header_is);
+    rows = file_laws.rows r there.is_stored ∙ ap (λ h. 1 + rows_after h) (sym there.header_is) ∙ sym total_is;
+    bytes = sym size_is;
+  }
+
+  pub read_file_at : (total size : ℕ) → IsFileOf p.header.file_hash.word0 total size r → IsFileOf p.header.file_hash.word0 total size (file_records.as_read r)
+  read_file_at total size is = record { word = is.word; rows = file_laws.same_rows r ∙ is.rows; bytes = is.bytes }
+
+-- those of a xorb are its chunks
+module _ (p : PlacedRecord XorbChunkSequenceHeader) (r : MDBXorbInfo) (there : StoresRecord xorb_records p r) where
+  pub chunks_first : BeginsWithChunks p.rows.now p.header.num_entries r.chunks
+  chunks_first = record {
+    rest = there.rest;
+    fit = there.is_stored.widths.chunks;
+    count_is = there.is_stored.count ∙ ap (λ (h : XorbChunkSequenceHeader). h.num_entries) (sym there.header_is);
+    bytes_are = there.rows_are;
+  }
+
+  pub xorb_at : (v w : WrittenXorbs) → AddsRecord v.table w.table p.header.xorb_hash.word0 (1 + p.header.num_entries) → AddsChunkRows v.chunk_rows.items w.chunk_rows.items v.table.rows r.chunks
+      → w.stored_bytes ≡ v.stored_bytes + p.header.num_bytes_in_xorb → w.stored_bytes_on_disk ≡ v.stored_bytes_on_disk + p.header.num_bytes_on_disk
+      → (front : List MDBXorbInfo) → HasWrittenXorbs v front → HasWrittenXorbs w (front ++ r ∷ [])
+  xorb_at v w table chunk_rows bytes bytes_on_disk front have =
+      let of_header : (h : XorbChunkSequenceHeader) → p.header ≡ h → length r.chunks ≡ h.num_entries → AddsRecord v.table w.table h.xorb_hash.word0 (1 + length r.chunks) =
+      λ h is count. subst (λ n. AddsRecord v.table w.table h.xorb_hash.word0 (1 + n)) (sym count) (subst (λ (g : XorbChunkSequenceHeader). AddsRecord v.table w.table g.xorb_hash.word0 (1 + g.num_entries)) is table) in
+      xorb_written true v w front r have (of_header r.metadata there.header_is there.is_stored.count) (λ _. chunk_rows)
+      (bytes ∙ ap (λ (h : XorbChunkSequenceHeader). v.stored_bytes + h.num_bytes_in_xorb) there.header_is)
+      (bytes_on_disk ∙ ap (λ (h : XorbChunkSequenceHeader). v.stored_bytes_on_disk + h.num_bytes_on_disk) there.header_is)
+
+-- the front of a list of records is collected
+module _ {H R : Type 0} (K : RecordKind H R) (placed : List (PlacedRecord H)) (rs : List R) (places : AllZip (StoresRecord K) placed rs) where
+  -- as they are stored, and as reading returns them
+  pub record IsCollecting (n : ℕ) (Written : List R → Type 0) : Type 0 where
+    pub stored : Written (take n rs)
+    pub read : Written (map K.as_read (take n rs))
+
+  module _ (i : ℕ) (p : PlacedRecord H) (at : slice_get placed i ≡ Some p) where
+    abbrev pub next_there : (r : R) × StoresRecord K p r
+    next_there = ((zip_at (StoresRecord K) placed rs i p places at).0, (zip_at (StoresRecord K) placed rs i p places at).2)
+
+    next_at : slice_get rs i ≡ Some next_there.0
+    next_at = (zip_at (StoresRecord K) placed rs i p places at).1
+
+    one_more : take (i + 1) rs ≡ take i rs ++ next_there.0 ∷ []
+    one_more = take_more rs i next_there.0 (slice_get_within rs i next_there.0 next_at) ∙ ap (λ y. take i rs ++ y ∷ []) (get_or_from_slice_get rs i next_there.0 next_there.0 next_at)
+
+    -- there is room for the next
+    pub next_has_room : KindLaws K → (rows : ℕ) → rows ≡ total_rows K (take i rs) → total_rows K rs ≤ MAX_ROWS → rows + (1 + K.rows_after p.header) ≤ MAX_ROWS
+    next_has_room laws rows counted few =
+        let all : total_rows K rs ≡ total_rows K (take (i + 1) rs) + total_rows K (drop (i + 1) rs) = ap (total_rows K) (sym (take-append-drop (i + 1) rs)) ∙ sum_by-append K.row_count (take (i + 1) rs) (drop (i + 1) rs) in
+        let next : total_rows K (take (i + 1) rs) ≡ total_rows K (take i rs) + K.row_count next_there.0 = ap (total_rows K) one_more ∙ sum_by_push K.row_count (take i rs) next_there.0 in
+        omega (arith, counted, few, all, next, laws.rows next_there.0 next_there.1.is_stored, ap K.rows_after next_there.1.header_is)
+
+    pub collecting_on : (Before After : List R → Type 0) → IsCollecting i Before → CollectsRecord K p Before After → IsCollecting (i + 1) After
+    collecting_on Before After before collects = record {
+      stored = subst After (sym one_more) (collects next_there.0 next_there.1 (take i rs) before.stored).0;
+      read = subst After (sym (ap (map K.as_read) one_more ∙ map-append K.as_read (take i rs) (next_there.0 ∷ []))) (collects next_there.0 next_there.1 (map K.as_read (take i rs)) before.read).1;
+    }
+
+  pub collecting_ends : (n : ℕ) (Written : List R → Type 0) → length placed ≤ n → IsCollecting n Written → Written rs × Written (map K.as_read rs)
+  collecting_ends n Written past collecting =
+      let all : take n rs ≡ rs = take_all n rs (omega (arith, past, zipped_length (StoresRecord K) placed rs places)) in
+      (subst Written all collecting.stored, subst (λ l. Written (map K.as_read l)) all collecting.read)
