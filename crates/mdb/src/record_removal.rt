@@ -17,6 +17,7 @@ use xet_core_structures::file_structs::FileDataSequenceHeader;
 use xet_core_structures::merklehash::{HMACKey, MerkleHash};
 use xet_core_structures::record_reader::FormatVersion;
 use xet_core_structures::shard_format::{MDBShardFileHeader, MDBShardInfo};
+use xet_core_structures::shard_writer::bytes_from;
 use xet_core_structures::xorb_structs::XorbChunkSequenceHeader;
 
 /// The bytes of a shard without the files and xorbs that have some hashes, in the version of a
@@ -150,15 +151,6 @@ fn push_xorb_hashes(
         }
     }
     Ok(())
-}
-
-// The bytes from an offset on; none if it is past the end.
-fn bytes_from(bytes: &[u8], offset: u64) -> &[u8] {
-    let start = usize::try_from(offset).unwrap_or(usize::MAX);
-    match bytes.get(start..) {
-        Some(rest) => rest,
-        None => &[],
-    }
 }
 
 // The bytes of a shard under a key that has, for each of some hashes, a file without segments and a
