@@ -21,7 +21,7 @@ use Rattle.xet_records.specs.declared.file_structs.header.FileDataSequenceHeader
 use Rattle.xet_records.specs.Reading.{ReadsNextRecord}
 use Rattle.xet_records.specs.RecordKind.{RecordKind, in_version}
 use Rattle.shard_bytes.specs.Outcomes.{HasOutcome}
-use Rattle.shard_bytes.proofs.Combining.{in_memory}
+use Rattle.xet_shards.specs.Read.StoredSection.{in_memory}
 use Rattle.mdb_report.specs.FileReports.{HoldsFiles, FilesNotRead}
 use Rattle.mdb_report.specs.Tables.{XorbsNotRead}
 use Rattle.mdb_report.specs.Garbage.{HoldsXorbs}

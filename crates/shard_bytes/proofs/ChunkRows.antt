@@ -10,7 +10,7 @@ use Rattle.xet_core_structures.specs.Ends.{HasHeaderAndFooter, Loads}
 use Rattle.xet_shards.specs.Read.TableReading.{triple_row, FitsTriple, ReadsTable, TableFails}
 use Rattle.xet_shards.specs.Read.TruncatedHashes.{ReadsHashes, HashesFail}
 use Rattle.shard_bytes.specs.ChunkRows.{HasChunkRows, RefusesChunkRows}
-use Rattle.shard_bytes.proofs.Combining.{in_memory}
+use Rattle.xet_shards.specs.Read.StoredSection.{in_memory}
 
 pub rows_read : {Z : Type 0} (bytes : List ℕ) (info : MDBShardInfo) (start old new : MemorySource) → start.bytes.now ≡ bytes → Loads (in_memory start) (in_memory old) info
     → (result : Result (Vec (ℕ × (ℕ × ℕ)) Z) CoreError)

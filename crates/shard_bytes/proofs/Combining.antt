@@ -1,25 +1,21 @@
 -- What is read of two byte strings in memory is what they are.
-use Rattle.std.proofs.Common.{◌≡◌, ◌⊎◌, inl, inr, ℕ, List, [], ◌++◌, None, Some, sym, ap, ◌∙◌, subst, arith}
+use Rattle.std.proofs.Common.{◌≡◌, ◌⊎◌, inl, inr, ℕ, List, [], ◌++◌, Some, sym, ap, ◌∙◌, subst, arith}
 use Rattle.xet_core_structures.specs.declared.error.CoreError.{CoreError}
 use Rattle.xet_core_structures.specs.declared.error.CoreError.TheVariants.{OutOfMemory}
 use Rattle.xet_core_structures.specs.declared.shard_format.MDBShardInfo.{MDBShardInfo}
 use Rattle.xet_core_structures.specs.declared.source.MemorySource.{MemorySource}
 use Rattle.xet_core_structures.specs.Errors.{IsWriteError}
-use Rattle.xet_core_structures.specs.Source.{Source}
 use Rattle.xet_core_structures.specs.Ends.{HasHeaderAndFooter}
 use Rattle.xet_core_structures.specs.Shard.{Shard}
 use Rattle.xet_core_structures.specs.TwoShards.ByteResults.{keyed_info, keyed_layout, key_of, HaveResult, WritesResult, InputsFail}
 use Rattle.xet_core_structures.specs.TwoShards.Readable.{IsBytesUnderKey}
 use Rattle.xet_core_structures.specs.declared.merklehash.DataHash.{DataHash}
+use Rattle.xet_shards.specs.Read.StoredSection.{in_memory}
 use Rattle.xet_core_structures.proofs.LawProofs.FileLookups.{union_under, difference_under}
 use Rattle.shard_bytes.specs.declared.combine.Operation.{Operation}
 use Rattle.shard_bytes.specs.declared.combine.Operation.TheVariants.{Union, Difference}
 use Rattle.shard_bytes.proofs.MemoryErrors.{from_memory}
 use Rattle.shard_bytes.specs.Combining.{IsResultOf, CombinesBytes, NotCombined, CombiningRefusal}
-
--- what a source in memory is
-abbrev pub in_memory : MemorySource → Source
-in_memory m = record { bytes = m.bytes.now; at = m.at; seeks = m.seeks.value; read = m.read.value; failures = 0; last_failure = None }
 
 module _ (x y x_read y_read : List ℕ) (i j : MDBShardInfo) (x_is : x_read ≡ x) (y_is : y_read ≡ y) (i_ends : HasHeaderAndFooter x i) (j_ends : HasHeaderAndFooter y j) where
   pub bytes_combined : (IsResult : Shard → Shard → Shard → Type 0) (start out : List ℕ) (info : MDBShardInfo) → start ≡ []

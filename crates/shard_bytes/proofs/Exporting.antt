@@ -11,7 +11,7 @@ use Rattle.xet_core_structures.specs.Source.{FailedBy, bytes_left, after_seek}
 use Rattle.shard_bytes.specs.declared.export.Export.{Export}
 use Rattle.shard_bytes.specs.Exporting.{ExportsBytes, NotExported, RefusesExport}
 use Rattle.shard_bytes.specs.Steps.Exporting.{WritesExport}
-use Rattle.shard_bytes.proofs.Combining.{in_memory}
+use Rattle.xet_shards.specs.Read.StoredSection.{in_memory}
 use Rattle.shard_bytes.proofs.MemoryErrors.{from_memory, no_argument}
 use Rattle.xet_core_structures.specs.Errors.{IsWriteError}
 

@@ -19,7 +19,7 @@ use Rattle.xet_records.proofs.RecordKinds.{version_known}
 use Rattle.xet_records.specs.declared.record_reader.FormatVersion.{FormatVersion}
 use Rattle.shard_bytes.specs.Parts.{table_of, FindsPlaces, FindsRowsIn, HasFileIn, RefusesFileIn, HasXorbIn, RefusesXorbIn, RefusesPlaces, RefusesTableRows}
 use Rattle.shard_bytes.specs.Walking.{HasFileAt, HasXorbAt, IsAtRow, NotAtRow}
-use Rattle.shard_bytes.proofs.Combining.{in_memory}
+use Rattle.xet_shards.specs.Read.StoredSection.{in_memory}
 
 -- what is read as of a version is read as of its number
 pub of_version : (number : ℕ) (version : FormatVersion) (bytes : List ℕ) (found : CoreResult (Option MDBFileInfo)) → number ≡ number_of version

@@ -22,7 +22,7 @@ use Rattle.xet_core_structures.specs.Shard.{Shard, IsShard, file_hash_of, xorb_h
 use Rattle.xet_records.specs.Limits.{MAX_ROWS}
 use Rattle.xet_shards.proofs.Content.Maps.{sum-insert, values-empty}
 use Rattle.shard_bytes.specs.Recording.{with_files, with_xorbs, shard_of, CanAddFiles, CanAddXorbs, CanAddRecords, RefusesRecords}
-use Rattle.shard_bytes.proofs.Combining.{in_memory}
+use Rattle.xet_shards.specs.Read.StoredSection.{in_memory}
 use Rattle.shard_bytes.proofs.Inserting.{inserts, inserts-entries, all_new, StaysWithin, stays_within}
 
 -- records with their keys

@@ -22,7 +22,7 @@ use Rattle.xet_core_structures.specs.WrittenQueries.{RunInXorb, QueryFailsInXorb
 use Rattle.xet_core_structures.specs.WrittenShard.{IsBytesOf, IsBytesWithInfo, ReadsBack}
 use Rattle.shard_bytes.specs.Finding.{NotFoundInShard}
 use Rattle.shard_bytes.specs.Query.{HasNoChunkAt}
-use Rattle.shard_bytes.proofs.Combining.{in_memory}
+use Rattle.xet_shards.specs.Read.StoredSection.{in_memory}
 
 -- header and footer were read from these bytes
 pub as_written : (s : Shard) (bytes : List ℕ) (old new : Source) (info : MDBShardInfo) → IsBytesOf s bytes → old.bytes ≡ bytes → Loads old new info → IsBytesWithInfo s new.bytes info

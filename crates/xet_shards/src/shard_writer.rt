@@ -1,6 +1,6 @@
 //! Writing shards with any layout options, for the crates that make shards from other shards: one
-//! record after another, and then the end of the shard; or all records of a shard that is read.
-//! Also writes shards of lists of records, without a chunk lookup.
+//! record after another, and then the end of the shard; or all records of a shard in memory, as they
+//! are stored. Also writes shards of lists of records, without a chunk lookup.
 
 pub use crate::shard_format::ends::options::LayoutOptions;
 pub use crate::shard_format::export::filling::shards_in_a_row_into;

@@ -22,7 +22,7 @@ use Rattle.xet_core_structures.specs.Steps.Parts.{PlacesShard}
 use Rattle.xet_core_structures.specs.Steps.Placed.{PlacesAll, ReadsPlaced}
 use Rattle.xet_core_structures.specs.Steps.MergeJoin.{SectionRefusal, AscendingNotStreamed}
 use Rattle.xet_core_structures.proofs.Records.ShardContents.{stored_ascend}
-use Rattle.xet_core_structures.proofs.TwoShards.InMemory.{in_memory}
+use Rattle.xet_shards.specs.Read.StoredSection.{in_memory}
 use Rattle.xet_core_structures.proofs.Records.Lists.{lists_read}
 use Rattle.xet_core_structures.proofs.Trees.Parts.{xorbs_refused}
 use Rattle.xet_core_structures.proofs.TwoShards.Results.{section_serves}

@@ -27,7 +27,7 @@ use Rattle.xet_core_structures.specs.Steps.MergeJoin.FollowingFails.{not_read as
 use Rattle.xet_core_structures.specs.Steps.Placed.{PlacesAll}
 use Rattle.xet_core_structures.specs.Steps.Rows.{NextIs, RowsFollow, PlacesNext}
 use Rattle.xet_shards.proofs.Read.Zipped.{zipped_append}
-use Rattle.xet_core_structures.proofs.TwoShards.InMemory.{in_memory}
+use Rattle.xet_shards.specs.Read.StoredSection.{in_memory}
 
 module _ {H R : Type 0} (K : RecordKind H R) (laws : KindLaws K) (range : HashRange) where
   rows_of_next : (before : Option H) (left : ℕ) (bytes : List ℕ) (r : R) (rest : List ℕ) → NextIs K range before left bytes r rest → K.row_count r ≡ 1 + K.rows_after (K.header_of r)

@@ -1,17 +1,14 @@
 -- Sources in memory, which do not fail.
-use Rattle.std.proofs.Common.{◌≡◌, inl, inr, ℕ, List, None, subst, arith}
+use Rattle.std.proofs.Common.{◌≡◌, inl, inr, ℕ, List, subst, arith}
 use Rattle.xet_base.specs.declared.error.CoreError.{CoreError}
 use Rattle.xet_base.specs.declared.error.CoreError.TheVariants.{ShardVersion}
 use Rattle.xet_base.specs.declared.source.MemorySource.{MemorySource}
 use Rattle.xet_base.specs.Errors.{IsShardVersion, IsBareShardVersion}
-use Rattle.xet_base.specs.Source.{Source, FailedBy}
+use Rattle.xet_base.specs.Source.{FailedBy}
 use Rattle.xet_shards.specs.Ends.Ends.{LoadFails, FormatCase, IsUnsupported, IsTooShort}
 use Rattle.xet_shards.specs.Ends.Ends.FormatCase.{unsupported_format, too_few_bytes}
+use Rattle.xet_shards.specs.Read.StoredSection.{in_memory}
 use Rattle.xet_core_structures.specs.TwoShards.ByteResults.{LoadRefusal}
-
--- what a source in memory is
-abbrev pub in_memory : MemorySource → Source
-in_memory m = record { bytes = m.bytes.now; at = m.at; seeks = m.seeks.value; read = m.read.value; failures = 0; last_failure = None }
 
 bare_version : (e : CoreError) → IsBareShardVersion e → IsShardVersion e
 bare_version (ShardVersion text) is = tt

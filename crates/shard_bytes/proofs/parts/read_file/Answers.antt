@@ -7,7 +7,7 @@ use Rattle.xet_core_structures.specs.Lookup.{ReadsInfo, ReadInfoFails}
 use Rattle.xet_core_structures.specs.Source.{Source}
 use Rattle.xet_core_structures.specs.Version.{version_of}
 use Rattle.xet_records.proofs.RecordKinds.{version_known}
-use Rattle.shard_bytes.proofs.Combining.{in_memory}
+use Rattle.xet_shards.specs.Read.StoredSection.{in_memory}
 use Rattle.shard_bytes.proofs.InParts.{of_version}
 use Rattle.shard_bytes.proofs.Walking.{at_row}
 use Rattle.shard_bytes.proofs.parts.read_file.Goals as goal

@@ -4,7 +4,7 @@ use Rattle.xet_core_structures.specs.declared.shard_format.MDBShardFileFooter.{M
 use Rattle.xet_core_structures.specs.Lookup.{ReadsInfo, ReadInfoFails}
 use Rattle.xet_core_structures.specs.Source.{Source}
 use Rattle.xet_core_structures.specs.XorbRecord.{xorb_records}
-use Rattle.shard_bytes.proofs.Combining.{in_memory}
+use Rattle.xet_shards.specs.Read.StoredSection.{in_memory}
 use Rattle.shard_bytes.proofs.Walking.{at_row}
 use Rattle.shard_bytes.proofs.parts.read_xorb.Goals as goal
 

@@ -4,7 +4,7 @@ use Rattle.xet_core_structures.specs.declared.shard_format.MDBShardFileFooter.{M
 use Rattle.xet_core_structures.specs.KeyedHash.{under_key}
 use Rattle.xet_core_structures.specs.Lookup.{IsRowAndIndex, Searches}
 use Rattle.xet_core_structures.specs.Source.{Source}
-use Rattle.shard_bytes.proofs.Combining.{in_memory}
+use Rattle.xet_shards.specs.Read.StoredSection.{in_memory}
 use Rattle.shard_bytes.proofs.InParts.{places_found}
 use Rattle.shard_bytes.proofs.parts.search_chunks.Goals as goal
 

@@ -11,7 +11,7 @@ use Rattle.xet_core_structures.specs.Records.Ranges.{is_within}
 use Rattle.xet_core_structures.specs.Steps.MergeJoin.{Follows}
 use Rattle.xet_core_structures.specs.Steps.Rows.{PlacesNext}
 use Rattle.xet_core_structures.proofs.Trees.RowWalks.{NoNextAt, header_not_read, bookend_read, header_outside, record_not_read, next_placed}
-use Rattle.xet_core_structures.proofs.TwoShards.InMemory.{in_memory}
+use Rattle.xet_shards.specs.Read.StoredSection.{in_memory}
 use Rattle.xet_core_structures.proofs.set_operations.trees.rows.place_next.Goals as goal
 
 pub returns-in_err-next : goal.returns-in_err-next
