@@ -1,5 +1,5 @@
-//! Copying shards: record by record, for keyed exports and for other layout options, and by whole
-//! sections, for concatenation.
+//! Copying shards: record by record, for keyed exports, and by whole sections, for other layout
+//! options and for concatenation.
 //!
 //! The loop of an export, `export_section`, is over the trait `ExportedRecord`: of files it reads a
 //! view of each, and `write_file_view` writes its bytes and adds its row; of xorbs it reads each,
