@@ -6,7 +6,7 @@ ghost use Rattle.std.specs.List.Sorted.{IsStrictlySortedBy};
 ghost use Rattle.std.specs.declared.cmp.Ordering.TheVariants.{Less};
 ghost use Rattle.xet_core_structures.specs.declared.file_structs.MDBFileInfo.{MDBFileInfo};
 ghost use Rattle.xet_core_structures.specs.declared.xorb_structs.MDBXorbInfo.{MDBXorbInfo};
-ghost use Rattle.xet_shards.specs.Read.StoredSection.{StoresShard};
+ghost use Rattle.xet_shards.specs.Read.StoredSection.{StoresSections};
 ghost use Rattle.xet_core_structures.specs.declared.shard_format.MDBShardInfo.{MDBShardInfo};
 ghost use Rattle.xet_core_structures.specs.Ends.{HasHeaderAndFooter};
 ghost use Rattle.xet_core_structures.specs.TwoShards.ByteResults.{LoadRefusal};
@@ -231,9 +231,9 @@ fn push_differences(
     shard: &StoredShard<'_>,
 ) -> Result<()>
     requires { (files : List MDBFileInfo) × (xorbs : List MDBXorbInfo)
-        × StoresShard shard.now files xorbs }
+        × StoresSections shard.now.files shard.now.xorbs files xorbs }
     ensures added { OnOk result ((files : List MDBFileInfo) → (xorbs : List MDBXorbInfo)
-        → StoresShard shard.now files xorbs
+        → StoresSections shard.now.files shard.now.xorbs files xorbs
         → AddsDifferences bytes.now info.now files xorbs findings.old.items findings.new.items) }
     ensures causes { IfErr result (λ e. e ≡ CoreError.OutOfMemory) }
 {

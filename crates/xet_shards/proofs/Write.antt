@@ -14,6 +14,7 @@ pub mod WrittenTables
 pub mod Written
 pub mod Copying
 pub mod Collecting
+pub mod Rewriting
 pub mod WithOptions
 pub mod SameBytes
 pub mod Worked

@@ -7,9 +7,9 @@ pub use crate::shard_format::export::filling::shards_in_a_row_into;
 pub use crate::shard_format::export::in_a_row::shards_in_a_row;
 pub use crate::shard_format::export::rewriting::write_again;
 pub use crate::shard_format::read::stored_section::{
-    PlacedRecord, StoredSection, StoredShard, bytes_from, end_of_section, have_aux_rows,
-    read_stored_section, read_stored_shard,
+    PlacedRecord, StoredSection, bytes_from, end_of_section, have_aux_rows, read_stored_section,
 };
+pub use crate::shard_format::read::stored_shard::{StoredShard, read_stored_shard};
 pub use crate::shard_format::write::writer::{end_size, write_end};
 pub use crate::shard_format::write::written::{
     RecordTable, WrittenFiles, WrittenSection, WrittenXorbs, collect_records,

@@ -1,6 +1,9 @@
 -- The turns of the loop that reads a section in memory as it is stored.
-use Rattle.std.proofs.Common.{◌≡◌, inl, inr, ℕ, ◌+◌, ◌*◌, ◌-◌, ◌≤◌, List, [], ◌∷◌, ◌++◌, length, flat_map, take, drop, sym, ap, ◌∙◌, subst, arith, append_assoc}
+use Rattle.std.proofs.Common.{◌≡◌, inl, inr, ℕ, ◌+◌, ◌*◌, ◌-◌, ◌≤◌, List, [], ◌∷◌, ◌++◌, length, flat_map, take, drop, refl, sym, ap, ◌∙◌, subst, arith, append_assoc}
 use Rattle.std.specs.List.{AllZip}
+use Rattle.std.specs.Prelude.{All}
+use Rattle.std.proofs.lemmas.List.Elements.{All-nil, All-cons}
+use Rattle.std.proofs.lemmas.List.Sums.{sum_by-cons}
 use Rattle.std.proofs.lemmas.List.{drop-drop, length-append}
 use Rattle.xet_base.specs.declared.error.CoreError.{CoreError}
 use Rattle.xet_base.specs.Source.{Source, ReadsBytes, FailedBy, bytes_left}
@@ -14,7 +17,6 @@ use Rattle.xet_records.specs.declared.record_reader.FormatVersion.TheVariants.{V
 use Rattle.xet_records.specs.declared.xorb_structs.MDBXorbInfo.{MDBXorbInfo}
 use Rattle.xet_records.specs.declared.xorb_structs.XorbChunkSequenceHeader.{XorbChunkSequenceHeader}
 use Rattle.xet_records.specs.FileRecord.{file_records}
-use Rattle.xet_records.specs.Limits.{MAX_ROWS}
 use Rattle.xet_records.specs.XorbRecord.{xorb_records}
 use Rattle.xet_records.specs.RecordKind.{RecordKind, in_version, KindLaws}
 use Rattle.xet_records.specs.Reading.{ReadsBookend, HasRead}
@@ -23,13 +25,12 @@ use Rattle.xet_records.proofs.RecordKinds.{file_laws, laws_in, length-record_byt
 use Rattle.xet_records.proofs.SectionRecords.{nothing_read, more_read}
 use Rattle.xet_shards.specs.declared.shard_format.read.stored_section.PlacedRecord.{PlacedRecord}
 use Rattle.xet_shards.specs.declared.shard_format.read.stored_section.StoredSection.{StoredSection}
-use Rattle.xet_shards.specs.declared.shard_format.read.stored_section.StoredShard.{StoredShard}
 use Rattle.xet_shards.specs.Ends.Ends.{HasHeader}
 use Rattle.xet_shards.specs.Export.KeyedExport.{BadSection, SectionsCase, xorbs_after}
 use Rattle.xet_shards.specs.Export.KeyedExport.SectionsCase.{bad_xorbs}
 use Rattle.xet_shards.specs.Export.Rewriting.{HasSections}
 use Rattle.xet_shards.specs.Read.SectionReading.{IsSection}
-use Rattle.xet_shards.specs.Read.StoredSection.{StoresRecord, StoresSection, ReadsStored, StoresShard}
+use Rattle.xet_shards.specs.Read.StoredSection.{rows_in, HasItsRows, StoresRecord, StoresSection, ReadsStored, StoresSections}
 use Rattle.xet_shards.specs.Steps.SectionReading.{ReadsNext, RecordFails}
 use Rattle.xet_shards.specs.Write.Section.{total_rows}
 use Rattle.xet_shards.proofs.Read.SectionReading.{section_passed, section_fails}
@@ -122,13 +123,30 @@ module _ {H R : Type 0} (K : RecordKind H R) (laws : KindLaws K) (version : Form
       of_cause (inl failed) = absurd (omega (arith, works, failed.0))
       of_cause (inr (same, bad)) = subst (λ bs. BadSection K' bs e) is bad
 
+-- the rows of records as they are stored are there
+pub rows_stored : {H R : Type 0} (K : RecordKind H R) (laws : KindLaws K) (placed : List (PlacedRecord H)) (rs : List R) → AllZip (StoresRecord K) placed rs
+    → All (λ (p : PlacedRecord H). 48 * K.rows_after p.header ≤ length p.rows.now) placed × (rows_in K placed ≡ total_rows K rs)
+rows_stored K laws [] [] places = (All-nil _, refl)
+rows_stored K laws [] (r ∷ rs) places = absurd places
+rows_stored K laws (p ∷ placed) [] places = absurd places
+rows_stored {H} K laws (p ∷ placed) (r ∷ rs) (here, others) =
+    let rest = rows_stored K laws placed rs others in
+    let rows = ap K.rows_after here.header_is in (
+      All-cons (λ (q : PlacedRecord H). 48 * K.rows_after q.header ≤ length q.rows.now) p placed
+          (omega (arith, ap length here.rows_are, length-append (K.bytes_after r) here.rest, laws.size_after r here.is_stored, rows)) rest.0,
+      omega (arith, sum_by-cons (λ (q : PlacedRecord H). 1 + K.rows_after q.header) p placed, sum_by-cons K.row_count r rs, laws.rows r here.is_stored, rows, rest.1),
+    )
+
 -- the size of the bytes of records
 module _ {H R : Type 0} (K : RecordKind H R) (laws : KindLaws K) (section : StoredSection H) (rs : List R) (stores : StoresSection K section rs) where
-  pub section_size : length section.bytes.now ≡ 48 * total_rows K rs
+  section_size : length section.bytes.now ≡ 48 * total_rows K rs
   section_size = ap length stores.bytes_are ∙ length-all_record_bytes K.record_bytes K.row_count K.IsStored (length-record_bytes K laws) rs stores.fits.stored
 
-  pub section_small : length section.bytes.now ≤ 48 * MAX_ROWS
-  section_small = omega (arith, section_size, stores.fits.rows)
+  -- their rows are there
+  pub has_its_rows : HasItsRows K section
+  has_its_rows =
+      let there = rows_stored K laws section.records.items rs stores.records in
+      ((there.0, omega (arith, there.1, stores.fits.rows)), omega (arith, section_size, there.1))
 
 -- the files of a shard were read
 module _ (bytes : List ℕ) (header : HasHeader bytes) (files : StoredSection FileDataSequenceHeader) (read : ReadsStored file_records header.version (drop 48 bytes) files) where
@@ -140,14 +158,10 @@ module _ (bytes : List ℕ) (header : HasHeader bytes) (files : StoredSection Fi
 
   -- and its xorbs after them
   pub shard_stored : (after : List ℕ) → after ≡ drop (xorbs_after read.0) bytes → (xorbs : StoredSection XorbChunkSequenceHeader) → ReadsStored xorb_records V3 after xorbs
-      → (shard : StoredShard) → shard.files ≡ files → shard.xorbs ≡ xorbs
-      → (fs : List MDBFileInfo) × (xs : List MDBXorbInfo) × HasSections bytes fs xs × StoresShard shard fs xs
-  shard_stored after is xorbs further shard files_are xorbs_are = (
+      → (fs : List MDBFileInfo) × (xs : List MDBXorbInfo) × HasSections bytes fs xs × StoresSections files xorbs fs xs
+  shard_stored after is xorbs further = (
     read.0,
     further.0,
     record { header = header; file_section = read.1; xorb_section = subst (λ bs. IsSection xorb_records bs further.0) is further.1 },
-    record {
-      file_section = subst (λ s. StoresSection file_records s read.0) (sym files_are) read.2;
-      xorb_section = subst (λ s. StoresSection xorb_records s further.0) (sym xorbs_are) further.2;
-    },
+    record { file_section = read.2; xorb_section = further.2 },
   )

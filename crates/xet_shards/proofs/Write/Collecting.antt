@@ -1,8 +1,8 @@
 -- The rows of records that stay where they are, and what is collected of them.
 use Rattle.std.proofs.Common.{◌≡◌, true, ℕ, ◌+◌, ◌*◌, ◌<◌, ◌≤◌, List, [], ◌∷◌, ◌++◌, length, map, flat_map, take, drop, get_or, Some, refl, sym, ap, ◌∙◌, subst, arith, append_assoc}
 use Rattle.std.specs.List.{AllZip, slice_get}
-use Rattle.std.proofs.lemmas.List.{length-append, map-append, take-append-drop, take_all, take_more}
-use Rattle.std.proofs.lemmas.List.Sums.{sum_by-append, sum_by_push}
+use Rattle.std.proofs.lemmas.List.{map-append, take_all, take_more}
+use Rattle.std.proofs.lemmas.List.Sums.{sum_by_more, sum_by-drop_more, sum_by-take-drop}
 use Rattle.std.proofs.lemmas.Option.{get_or_from_slice_get, slice_get_within}
 use Rattle.xet_records.specs.declared.file_structs.header.FileDataSequenceHeader.{FileDataSequenceHeader}
 use Rattle.xet_records.specs.declared.file_structs.MDBFileInfo.{MDBFileInfo}
@@ -12,18 +12,17 @@ use Rattle.xet_records.specs.FileRecord.{file_records, file_rows_bytes, rows_aft
 use Rattle.xet_records.specs.FileRow.{hash_row, segment_row}
 use Rattle.xet_records.specs.Limits.{MAX_ROWS}
 use Rattle.xet_records.specs.Part.{optional_rows}
-use Rattle.xet_records.specs.RecordKind.{RecordKind, KindLaws}
+use Rattle.xet_records.specs.RecordKind.{RecordKind}
 use Rattle.xet_records.specs.Rows.{ReadsRow}
 use Rattle.xet_records.specs.XorbRecord.{xorb_records}
 use Rattle.xet_records.proofs.RecordKinds.{file_laws}
-use Rattle.xet_records.proofs.RowsWithin.{HasRows, RowLaws, length-rows, row_at_index}
+use Rattle.xet_records.proofs.RowsWithin.{HasRows, RowLaws, row_at_index}
 use Rattle.xet_shards.specs.declared.shard_format.read.stored_section.PlacedRecord.{PlacedRecord}
 use Rattle.xet_shards.specs.declared.shard_format.write.written.WrittenXorbs.{WrittenXorbs}
-use Rattle.xet_shards.specs.Read.StoredSection.{StoresRecord}
+use Rattle.xet_shards.specs.Read.StoredSection.{rows_in, HaveTheirRows, StoresRecord}
 use Rattle.xet_shards.specs.Steps.Collecting.{BeginsWithRows, BeginsWithSegments, BeginsWithChunks}
 use Rattle.xet_shards.specs.Steps.Tables.{AddsChunkRows}
 use Rattle.xet_shards.specs.Write.Copying.{CollectsRecord}
-use Rattle.xet_shards.specs.Write.Section.{total_rows}
 use Rattle.xet_shards.specs.Write.Written.{AddsRecord, IsFileOf, HasWrittenXorbs}
 use Rattle.xet_shards.proofs.Read.Zipped.{zip_at, zipped_length}
 use Rattle.xet_shards.proofs.Write.Written.{xorb_written}
@@ -32,9 +31,6 @@ use Rattle.xet_shards.proofs.Write.Written.{xorb_written}
 module _ {T : Type 0} (row_bytes : T → List ℕ) (Fits : T → Type 0) (laws : RowLaws row_bytes Fits) (bytes : List ℕ) (count : ℕ) (rows : List T) (begins : BeginsWithRows row_bytes Fits bytes count rows) where
   has_rows : HasRows row_bytes Fits bytes 0 rows
   has_rows = record { before = []; after = begins.rest; start_is = refl; fit = begins.fit; bytes_are = begins.bytes_are }
-
-  pub rows_there : 48 * count ≤ length bytes
-  rows_there = omega (arith, ap length begins.bytes_are, length-append (flat_map row_bytes rows) begins.rest, length-rows row_bytes Fits laws rows begins.fit, begins.count_is)
 
   -- the one at an index
   pub row_there : (i : ℕ) (row : T) → i < count → ReadsRow row_bytes Fits (λ t. t) (λ taken. taken ≡ take 48 (drop (48 * i) bytes)) row → slice_get rows i ≡ Some row
@@ -94,6 +90,30 @@ module _ (p : PlacedRecord XorbChunkSequenceHeader) (r : MDBXorbInfo) (there : S
       (bytes ∙ ap (λ (h : XorbChunkSequenceHeader). v.stored_bytes + h.num_bytes_in_xorb) there.header_is)
       (bytes_on_disk ∙ ap (λ (h : XorbChunkSequenceHeader). v.stored_bytes_on_disk + h.num_bytes_on_disk) there.header_is)
 
+-- records whose rows are there
+module _ {H R : Type 0} (K : RecordKind H R) (placed : List (PlacedRecord H)) (i : ℕ) (p : PlacedRecord H) (at : slice_get placed i ≡ Some p) where
+  below : i < length placed
+  below = slice_get_within placed i p at
+
+  is : get_or placed i p ≡ p
+  is = get_or_from_slice_get placed i p p at
+
+  abbrev rows_of : PlacedRecord H → ℕ
+  rows_of q = 1 + K.rows_after q.header
+
+  -- so are those of one of them
+  pub rows_at : HaveTheirRows K placed → 48 * K.rows_after p.header ≤ length p.rows.now
+  rows_at have = subst (λ (q : PlacedRecord H). 48 * K.rows_after q.header ≤ length q.rows.now) is (have.0 i p below)
+
+  pub rows_more : rows_in K (take (i + 1) placed) ≡ rows_in K (take i placed) + (1 + K.rows_after p.header)
+  rows_more = sum_by_more rows_of placed i p below ∙ ap (λ q. rows_in K (take i placed) + rows_of q) is
+
+  pub rows_less : rows_in K (drop i placed) ≡ (1 + K.rows_after p.header) + rows_in K (drop (i + 1) placed)
+  rows_less = sum_by-drop_more rows_of placed i p below ∙ ap (λ q. rows_of q + rows_in K (drop (i + 1) placed)) is
+
+  pub next_has_room : HaveTheirRows K placed → (rows : ℕ) → rows ≡ rows_in K (take i placed) → rows + (1 + K.rows_after p.header) ≤ MAX_ROWS
+  next_has_room have rows counted = omega (arith, counted, have.1, rows_less, sum_by-take-drop rows_of placed i)
+
 -- the front of a list of records is collected
 module _ {H R : Type 0} (K : RecordKind H R) (placed : List (PlacedRecord H)) (rs : List R) (places : AllZip (StoresRecord K) placed rs) where
   -- as they are stored, and as reading returns them
@@ -105,18 +125,11 @@ module _ {H R : Type 0} (K : RecordKind H R) (placed : List (PlacedRecord H)) (r
     abbrev pub next_there : (r : R) × StoresRecord K p r
     next_there = ((zip_at (StoresRecord K) placed rs i p places at).0, (zip_at (StoresRecord K) placed rs i p places at).2)
 
-    next_at : slice_get rs i ≡ Some next_there.0
+    pub next_at : slice_get rs i ≡ Some next_there.0
     next_at = (zip_at (StoresRecord K) placed rs i p places at).1
 
-    one_more : take (i + 1) rs ≡ take i rs ++ next_there.0 ∷ []
+    pub one_more : take (i + 1) rs ≡ take i rs ++ next_there.0 ∷ []
     one_more = take_more rs i next_there.0 (slice_get_within rs i next_there.0 next_at) ∙ ap (λ y. take i rs ++ y ∷ []) (get_or_from_slice_get rs i next_there.0 next_there.0 next_at)
-
-    -- there is room for the next
-    pub next_has_room : KindLaws K → (rows : ℕ) → rows ≡ total_rows K (take i rs) → total_rows K rs ≤ MAX_ROWS → rows + (1 + K.rows_after p.header) ≤ MAX_ROWS
-    next_has_room laws rows counted few =
-        let all : total_rows K rs ≡ total_rows K (take (i + 1) rs) + total_rows K (drop (i + 1) rs) = ap (total_rows K) (sym (take-append-drop (i + 1) rs)) ∙ sum_by-append K.row_count (take (i + 1) rs) (drop (i + 1) rs) in
-        let next : total_rows K (take (i + 1) rs) ≡ total_rows K (take i rs) + K.row_count next_there.0 = ap (total_rows K) one_more ∙ sum_by_push K.row_count (take i rs) next_there.0 in
-        omega (arith, counted, few, all, next, laws.rows next_there.0 next_there.1.is_stored, ap K.rows_after next_there.1.header_is)
 
     pub collecting_on : (Before After : List R → Type 0) → IsCollecting i Before → CollectsRecord K p Before After → IsCollecting (i + 1) After
     collecting_on Before After before collects = record {

@@ -1,18 +1,20 @@
 -- Sections in memory as they are stored: each record stays where it is.
-use Rattle.std.specs.Prelude.{◌≡◌, ℕ, List, ◌++◌, flat_map, Option, None, MatchOption}
+use Rattle.std.specs.Prelude.{◌≡◌, ℕ, ◌+◌, ◌*◌, ◌≤◌, List, ◌++◌, length, flat_map, sum_by, All, Option, None, MatchOption}
 use Rattle.std.specs.List.{AllZip}
 use Rattle.xet_base.specs.declared.source.MemorySource.{MemorySource}
 use Rattle.xet_base.specs.Source.{Source, ReadsBytes}
 use Rattle.xet_records.specs.declared.file_structs.MDBFileInfo.{MDBFileInfo}
+use Rattle.xet_records.specs.declared.file_structs.header.FileDataSequenceHeader.{FileDataSequenceHeader}
 use Rattle.xet_records.specs.declared.record_reader.FormatVersion.{FormatVersion}
 use Rattle.xet_records.specs.declared.xorb_structs.MDBXorbInfo.{MDBXorbInfo}
+use Rattle.xet_records.specs.declared.xorb_structs.XorbChunkSequenceHeader.{XorbChunkSequenceHeader}
 use Rattle.xet_records.specs.FileRecord.{file_records}
+use Rattle.xet_records.specs.Limits.{MAX_ROWS}
 use Rattle.xet_records.specs.Reading.{ReadsEnd}
 use Rattle.xet_records.specs.RecordKind.{RecordKind, in_version}
 use Rattle.xet_records.specs.XorbRecord.{xorb_records}
 use Rattle.xet_shards.specs.declared.shard_format.read.stored_section.PlacedRecord.{PlacedRecord}
 use Rattle.xet_shards.specs.declared.shard_format.read.stored_section.StoredSection.{StoredSection}
-use Rattle.xet_shards.specs.declared.shard_format.read.stored_section.StoredShard.{StoredShard}
 use Rattle.xet_shards.specs.Read.SectionReading.{IsSection}
 use Rattle.xet_shards.specs.Steps.SectionReading.{ReadsNext}
 use Rattle.xet_shards.specs.Write.WithOptions.{FitsSection}
@@ -22,6 +24,21 @@ abbrev pub in_memory : MemorySource → Source
 in_memory m = record { bytes = m.bytes.now; at = m.at; seeks = m.seeks.value; read = m.read.value; failures = 0; last_failure = None }
 
 module _ {H R : Type 0} (K : RecordKind H R) where
+  -- the rows of records that stay where they are, headers included
+  abbrev pub rows_in : List (PlacedRecord H) → ℕ
+  rows_in = sum_by (λ p. 1 + K.rows_after p.header)
+
+  -- the rows after each header are there, and all rows are no more than a section may have
+  abbrev pub HaveTheirRows : List (PlacedRecord H) → Type 0
+  HaveTheirRows placed =
+      All (λ p. 48 * K.rows_after p.header ≤ length p.rows.now) placed × (rows_in placed ≤ MAX_ROWS)
+
+  -- and the bytes of a section are as many rows
+  abbrev pub HasItsRows : StoredSection H → Type 0
+  HasItsRows section =
+      HaveTheirRows section.records.items
+      × (length section.bytes.now ≡ 48 * rows_in section.records.items)
+
   -- a header, and bytes from the rows after it on, are those of a record as it is stored
   pub record StoresRecord (p : PlacedRecord H) (r : R) : Type 0 where
     pub is_stored : K.IsStored r
@@ -47,8 +64,9 @@ module _ {H R : Type 0} (K : RecordKind H R) where
       (λ p. (r : R) × (next : ReadsNext (in_version K version) old new left after r)
       × StoresRecord p next.reads.stored)
 
--- these are the records of the sections of a shard, as they are stored
-pub record StoresShard (shard : StoredShard) (files : List MDBFileInfo) (xorbs : List MDBXorbInfo)
+-- these are the records of both sections of a shard, as they are stored
+pub record StoresSections (files : StoredSection FileDataSequenceHeader)
+    (xorbs : StoredSection XorbChunkSequenceHeader) (fs : List MDBFileInfo) (xs : List MDBXorbInfo)
     : Type 0 where
-  pub file_section : StoresSection file_records shard.files files
-  pub xorb_section : StoresSection xorb_records shard.xorbs xorbs
+  pub file_section : StoresSection file_records files fs
+  pub xorb_section : StoresSection xorb_records xorbs xs

@@ -1,11 +1,12 @@
-//! Copying shards: record by record, for keyed exports, and by whole sections, for other layout
-//! options and for concatenation.
+//! Copying shards: record by record, for keyed exports and for other layout options, and by whole
+//! sections, for concatenation.
 //!
 //! The loop of an export, `export_section`, is over the trait `ExportedRecord`: of files it reads a
 //! view of each, and `write_file_view` writes its bytes and adds its row; of xorbs it reads each,
 //! replaces its chunk hashes in the same memory and writes it. It holds one record at a time, and
 //! the rows of the tables. The loop's invariant is `HasExported`: the records that were read, and
-//! what was made of them.
+//! what was made of them. `rewriting` copies each record of a shard in memory, and collects what the
+//! tables need of it.
 //!
 //! Concatenation is `in_a_row`. `split_shard` cuts each shard into its sections and tables,
 //! `gather` adds up their sizes, and `check_order` compares the last hash of each with the first of

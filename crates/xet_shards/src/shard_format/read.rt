@@ -25,5 +25,6 @@ pub(super) mod file_ranges;
 pub(super) mod section_reader;
 pub(super) mod section_walk;
 pub(crate) mod stored_section;
+pub(crate) mod stored_shard;
 pub(super) mod table_reader;
 pub(super) mod truncated_hashes;

@@ -3,9 +3,9 @@ use Rattle.std.proofs.lemmas.Result.{IfOk-weaker}
 use Rattle.xet_core_structures.specs.FileRecord.{file_records, file_records_in}
 use Rattle.xet_core_structures.specs.KeyedExport.{BadSection, xorbs_after}
 use Rattle.xet_core_structures.specs.XorbRecord.{xorb_records}
-use Rattle.xet_records.proofs.RecordKinds.{file_laws}
+use Rattle.xet_records.proofs.RecordKinds.{file_laws, xorb_laws}
 use Rattle.xet_shards.specs.Read.StoredSection.{ReadsStored}
-use Rattle.xet_shards.proofs.Read.StoredSections.{section_small, xorbs_left, shard_stored}
+use Rattle.xet_shards.proofs.Read.StoredSections.{has_its_rows, xorbs_left, shard_stored}
 use Rattle.shard_bytes.specs.declared.check.Section.TheVariants.{Files, Xorbs}
 use Rattle.shard_bytes.specs.Steps.Checking.{IsReport, IsUnreadable, AddsDisorder, hashes_at}
 use Rattle.shard_bytes.proofs.Checking.{header_in, report_of}
@@ -26,11 +26,6 @@ returns-in-Err-clause-report c =
 abbrev the_files : (c : In-Ok) → ReadsStored file_records (header_in c.args.bytes.now c.args.info.now c.requires).version (drop 48 c.args.bytes.now) c.in-Ok.files
 the_files c = subst (λ p. p) (λ i. ReadsStored file_records (c.of_header-version.ensures i) (c.bytes_from-from_files.ensures i) c.in-Ok.files) c.in-Ok.ensures
 
-pub end_of_section-requires : goal.end_of_section-requires
-end_of_section-requires c =
-    let files = the_files (goal.at.end_of_section-requires c).In-Ok in
-    section_small file_records file_laws c.in-Ok.files files.0 files.2
-
 -- what comes after them
 after_files : (c : In-Ok) (end : ℕ) (after : List ℕ) → end ≡ length c.in-Ok.files.bytes.now + 48 → after ≡ drop end c.bytes_from-from_files.result.now → after ≡ drop (xorbs_after (the_files c).0) c.args.bytes.now
 after_files c end after end_is after_is =
@@ -46,6 +41,16 @@ returns-in-Err-read_stored_section-clause-report c =
     (λ found unreadable. xorbs_unread bytes c.args.info.now c.requires c.in-Ok.files (the_files f) c.bytes_from-from_xorbs.result.now after e found.items c.in-Err-read_stored_section.ensures unreadable)
     c.section_findings-in-Err-read_stored_section.ensures.report
 
+pub invariant_of-shard : goal.invariant_of-shard
+invariant_of-shard c =
+    let f = (goal.at.invariant_of-shard c).In-Ok in
+    let files = the_files f in
+    let xorbs = c.in-Ok-read_stored_section.ensures in
+    record {
+      file_rows = has_its_rows file_records file_laws c.in-Ok.files files.0 files.2;
+      xorb_rows = has_its_rows xorb_records xorb_laws c.in-Ok-read_stored_section.xorbs xorbs.0 xorbs.2;
+    }
+
 pub returns-clause-report : goal.returns-clause-report
 returns-clause-report c =
     let f = (goal.at.returns-clause-report c).In-Ok in
@@ -54,7 +59,7 @@ returns-clause-report c =
     let files = c.in-Ok.files in
     let xorbs = c.in-Ok-read_stored_section.xorbs in
     let after = after_files f c.end_of_section.result c.bytes_from-from_xorbs.result.now c.end_of_section.ensures c.bytes_from-from_xorbs.ensures in
-    let both = shard_stored bytes (header_in bytes info c.requires) files (the_files f) c.bytes_from-from_xorbs.result.now after xorbs c.in-Ok-read_stored_section.ensures (record { files = files; xorbs = xorbs }) refl refl in
+    let both = shard_stored bytes (header_in bytes info c.requires) files (the_files f) c.bytes_from-from_xorbs.result.now after xorbs c.in-Ok-read_stored_section.ensures in
     let stored_files = both.3.file_section in
     let stored_xorbs = both.3.xorb_section in
     report_of bytes info c.requires (hashes_at file_records files) (hashes_at xorb_records xorbs) both.0 both.1 both.2 (hashes_are file_records files both.0 stored_files) (hashes_are xorb_records xorbs both.1 stored_xorbs)

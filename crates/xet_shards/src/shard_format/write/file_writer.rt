@@ -32,6 +32,7 @@ impl WrittenFiles {
         ensures written { OnOk result
             ((before : List MDBFileInfo) → (file : MDBFileInfo) → HasWritten self.old before
             → IsFileOf word rows bytes file → HasWritten self.new (before ++ file ∷ [])) }
+        ensures rows { OnOk result (self.new.table.rows ≡ self.old.table.rows + rows) }
         ensures causes { IfErr result (λ e. e ≡ CoreError.OutOfMemory) }
     {
         self.table.add(word, rows)?;

@@ -1,14 +1,13 @@
 //! What is collected while the sections of a shard are written.
 
-ghost use Rattle.std.specs.Prelude.{◌≡◌, ◌≢◌, ℕ, ◌+◌, ◌*◌, ◌≤◌, List, [], ◌∷◌, ◌++◌, OnOk, IfErr, MatchResult, IsTrue, ◌↔◌};
-ghost use Rattle.std.specs.List.{AllZip};
+ghost use Rattle.std.specs.Prelude.{◌≡◌, ◌≢◌, ℕ, ◌+◌, ◌*◌, ◌≤◌, List, [], ◌∷◌, ◌++◌, length, OnOk, IfErr, MatchResult, IsTrue, ◌↔◌};
 ghost use Rattle.std.specs.Io.KnownBytes.{Appends};
 ghost use Rattle.xet_base.specs.declared.error.CoreError.{CoreError};
 ghost use Rattle.xet_base.specs.Errors.{IsWriteError};
 ghost use Rattle.xet_base.specs.Hash.{all_ones};
 ghost use Rattle.xet_records.specs.Copying.{CopyFails};
 ghost use Rattle.xet_shards.specs.Write.Section.{total_rows};
-ghost use Rattle.xet_shards.specs.Read.StoredSection.{StoresRecord};
+ghost use Rattle.xet_shards.specs.Read.StoredSection.{HaveTheirRows};
 ghost use Rattle.xet_shards.specs.Write.Copying.{CopiesRecord, CollectsRecord, CollectsAll};
 ghost use Rattle.xet_records.specs.Limits.{MAX_ROWS};
 
@@ -79,12 +78,15 @@ pub trait WrittenSection {
         &mut self,
         placed: &PlacedRecord<'_, <Self::Record as SectionRecord>::Header>,
     ) -> Result<()>
-        requires there { (r : Self.Record) × StoresRecord Self.Record.kind placed.now r }
+        requires there { 48 * Self.Record.kind.rows_after placed.now.header
+            ≤ length placed.now.rows.now }
         requires rows { rows self.old + (1 + Self.Record.kind.rows_after placed.now.header)
             ≤ MAX_ROWS }
         ensures collected { OnOk result
             (CollectsRecord Self.Record.kind placed.now (has_written self.old)
             (has_written self.new)) }
+        ensures more { OnOk result (rows self.new
+            ≡ rows self.old + (1 + Self.Record.kind.rows_after placed.now.header)) }
         ensures causes { IfErr result (λ e. e ≡ CoreError.OutOfMemory) };
 
     /// Writes the bookend, which ends the section. The error is the writer's.
@@ -104,8 +106,7 @@ pub fn collect_records<Sec: WrittenSection + Drop>(
     alloc: Global,
     placed: &[PlacedRecord<'_, <Sec::Record as SectionRecord>::Header>],
 ) -> Result<Sec>
-    requires { (rs : List Sec.Record) × AllZip (StoresRecord Sec.Record.kind) placed.now rs
-        × (total_rows Sec.Record.kind rs ≤ MAX_ROWS) }
+    requires { HaveTheirRows Sec.Record.kind placed.now }
     ensures { MatchResult result
         (λ written. CollectsAll Sec.Record.kind placed.now (Sec.has_written written))
         (λ e. e ≡ CoreError.OutOfMemory) }

@@ -3,6 +3,7 @@ use Rattle.xet_records.specs.FileRecord.{file_records}
 use Rattle.xet_records.specs.XorbRecord.{xorb_records}
 use Rattle.xet_records.proofs.RecordKinds.{file_laws, xorb_laws}
 use Rattle.xet_shards.specs.Write.Written.{HasWritten, HasWrittenXorbs}
+use Rattle.xet_shards.proofs.Read.StoredSections.{rows_stored}
 use Rattle.xet_core_structures.specs.Steps.ByteResults.{WritesEnd}
 use Rattle.xet_core_structures.specs.Steps.Placed.{PlacesAll}
 use Rattle.xet_core_structures.proofs.Trees.Filling.{frame_made}
@@ -14,14 +15,16 @@ collect_records-requires c =
     let may = c.requires.1 in
     let rs = c.requires.0.files in
     let stored = stored_at_all file_records file_laws c.as_slice.result.now rs (subst (λ l. PlacesAll file_records l rs) (sym c.as_slice.ensures.value) may.places.files) in
-    (stored.0, stored.1, omega (arith, stored_rows file_records file_laws stored.0 rs stored.2, may.files.rows))
+    let there = rows_stored file_records file_laws c.as_slice.result.now stored.0 stored.1 in
+    (there.0, omega (arith, there.1, stored_rows file_records file_laws stored.0 rs stored.2, may.files.rows))
 
 pub collect_records-requires-2 : goal.collect_records-requires-2
 collect_records-requires-2 c =
     let may = c.requires.1 in
     let rs = c.requires.0.xorbs in
     let stored = stored_at_all xorb_records xorb_laws c.as_slice-2.result.now rs (subst (λ l. PlacesAll xorb_records l rs) (sym c.as_slice-2.ensures.value) may.places.xorbs) in
-    (stored.0, stored.1, omega (arith, stored_rows xorb_records xorb_laws stored.0 rs stored.2, may.xorbs.rows))
+    let there = rows_stored xorb_records xorb_laws c.as_slice-2.result.now stored.0 stored.1 in
+    (there.0, omega (arith, there.1, stored_rows xorb_records xorb_laws stored.0 rs stored.2, may.xorbs.rows))
 
 pub returns : goal.returns
 returns c = λ records may.

@@ -21,7 +21,9 @@ returns-clause-bytes g c =
     let end = contents c.write_end.new.writer in
     let header = subst (λ x. Appends start after_header (shard_header_bytes x)) c.of_version.ensures c.in_ok-serialize.ensures.bytes in
     on_ok_weaker c.write_end.result
-    (λ (ends : (rs : List MDBFileInfo) → (xs : List MDBXorbInfo) → All FitsRecord rs → HasWritten c.args.files.now rs → HasWrittenFor options.chunk_table c.args.xorbs xs → Appends after_xorbs end (end_of_layout rs xs options)) rs xs stores files xorbs.
-    whole_layout start after_header (contents c.write_section.new.writer) after_xorbs end rs xs options header (c.in_ok-write_section.ensures rs stores.file_section.bytes_are) (c.in_ok-write_section-2.ensures xs stores.xorb_section.bytes_are)
-    (ends rs xs (λ k r below. (stores.file_section.fits.stored k r below).widths) files (written_for options.chunk_table c.args.xorbs xs xorbs)))
+    (λ (ends : (rs : List MDBFileInfo) → (xs : List MDBXorbInfo) → All FitsRecord rs → HasWritten c.in_ok-files.files rs → HasWrittenFor options.chunk_table c.in_ok-xorbs.xorbs xs → Appends after_xorbs end (end_of_layout rs xs options)) rs xs stores.
+    let files = c.in_ok-files.ensures rs stores.file_section in
+    let xorbs = c.in_ok-xorbs.ensures xs stores.xorb_section in
+    whole_layout start after_header (contents c.write_section.new.writer) after_xorbs end rs xs options header files.1 xorbs.1
+    (ends rs xs (λ k r below. (stores.file_section.fits.stored k r below).widths) files.0 (written_for options.chunk_table c.in_ok-xorbs.xorbs xs xorbs.0)))
     c.write_end.ensures.bytes

@@ -1,18 +1,10 @@
 use Rattle.std.proofs.Common.{◌+◌, ◌++◌, [], ◌∷◌, List, ap}
 use Rattle.std.proofs.lemmas.Result.{on_ok_weaker}
 use Rattle.xet_records.specs.declared.file_structs.MDBFileInfo.{MDBFileInfo}
-use Rattle.xet_records.specs.FileRow.{FitsSegment, segment_row}
 use Rattle.xet_records.specs.FileRecord.{file_records}
-use Rattle.xet_records.proofs.RowsWithin.{segment_laws}
 use Rattle.xet_shards.specs.Write.Written.{IsFileOf, HasWritten}
-use Rattle.xet_shards.proofs.Write.Collecting.{segments_first, file_at, read_file_at, rows_there}
+use Rattle.xet_shards.proofs.Write.Collecting.{segments_first, file_at, read_file_at}
 use Rattle.xet_shards.proofs.shard_format.write.file_writer.WrittenFilesWrittenSection.collect.Goals as goal
-
-pub size_of_segments-size-requires : goal.size_of_segments-size-requires
-size_of_segments-size-requires c =
-    let p = c.args.placed.now in
-    let r = c.requires.there in
-    rows_there segment_row FitsSegment segment_laws p.rows.now p.header.num_entries r.0.segments (segments_first p r.0 r.1)
 
 pub returns-clause-collected : goal.returns-clause-collected
 returns-clause-collected c =

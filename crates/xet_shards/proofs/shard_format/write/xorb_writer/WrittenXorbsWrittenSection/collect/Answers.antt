@@ -1,18 +1,10 @@
 use Rattle.std.proofs.Common.{List, subst}
 use Rattle.std.proofs.lemmas.Result.{on_ok_weaker}
-use Rattle.xet_records.specs.XorbRow.{FitsChunk, chunk_row}
 use Rattle.xet_records.specs.declared.xorb_structs.XorbChunkSequenceEntry.{XorbChunkSequenceEntry}
-use Rattle.xet_records.proofs.RowsWithin.{chunk_laws}
 use Rattle.xet_shards.specs.Steps.Collecting.{BeginsWithChunks}
 use Rattle.xet_shards.specs.Steps.Tables.{AddsChunkRows}
-use Rattle.xet_shards.proofs.Write.Collecting.{chunks_first, xorb_at, rows_there}
+use Rattle.xet_shards.proofs.Write.Collecting.{chunks_first, xorb_at}
 use Rattle.xet_shards.proofs.shard_format.write.xorb_writer.WrittenXorbsWrittenSection.collect.Goals as goal
-
-pub collect_rows_of-requires : goal.collect_rows_of-requires
-collect_rows_of-requires c =
-    let p = c.args.placed.now in
-    let r = c.requires.there in
-    rows_there chunk_row FitsChunk chunk_laws p.rows.now p.header.num_entries r.0.chunks (chunks_first p r.0 r.1)
 
 pub returns-clause-collected : goal.returns-clause-collected
 returns-clause-collected c =

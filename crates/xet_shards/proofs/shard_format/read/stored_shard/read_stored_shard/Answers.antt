@@ -1,10 +1,11 @@
-use Rattle.std.proofs.Common.{◌≡◌, ℕ, ◌+◌, List, drop, length, refl, sym, ap, ◌∙◌, subst}
+use Rattle.std.proofs.Common.{◌≡◌, ℕ, ◌+◌, List, drop, length, sym, ap, ◌∙◌, subst}
 use Rattle.std.proofs.lemmas.Result.{err_from_is_err_and}
 use Rattle.xet_base.specs.Source.{Source, ReadsBytes, bytes_left}
 use Rattle.xet_base.proofs.Reading.{ReadsBytes-consumes}
 use Rattle.xet_records.specs.FileRecord.{file_records, file_records_in}
 use Rattle.xet_records.specs.Version.{IsVersion}
-use Rattle.xet_records.proofs.RecordKinds.{file_laws}
+use Rattle.xet_records.specs.XorbRecord.{xorb_records}
+use Rattle.xet_records.proofs.RecordKinds.{file_laws, xorb_laws}
 use Rattle.xet_shards.specs.declared.shard_format.ends.header.MDBShardFileHeader.{MDBShardFileHeader}
 use Rattle.xet_shards.specs.Ends.Ends.{HasHeader}
 use Rattle.xet_shards.specs.Export.KeyedExport.{BadSection, xorbs_after}
@@ -12,9 +13,9 @@ use Rattle.xet_shards.specs.Export.KeyedExport.SectionsCase.{bad_files}
 use Rattle.xet_shards.specs.Read.StoredSection.{in_memory, ReadsStored}
 use Rattle.xet_shards.specs.Write.Layout.{shard_header_bytes}
 use Rattle.xet_shards.proofs.Ends.Loading.{header_of}
-use Rattle.xet_shards.proofs.Read.StoredSections.{section_small, xorbs_left, xorbs_bad, shard_stored}
-use Rattle.xet_shards.proofs.shard_format.read.stored_section.read_stored_shard.Goals as goal
-use Rattle.xet_shards.proofs.shard_format.read.stored_section.read_stored_shard.Goals.{In_ok-files}
+use Rattle.xet_shards.proofs.Read.StoredSections.{has_its_rows, xorbs_left, xorbs_bad, shard_stored}
+use Rattle.xet_shards.proofs.shard_format.read.stored_shard.read_stored_shard.Goals as goal
+use Rattle.xet_shards.proofs.shard_format.read.stored_shard.read_stored_shard.Goals.{In_ok-files}
 
 -- the header of the bytes
 abbrev header_read : (bytes : List ℕ) (old new : Source) (h : MDBShardFileHeader) → bytes_left old ≡ bytes → ReadsBytes old new (shard_header_bytes h) → IsVersion h.version → HasHeader bytes
@@ -39,11 +40,6 @@ returns-in_err-files c =
     rw (p.1, p.2) (bad_files header (subst (λ v. BadSection (file_records_in v) (drop 48 c.args.bytes.now) c.in_err-files.field-0.0) c.format_version-version.ensures
     (subst (λ bs. BadSection (file_records_in c.format_version-version.result) bs c.in_err-files.field-0.0) c.bytes_from-from_files.ensures c.in_err-files.ensures)))
 
-pub end_of_section-requires : goal.end_of_section-requires
-end_of_section-requires c =
-    let files = the_files (goal.at.end_of_section-requires c).In_ok-files in
-    section_small file_records file_laws c.in_ok-files.files files.0 files.2
-
 after_files : (c : In_ok-files) (end : ℕ) (after : List ℕ) → end ≡ length c.in_ok-files.files.bytes.now + 48 → after ≡ drop end c.bytes_from-from_files.result.now → after ≡ drop (xorbs_after (the_files c).0) c.args.bytes.now
 after_files c end after end_is after_is =
     after_is ∙ ap (drop end) c.bytes_from-from_files.ensures ∙ xorbs_left c.args.bytes.now (the_header c) c.in_ok-files.files (the_files c) end end_is
@@ -55,8 +51,17 @@ returns-in_err-xorbs c =
     let p = err_from_is_err_and c.from_residual-in_err-xorbs.result c.from_residual-in_err-xorbs.ensures.1 in
     rw (p.1, p.2) (xorbs_bad c.args.bytes.now (the_header f) c.in_ok-files.files (the_files f) c.bytes_from-from_xorbs.result.now c.in_err-xorbs.field-0.0 after c.in_err-xorbs.ensures)
 
+pub invariant_of-result : goal.invariant_of-result
+invariant_of-result c =
+    let files = the_files (goal.at.invariant_of-result c).In_ok-files in
+    let xorbs = c.in_ok-xorbs.ensures in
+    record {
+      file_rows = has_its_rows file_records file_laws c.in_ok-files.files files.0 files.2;
+      xorb_rows = has_its_rows xorb_records xorb_laws c.in_ok-xorbs.xorbs xorbs.0 xorbs.2;
+    }
+
 pub returns : goal.returns
 returns c =
     let f = (goal.at.returns c).In_ok-files in
     let after = after_files f c.end_of_section.result c.bytes_from-from_xorbs.result.now c.end_of_section.ensures c.bytes_from-from_xorbs.ensures in
-    shard_stored c.args.bytes.now (the_header f) c.in_ok-files.files (the_files f) c.bytes_from-from_xorbs.result.now after c.in_ok-xorbs.xorbs c.in_ok-xorbs.ensures _ refl refl
+    shard_stored c.args.bytes.now (the_header f) c.in_ok-files.files (the_files f) c.bytes_from-from_xorbs.result.now after c.in_ok-xorbs.xorbs c.in_ok-xorbs.ensures
