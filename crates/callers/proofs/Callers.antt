@@ -6,6 +6,7 @@ use Rattle.std.specs.FinMap.{values}
 use Rattle.std.specs.declared.vec.Vec.{Vec}
 use Rattle.std.proofs.lemmas.List.{length-append}
 use Rattle.xet_base.specs.Bytes.{u64_bytes}
+use Rattle.xet_base.specs.MemorySource.{in_memory}
 use Rattle.xet_base.proofs.Bytes.{length-u64_bytes}
 use Rattle.xet_core_structures.specs.declared.error.CoreError.{CoreError}
 use Rattle.xet_core_structures.specs.declared.file_structs.MDBFileInfo.{MDBFileInfo}
@@ -28,10 +29,6 @@ use Rattle.xet_core_structures.specs.Source.{Source, DeviceFailure}
 use Rattle.xet_core_structures.specs.WrittenShard.{IsBytesOf, IsBytesWithInfo, IsBytesWithoutExpiry}
 use Rattle.xet_core_structures.specs.View.{all_with_aux_if}
 use Rattle.callers.specs.Callers.{FindsWithin, export_of, EqualButForTimes}
-
--- what a source in memory is
-abbrev pub in_memory : MemorySource → Source
-in_memory m = record { bytes = m.bytes.now; at = m.at; seeks = m.seeks.value; read = m.read.value; failures = 0; last_failure = None }
 
 -- header and footer were read from the bytes of a shard
 pub as_written : (s : Shard) (old new : Source) (info : MDBShardInfo) → IsBytesOf s old.bytes → Loads old new info → IsBytesWithInfo s new.bytes info

@@ -5,6 +5,7 @@ use Rattle.std.specs.List.{AllZip}
 use Rattle.std.proofs.lemmas.List.{take_more}
 use Rattle.std.specs.declared.vec.Vec.{Vec}
 use Rattle.std.specs.declared.result.Result.{Result}
+use Rattle.xet_base.specs.MemorySource.{in_memory}
 use Rattle.xet_core_structures.specs.declared.shard_format.MDBShardInfo.{MDBShardInfo}
 use Rattle.xet_core_structures.specs.declared.source.MemorySource.{MemorySource}
 use Rattle.xet_core_structures.specs.Ends.{HasHeaderAndFooter}
@@ -21,7 +22,6 @@ use Rattle.xet_records.specs.declared.file_structs.header.FileDataSequenceHeader
 use Rattle.xet_records.specs.Reading.{ReadsNextRecord}
 use Rattle.xet_records.specs.RecordKind.{RecordKind, in_version}
 use Rattle.shard_bytes.specs.Outcomes.{HasOutcome}
-use Rattle.xet_shards.specs.Read.StoredSection.{in_memory}
 use Rattle.mdb_report.specs.FileReports.{HoldsFiles, FilesNotRead}
 use Rattle.mdb_report.specs.Tables.{XorbsNotRead}
 use Rattle.mdb_report.specs.Garbage.{HoldsXorbs}

@@ -3,6 +3,7 @@ use Rattle.std.proofs.Common.{◌≡◌, ◌≢◌, inr, ℕ, List, Ok, Err, ref
 use Rattle.std.specs.Prelude.{MatchResult}
 use Rattle.std.specs.declared.vec.Vec.{Vec}
 use Rattle.std.specs.declared.result.Result.{Result}
+use Rattle.xet_base.specs.MemorySource.{in_memory}
 use Rattle.xet_core_structures.specs.declared.error.CoreError.{CoreError}
 use Rattle.xet_core_structures.specs.declared.shard_format.MDBShardInfo.{MDBShardInfo}
 use Rattle.xet_core_structures.specs.declared.source.MemorySource.{MemorySource}
@@ -10,7 +11,6 @@ use Rattle.xet_core_structures.specs.Ends.{HasHeaderAndFooter, Loads}
 use Rattle.xet_shards.specs.Read.TableReading.{triple_row, FitsTriple, ReadsTable, TableFails}
 use Rattle.xet_shards.specs.Read.TruncatedHashes.{ReadsHashes, HashesFail}
 use Rattle.shard_bytes.specs.ChunkRows.{HasChunkRows, RefusesChunkRows}
-use Rattle.xet_shards.specs.Read.StoredSection.{in_memory}
 
 pub rows_read : {Z : Type 0} (bytes : List ℕ) (info : MDBShardInfo) (start old new : MemorySource) → start.bytes.now ≡ bytes → Loads (in_memory start) (in_memory old) info
     → (result : Result (Vec (ℕ × (ℕ × ℕ)) Z) CoreError)

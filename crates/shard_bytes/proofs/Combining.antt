@@ -1,5 +1,6 @@
 -- What is read of two byte strings in memory is what they are.
 use Rattle.std.proofs.Common.{◌≡◌, ◌⊎◌, inl, inr, ℕ, List, [], ◌++◌, Some, sym, ap, ◌∙◌, subst, arith}
+use Rattle.xet_base.specs.MemorySource.{in_memory}
 use Rattle.xet_core_structures.specs.declared.error.CoreError.{CoreError}
 use Rattle.xet_core_structures.specs.declared.error.CoreError.TheVariants.{OutOfMemory}
 use Rattle.xet_core_structures.specs.declared.shard_format.MDBShardInfo.{MDBShardInfo}
@@ -10,7 +11,6 @@ use Rattle.xet_core_structures.specs.Shard.{Shard}
 use Rattle.xet_core_structures.specs.TwoShards.ByteResults.{keyed_info, keyed_layout, key_of, HaveResult, WritesResult, InputsFail}
 use Rattle.xet_core_structures.specs.TwoShards.Readable.{IsBytesUnderKey}
 use Rattle.xet_core_structures.specs.declared.merklehash.DataHash.{DataHash}
-use Rattle.xet_shards.specs.Read.StoredSection.{in_memory}
 use Rattle.xet_core_structures.proofs.LawProofs.FileLookups.{union_under, difference_under}
 use Rattle.shard_bytes.specs.declared.combine.Operation.{Operation}
 use Rattle.shard_bytes.specs.declared.combine.Operation.TheVariants.{Union, Difference}

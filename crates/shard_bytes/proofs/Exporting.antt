@@ -1,5 +1,6 @@
 -- Exports from a source in memory, made and refused.
 use Rattle.std.proofs.Common.{◌≡◌, ◌⊎◌, inl, inr, ℕ, List, [], ◌++◌, Some, sym, ap, ◌∙◌, subst, arith}
+use Rattle.xet_base.specs.MemorySource.{in_memory}
 use Rattle.xet_core_structures.specs.declared.error.CoreError.{CoreError}
 use Rattle.xet_core_structures.specs.declared.error.CoreError.TheVariants.{InvalidArguments, OutOfMemory}
 use Rattle.xet_core_structures.specs.declared.shard_format.MDBShardInfo.{MDBShardInfo}
@@ -11,7 +12,6 @@ use Rattle.xet_core_structures.specs.Source.{FailedBy, bytes_left, after_seek}
 use Rattle.shard_bytes.specs.declared.export.Export.{Export}
 use Rattle.shard_bytes.specs.Exporting.{ExportsBytes, NotExported, RefusesExport}
 use Rattle.shard_bytes.specs.Steps.Exporting.{WritesExport}
-use Rattle.xet_shards.specs.Read.StoredSection.{in_memory}
 use Rattle.shard_bytes.proofs.MemoryErrors.{from_memory, no_argument}
 use Rattle.xet_core_structures.specs.Errors.{IsWriteError}
 

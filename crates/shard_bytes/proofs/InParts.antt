@@ -2,6 +2,7 @@
 use Rattle.std.proofs.Common.{◌≡◌, inl, inr, ℕ, ◌+◌, ◌*◌, ◌/◌, ◌%◌, ◌^◌, ◌<◌, ◌≤◌, List, length, ◌++◌, drop, Option, None, Some, Ok, Err, sym, ap, ◌∙◌, subst, append_assoc, arith}
 use Rattle.std.specs.Prelude.{IfOk, MatchResult}
 use Rattle.std.proofs.Math.Nat.{div-mul-le_self}
+use Rattle.xet_base.specs.MemorySource.{in_memory}
 use Rattle.xet_core_structures.specs.declared.error.CoreError.{CoreError}
 use Rattle.xet_core_structures.specs.declared.file_structs.MDBFileInfo.{MDBFileInfo}
 use Rattle.xet_core_structures.specs.declared.shard_format.MDBShardInfo.{MDBShardInfo}
@@ -19,7 +20,6 @@ use Rattle.xet_records.proofs.RecordKinds.{version_known}
 use Rattle.xet_records.specs.declared.record_reader.FormatVersion.{FormatVersion}
 use Rattle.shard_bytes.specs.Parts.{table_of, FindsPlaces, FindsRowsIn, HasFileIn, RefusesFileIn, HasXorbIn, RefusesXorbIn, RefusesPlaces, RefusesTableRows}
 use Rattle.shard_bytes.specs.Walking.{HasFileAt, HasXorbAt, IsAtRow, NotAtRow}
-use Rattle.xet_shards.specs.Read.StoredSection.{in_memory}
 
 -- what is read as of a version is read as of its number
 pub of_version : (number : ℕ) (version : FormatVersion) (bytes : List ℕ) (found : CoreResult (Option MDBFileInfo)) → number ≡ number_of version

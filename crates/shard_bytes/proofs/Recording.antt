@@ -6,6 +6,7 @@ use Rattle.std.proofs.lemmas.List.Elements.{All-drop}
 use Rattle.xet_base.specs.declared.merklehash.DataHash.{DataHash}
 use Rattle.xet_base.proofs.HashOrder.{hash_cmp-IsTotalOrder, hash_cmp-IsAntisymmetric}
 use Rattle.xet_base.specs.Hash.{hash_cmp}
+use Rattle.xet_base.specs.MemorySource.{in_memory}
 use Rattle.xet_core_structures.specs.declared.error.CoreError.{CoreError}
 use Rattle.xet_core_structures.specs.declared.error.CoreError.TheVariants.{OutOfMemory}
 use Rattle.xet_core_structures.specs.declared.shard_format.MDBShardInfo.{MDBShardInfo}
@@ -22,7 +23,6 @@ use Rattle.xet_core_structures.specs.Shard.{Shard, IsShard, file_hash_of, xorb_h
 use Rattle.xet_records.specs.Limits.{MAX_ROWS}
 use Rattle.xet_shards.proofs.Content.Maps.{sum-insert, values-empty}
 use Rattle.shard_bytes.specs.Recording.{with_files, with_xorbs, shard_of, CanAddFiles, CanAddXorbs, CanAddRecords, RefusesRecords}
-use Rattle.xet_shards.specs.Read.StoredSection.{in_memory}
 use Rattle.shard_bytes.proofs.Inserting.{inserts, inserts-entries, all_new, StaysWithin, stays_within}
 
 -- records with their keys

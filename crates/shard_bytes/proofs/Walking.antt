@@ -1,6 +1,7 @@
 -- What is read of the record at a row, from a source in memory.
 use Rattle.std.proofs.Common.{◌≡◌, ◌≢◌, ◌⊎◌, inl, inr, ℕ, List, drop, Option, Ok, Err, sym, ap, subst, arith}
 use Rattle.std.specs.Prelude.{MatchResult}
+use Rattle.xet_base.specs.MemorySource.{in_memory}
 use Rattle.xet_core_structures.specs.declared.error.CoreError.{CoreError}
 use Rattle.xet_core_structures.specs.declared.error.CoreError.TheVariants.{InternalError}
 use Rattle.xet_core_structures.specs.declared.shard_format.MDBShardInfo.{MDBShardInfo}
@@ -15,7 +16,6 @@ use Rattle.xet_core_structures.specs.Source.ReadCase.{out_of_memory, out_of_byte
 use Rattle.xet_records.specs.RecordKind.{RecordKind}
 use Rattle.shard_bytes.specs.Walking.{IsAtRow, NotAtRow, WithEnds}
 use Rattle.shard_bytes.specs.Steps.Walking.{IsRead}
-use Rattle.xet_shards.specs.Read.StoredSection.{in_memory}
 
 module _ {H R : Type 0} (K : RecordKind H R) (bytes : List ℕ) (offset row : ℕ) (old new : MemorySource) (are : old.bytes.now ≡ bytes) where
   abbrev here : List ℕ → List ℕ

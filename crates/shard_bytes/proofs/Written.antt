@@ -4,6 +4,7 @@ use Rattle.std.specs.Prelude.{IsOkAnd, MatchResult}
 use Rattle.std.specs.FinMap.{values}
 use Rattle.std.specs.declared.result.Result.{Result}
 use Rattle.std.specs.declared.vec.Vec.{Vec}
+use Rattle.xet_base.specs.MemorySource.{in_memory}
 use Rattle.xet_core_structures.specs.declared.error.CoreError.{CoreError}
 use Rattle.xet_core_structures.specs.declared.error.CoreError.TheVariants.{OutOfMemory}
 use Rattle.xet_core_structures.specs.declared.file_structs.MDBFileInfo.{MDBFileInfo}
@@ -22,7 +23,6 @@ use Rattle.xet_core_structures.specs.WrittenQueries.{RunInXorb, QueryFailsInXorb
 use Rattle.xet_core_structures.specs.WrittenShard.{IsBytesOf, IsBytesWithInfo, ReadsBack}
 use Rattle.shard_bytes.specs.Finding.{NotFoundInShard}
 use Rattle.shard_bytes.specs.Query.{HasNoChunkAt}
-use Rattle.xet_shards.specs.Read.StoredSection.{in_memory}
 
 -- header and footer were read from these bytes
 pub as_written : (s : Shard) (bytes : List ℕ) (old new : Source) (info : MDBShardInfo) → IsBytesOf s bytes → old.bytes ≡ bytes → Loads old new info → IsBytesWithInfo s new.bytes info

@@ -6,5 +6,6 @@ pub mod Hex
 pub mod Input
 pub mod InputLaws
 pub mod KeyedHash
+pub mod MemorySource
 pub mod Source
 pub mod Steps

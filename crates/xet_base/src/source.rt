@@ -2,6 +2,7 @@
 
 ghost use Rattle.std.specs.Prelude.{◌≡◌, ℕ, length, MatchResult, None};
 ghost use Rattle.xet_base.specs.Bytes.{ReadsThrough};
+ghost use Rattle.xet_base.specs.MemorySource.{in_memory};
 ghost use Rattle.xet_base.specs.Source.{Source, ReadsSome, Fails, ReadsBytes, FillFails, after_seek};
 
 use crate::count::Count;
@@ -124,14 +125,7 @@ impl<'a> MemorySource<'a> {
 }
 
 impl<'a> ShardSource for MemorySource<'a> {
-    ghost meaning = { λ s. record {
-      bytes = s.bytes.now;
-      at = s.at;
-      seeks = s.seeks.value;
-      read = s.read.value;
-      failures = 0;
-      last_failure = None;
-    } };
+    ghost meaning = { in_memory };
 
     #[inline(always)]
     fn read_some(&mut self, slice: &mut [u8]) -> io::Result<usize> {

@@ -19,6 +19,7 @@ pub mod RunReading
 pub mod RunSteps
 pub mod Search
 pub mod SectionReading
+pub mod StoredSection
 pub mod TableReading
 pub mod Tables
 pub mod TruncatedHashes

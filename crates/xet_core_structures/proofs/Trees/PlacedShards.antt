@@ -2,6 +2,7 @@
 use Rattle.std.proofs.Common.{◌≡◌, inl, inr, ℕ, List, drop, sym, ap, ◌∙◌, subst, arith}
 use Rattle.xet_base.specs.declared.error.CoreError.{CoreError}
 use Rattle.xet_base.specs.declared.source.MemorySource.{MemorySource}
+use Rattle.xet_base.specs.MemorySource.{in_memory}
 use Rattle.xet_base.specs.Source.{Source, FailedBy, after_seek, bytes_left}
 use Rattle.xet_records.specs.declared.file_structs.header.FileDataSequenceHeader.{FileDataSequenceHeader}
 use Rattle.xet_records.specs.declared.xorb_structs.XorbChunkSequenceHeader.{XorbChunkSequenceHeader}
@@ -22,7 +23,6 @@ use Rattle.xet_core_structures.specs.Steps.Parts.{PlacesShard}
 use Rattle.xet_core_structures.specs.Steps.Placed.{PlacesAll, ReadsPlaced}
 use Rattle.xet_core_structures.specs.Steps.MergeJoin.{SectionRefusal, AscendingNotStreamed}
 use Rattle.xet_core_structures.proofs.Records.ShardContents.{stored_ascend}
-use Rattle.xet_shards.specs.Read.StoredSection.{in_memory}
 use Rattle.xet_core_structures.proofs.Records.Lists.{lists_read}
 use Rattle.xet_core_structures.proofs.Trees.Parts.{xorbs_refused}
 use Rattle.xet_core_structures.proofs.TwoShards.Results.{section_serves}

@@ -7,6 +7,7 @@ use Rattle.xet_base.specs.declared.error.CoreError.{CoreError}
 use Rattle.xet_base.specs.declared.error.CoreError.TheVariants.{OutOfMemory}
 use Rattle.xet_base.specs.declared.source.MemorySource.{MemorySource}
 use Rattle.xet_base.specs.InputLaws.{ReadsBytes-trans}
+use Rattle.xet_base.specs.MemorySource.{in_memory}
 use Rattle.xet_base.specs.Source.{ReadsBytes, FailedBy, bytes_left}
 use Rattle.xet_base.specs.Source.ReadCase.{out_of_memory, out_of_bytes}
 use Rattle.xet_base.proofs.Lists.{rest_is}
@@ -27,7 +28,6 @@ use Rattle.xet_core_structures.specs.Steps.MergeJoin.FollowingFails.{not_read as
 use Rattle.xet_core_structures.specs.Steps.Placed.{PlacesAll}
 use Rattle.xet_core_structures.specs.Steps.Rows.{NextIs, RowsFollow, PlacesNext}
 use Rattle.xet_shards.proofs.Read.Zipped.{zipped_append}
-use Rattle.xet_shards.specs.Read.StoredSection.{in_memory}
 
 module _ {H R : Type 0} (K : RecordKind H R) (laws : KindLaws K) (range : HashRange) where
   rows_of_next : (before : Option H) (left : ℕ) (bytes : List ℕ) (r : R) (rest : List ℕ) → NextIs K range before left bytes r rest → K.row_count r ≡ 1 + K.rows_after (K.header_of r)

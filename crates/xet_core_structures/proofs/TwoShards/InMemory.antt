@@ -4,10 +4,10 @@ use Rattle.xet_base.specs.declared.error.CoreError.{CoreError}
 use Rattle.xet_base.specs.declared.error.CoreError.TheVariants.{ShardVersion}
 use Rattle.xet_base.specs.declared.source.MemorySource.{MemorySource}
 use Rattle.xet_base.specs.Errors.{IsShardVersion, IsBareShardVersion}
+use Rattle.xet_base.specs.MemorySource.{in_memory}
 use Rattle.xet_base.specs.Source.{FailedBy}
 use Rattle.xet_shards.specs.Ends.Ends.{LoadFails, FormatCase, IsUnsupported, IsTooShort}
 use Rattle.xet_shards.specs.Ends.Ends.FormatCase.{unsupported_format, too_few_bytes}
-use Rattle.xet_shards.specs.Read.StoredSection.{in_memory}
 use Rattle.xet_core_structures.specs.TwoShards.ByteResults.{LoadRefusal}
 
 bare_version : (e : CoreError) → IsBareShardVersion e → IsShardVersion e

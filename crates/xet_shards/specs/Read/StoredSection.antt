@@ -1,8 +1,6 @@
 -- Sections in memory as they are stored: each record stays where it is.
-use Rattle.std.specs.Prelude.{◌≡◌, ℕ, ◌+◌, ◌*◌, ◌≤◌, List, ◌++◌, length, flat_map, sum_by, All, Option, None, MatchOption}
+use Rattle.std.specs.Prelude.{◌≡◌, ℕ, ◌+◌, ◌*◌, ◌≤◌, List, ◌++◌, length, flat_map, sum_by, All}
 use Rattle.std.specs.List.{AllZip}
-use Rattle.xet_base.specs.declared.source.MemorySource.{MemorySource}
-use Rattle.xet_base.specs.Source.{Source, ReadsBytes}
 use Rattle.xet_records.specs.declared.file_structs.MDBFileInfo.{MDBFileInfo}
 use Rattle.xet_records.specs.declared.file_structs.header.FileDataSequenceHeader.{FileDataSequenceHeader}
 use Rattle.xet_records.specs.declared.record_reader.FormatVersion.{FormatVersion}
@@ -10,18 +8,12 @@ use Rattle.xet_records.specs.declared.xorb_structs.MDBXorbInfo.{MDBXorbInfo}
 use Rattle.xet_records.specs.declared.xorb_structs.XorbChunkSequenceHeader.{XorbChunkSequenceHeader}
 use Rattle.xet_records.specs.FileRecord.{file_records}
 use Rattle.xet_records.specs.Limits.{MAX_ROWS}
-use Rattle.xet_records.specs.Reading.{ReadsEnd}
 use Rattle.xet_records.specs.RecordKind.{RecordKind, in_version}
 use Rattle.xet_records.specs.XorbRecord.{xorb_records}
 use Rattle.xet_shards.specs.declared.shard_format.read.stored_section.PlacedRecord.{PlacedRecord}
 use Rattle.xet_shards.specs.declared.shard_format.read.stored_section.StoredSection.{StoredSection}
 use Rattle.xet_shards.specs.Read.SectionReading.{IsSection}
-use Rattle.xet_shards.specs.Steps.SectionReading.{ReadsNext}
 use Rattle.xet_shards.specs.Write.WithOptions.{FitsSection}
-
--- what a source in memory is
-abbrev pub in_memory : MemorySource → Source
-in_memory m = record { bytes = m.bytes.now; at = m.at; seeks = m.seeks.value; read = m.read.value; failures = 0; last_failure = None }
 
 module _ {H R : Type 0} (K : RecordKind H R) where
   -- the rows of records that stay where they are, headers included
@@ -56,13 +48,6 @@ module _ {H R : Type 0} (K : RecordKind H R) where
   abbrev pub ReadsStored : FormatVersion → List ℕ → StoredSection H → Type 0
   ReadsStored version bytes section =
       (rs : List R) × IsSection (in_version K version) bytes rs × StoresSection section rs
-
-  -- the bookend was read, or the next record was read past, and is where it is said to be
-  abbrev pub PlacesNext : FormatVersion → Source → Source → ℕ → ℕ → Option (PlacedRecord H) → Type 0
-  PlacesNext version old new left after found =
-      MatchOption found (ReadsEnd (in_version K version) (ReadsBytes old new) left after)
-      (λ p. (r : R) × (next : ReadsNext (in_version K version) old new left after r)
-      × StoresRecord p next.reads.stored)
 
 -- these are the records of both sections of a shard, as they are stored
 pub record StoresSections (files : StoredSection FileDataSequenceHeader)

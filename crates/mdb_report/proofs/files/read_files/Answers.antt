@@ -1,8 +1,8 @@
 use Rattle.std.proofs.Common.{◌≡◌, ap, ◌∙◌, subst}
+use Rattle.xet_base.specs.MemorySource.{in_memory}
 use Rattle.xet_core_structures.specs.Ends.{HasHeaderAndFooter}
 use Rattle.xet_core_structures.specs.Source.{Source}
 use Rattle.xet_core_structures.specs.Version.{version_of}
-use Rattle.xet_shards.specs.Read.StoredSection.{in_memory}
 use Rattle.mdb_report.proofs.Reading.{read_files_fit, files_in_memory}
 use Rattle.mdb_report.proofs.files.read_files.Goals as goal
 

@@ -1,7 +1,7 @@
 use Rattle.std.proofs.Common.{◌≡◌, ap, ◌∙◌, subst}
+use Rattle.xet_base.specs.MemorySource.{in_memory}
 use Rattle.xet_core_structures.specs.Ends.{HasHeaderAndFooter}
 use Rattle.xet_core_structures.specs.Source.{Source}
-use Rattle.xet_shards.specs.Read.StoredSection.{in_memory}
 use Rattle.mdb_report.proofs.Reading.{read_xorbs_whole, xorbs_in_memory}
 use Rattle.mdb_report.proofs.garbage.read_xorbs.Goals as goal
 

@@ -1,8 +1,8 @@
 use Rattle.std.proofs.Common.{◌≡◌, ap}
+use Rattle.xet_base.specs.MemorySource.{in_memory}
 use Rattle.xet_core_structures.specs.Source.{Source}
 use Rattle.shard_bytes.specs.ChunkRows.{chunks_of}
 use Rattle.shard_bytes.proofs.ChunkRows.{rows_read}
-use Rattle.xet_shards.specs.Read.StoredSection.{in_memory}
 use Rattle.shard_bytes.proofs.Written.{as_written, list_in_memory}
 use Rattle.shard_bytes.proofs.chunk_rows.chunk_rows.Goals as goal
 

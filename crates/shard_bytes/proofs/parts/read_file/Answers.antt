@@ -1,5 +1,6 @@
 use Rattle.std.proofs.Common.{◌≡◌, ap, ◌∙◌, subst}
 use Rattle.std.specs.Prelude.{MatchResult}
+use Rattle.xet_base.specs.MemorySource.{in_memory}
 use Rattle.xet_core_structures.specs.declared.shard_format.MDBShardFileFooter.{MDBShardFileFooter}
 use Rattle.xet_core_structures.specs.declared.shard_format.MDBShardFileHeader.{MDBShardFileHeader}
 use Rattle.xet_core_structures.specs.FileRecord.{file_records_in}
@@ -7,7 +8,6 @@ use Rattle.xet_core_structures.specs.Lookup.{ReadsInfo, ReadInfoFails}
 use Rattle.xet_core_structures.specs.Source.{Source}
 use Rattle.xet_core_structures.specs.Version.{version_of}
 use Rattle.xet_records.proofs.RecordKinds.{version_known}
-use Rattle.xet_shards.specs.Read.StoredSection.{in_memory}
 use Rattle.shard_bytes.proofs.InParts.{of_version}
 use Rattle.shard_bytes.proofs.Walking.{at_row}
 use Rattle.shard_bytes.proofs.parts.read_file.Goals as goal

@@ -1,10 +1,10 @@
 use Rattle.std.proofs.Common.{◌≡◌, ap, ◌∙◌, subst}
+use Rattle.xet_base.specs.MemorySource.{in_memory}
 use Rattle.xet_core_structures.specs.declared.merklehash.DataHash.{DataHash}
 use Rattle.xet_core_structures.specs.declared.shard_format.MDBShardFileFooter.{MDBShardFileFooter}
 use Rattle.xet_core_structures.specs.KeyedHash.{under_key}
 use Rattle.xet_core_structures.specs.Lookup.{IsRowAndIndex, Searches}
 use Rattle.xet_core_structures.specs.Source.{Source}
-use Rattle.xet_shards.specs.Read.StoredSection.{in_memory}
 use Rattle.shard_bytes.proofs.InParts.{places_found}
 use Rattle.shard_bytes.proofs.parts.search_chunks.Goals as goal
 

@@ -1,6 +1,6 @@
 use Rattle.std.proofs.Common.{◌≡◌, ap}
+use Rattle.xet_base.specs.MemorySource.{in_memory}
 use Rattle.xet_core_structures.specs.Source.{Source}
-use Rattle.xet_shards.specs.Read.StoredSection.{in_memory}
 use Rattle.shard_bytes.proofs.Written.{as_written, direct_in_memory}
 use Rattle.shard_bytes.proofs.query.query_at.Goals as goal
 

@@ -1,8 +1,8 @@
 use Rattle.std.proofs.Common.{◌≡◌, ap, ◌∙◌, subst}
 use Rattle.std.proofs.lemmas.Result.{err_from_is_err_and}
+use Rattle.xet_base.specs.MemorySource.{in_memory}
 use Rattle.xet_core_structures.specs.Ends.{HasHeaderAndFooter}
 use Rattle.xet_core_structures.specs.Source.{Source}
-use Rattle.xet_shards.specs.Read.StoredSection.{in_memory}
 use Rattle.shard_bytes.proofs.Recording.{only_memory, xorbs_not_read}
 use Rattle.shard_bytes.proofs.Written.{as_written}
 use Rattle.shard_bytes.proofs.records.read_records.Goals as goal

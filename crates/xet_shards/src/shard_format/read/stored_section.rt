@@ -6,8 +6,10 @@ ghost use Rattle.std.specs.List.{list_any};
 ghost use Rattle.xet_records.specs.FileRecord.{has_aux_ext};
 ghost use Rattle.xet_records.specs.RecordKind.{in_version};
 ghost use Rattle.xet_shards.specs.Export.KeyedExport.{BadSection};
-ghost use Rattle.xet_shards.specs.Read.StoredSection.{in_memory, PlacesNext, ReadsStored};
+ghost use Rattle.xet_base.specs.MemorySource.{in_memory};
+ghost use Rattle.xet_shards.specs.Read.StoredSection.{ReadsStored};
 ghost use Rattle.xet_shards.specs.Steps.SectionReading.{RecordFails};
+ghost use Rattle.xet_shards.specs.Steps.StoredSection.{StoresNext};
 
 use std::alloc::Global;
 use xet_base::error::Result;
@@ -69,7 +71,7 @@ fn place_next<'a, R: SectionRecord>(
     requires limit { rows_left.old ≤ 4294967296 }
     requires bytes { (in_memory source.old).bytes ≡ bytes.now }
     ensures { MatchResult result
-        (PlacesNext R.kind version (in_memory source.old) (in_memory source.new) rows_left.old
+        (StoresNext R.kind version (in_memory source.old) (in_memory source.new) rows_left.old
         rows_left.new)
         (RecordFails (in_version R.kind version) rows_left.old (in_memory source.old)
         (in_memory source.new)) }

@@ -1,11 +1,12 @@
 use Rattle.std.proofs.Common.{◌≡◌, ◌+◌, ◌^◌, ◌≤◌, ◌++◌, true, Some, sym, ap, ◌∙◌, subst, arith}
 use Rattle.std.specs.FinMap.{values}
+use Rattle.xet_base.specs.MemorySource.{in_memory}
 use Rattle.xet_core_structures.specs.Hash.{IsHash}
 use Rattle.xet_core_structures.specs.KeyedExport.{exported_bytes, export_options}
 use Rattle.xet_core_structures.specs.Source.{bytes_left}
 use Rattle.xet_core_structures.specs.View.{all_with_aux_if}
 use Rattle.xet_core_structures.specs.WrittenShard.{IsBytesOf}
-use Rattle.callers.proofs.Callers.{in_memory, exported_of}
+use Rattle.callers.proofs.Callers.{exported_of}
 use Rattle.callers.proofs.uses.export.export.Goals as goal
 
 pub returns-clause-made : goal.returns-clause-made

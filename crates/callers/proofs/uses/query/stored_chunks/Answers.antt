@@ -1,10 +1,11 @@
 use Rattle.std.proofs.Common.{◌≡◌, ap, sym, subst}
 use Rattle.std.specs.FinMap as finite
+use Rattle.xet_base.specs.MemorySource.{in_memory}
 use Rattle.xet_core_structures.specs.KeyedHash.{no_key}
 use Rattle.xet_core_structures.specs.Source.{Source}
 use Rattle.xet_core_structures.specs.WrittenQueries.{RunAmong}
 use Rattle.xet_core_structures.specs.WrittenShard.{IsBytesOf}
-use Rattle.callers.proofs.Callers.{in_memory, as_written, ok_in_memory}
+use Rattle.callers.proofs.Callers.{as_written, ok_in_memory}
 use Rattle.callers.proofs.uses.query.stored_chunks.Goals as goal
 
 pub returns : goal.returns

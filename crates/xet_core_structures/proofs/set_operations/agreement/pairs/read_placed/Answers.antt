@@ -1,6 +1,6 @@
 use Rattle.std.proofs.Common.{sym, ap}
+use Rattle.xet_base.specs.MemorySource.{in_memory}
 use Rattle.xet_base.specs.Source.{Source, bytes_left}
-use Rattle.xet_shards.specs.Read.StoredSection.{in_memory}
 use Rattle.xet_core_structures.proofs.Trees.PlacedRecords.{placed_read}
 use Rattle.xet_core_structures.proofs.set_operations.agreement.pairs.read_placed.Goals as goal
 

@@ -1,10 +1,10 @@
 use Rattle.std.proofs.Common.{refl, ap, subst}
 use Rattle.std.proofs.lemmas.Result.{err_from_is_err_and}
+use Rattle.xet_base.specs.MemorySource.{in_memory}
 use Rattle.xet_base.specs.Source.{Source}
 use Rattle.xet_records.specs.FileRecord.{file_records}
 use Rattle.xet_core_structures.specs.Steps.Placed.{ReadsPlaced}
 use Rattle.xet_core_structures.proofs.Trees.PlacedShards.{xorbs_not_placed, shard_placed}
-use Rattle.xet_shards.specs.Read.StoredSection.{in_memory}
 use Rattle.xet_core_structures.proofs.set_operations.trees.parts.place_shard.Goals as goal
 
 pub returns-in_err-xorbs : goal.returns-in_err-xorbs

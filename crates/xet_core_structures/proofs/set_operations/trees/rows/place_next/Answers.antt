@@ -2,6 +2,7 @@ use Rattle.std.proofs.Common.{◌≡◌, ◌⊎◌, inr, ◌*◌, true, false, d
 use Rattle.std.proofs.lemmas.Result.{err_from_is_err_and}
 use Rattle.xet_base.specs.Source.{ReadsBytes, bytes_left}
 use Rattle.xet_base.specs.declared.error.CoreError.TheVariants.{OutOfMemory}
+use Rattle.xet_base.specs.MemorySource.{in_memory}
 use Rattle.xet_records.specs.RecordKind.{in_version}
 use Rattle.xet_records.specs.Reading.{ReadsNextHeader}
 use Rattle.xet_records.specs.Reading.NextRecordNotRead.{no_rows}
@@ -11,7 +12,6 @@ use Rattle.xet_core_structures.specs.Records.Ranges.{is_within}
 use Rattle.xet_core_structures.specs.Steps.MergeJoin.{Follows}
 use Rattle.xet_core_structures.specs.Steps.Rows.{PlacesNext}
 use Rattle.xet_core_structures.proofs.Trees.RowWalks.{NoNextAt, header_not_read, bookend_read, header_outside, record_not_read, next_placed}
-use Rattle.xet_shards.specs.Read.StoredSection.{in_memory}
 use Rattle.xet_core_structures.proofs.set_operations.trees.rows.place_next.Goals as goal
 
 pub returns-in_err-next : goal.returns-in_err-next

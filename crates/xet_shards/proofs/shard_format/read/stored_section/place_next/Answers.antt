@@ -6,7 +6,7 @@ use Rattle.xet_records.specs.Reading.{ReadsNextHeader, ReadsRowsAfter}
 use Rattle.xet_records.specs.Reading.NextRecordNotRead.{no_rows}
 use Rattle.xet_records.proofs.RecordKinds.{laws_in}
 use Rattle.xet_records.proofs.SectionRecords.{rows_after_header}
-use Rattle.xet_shards.specs.Read.StoredSection.{in_memory}
+use Rattle.xet_base.specs.MemorySource.{in_memory}
 use Rattle.xet_shards.proofs.Read.SectionReading.{record_fails}
 use Rattle.xet_shards.proofs.Read.StoredSections.{record_stored}
 use Rattle.xet_shards.proofs.shard_format.read.stored_section.place_next.Goals as goal

@@ -2,7 +2,8 @@ use Rattle.std.proofs.Common.{◌*◌, ◌-◌, ◌≤◌, length, take, refl, s
 use Rattle.std.proofs.lemmas.List.{length-take-le}
 use Rattle.std.proofs.lemmas.Result.{err_from_is_err_and}
 use Rattle.xet_base.specs.Source.{bytes_left}
-use Rattle.xet_shards.specs.Read.StoredSection.{in_memory, PlacesNext}
+use Rattle.xet_base.specs.MemorySource.{in_memory}
+use Rattle.xet_shards.specs.Steps.StoredSection.{StoresNext}
 use Rattle.xet_shards.proofs.Read.StoredSections.{storing_start, storing_on, within, storing_ends, storing_stops}
 use Rattle.xet_shards.proofs.shard_format.read.stored_section.read_stored_section.Goals as goal
 
@@ -13,7 +14,7 @@ pub loop-records-preserved : goal.loop-records-preserved
 loop-records-preserved g c =
     let now = in_memory c.loop-records.source in
     let new = in_memory c.place_next.new.source in
-    let placed = subst (PlacesNext g.R.SectionRecord.kind c.args.version now new c.loop-records.rows_left c.place_next.new.rows_left) c.in-Some.is c.in_ok-next.ensures in
+    let placed = subst (StoresNext g.R.SectionRecord.kind c.args.version now new c.loop-records.rows_left c.place_next.new.rows_left) c.in-Some.is c.in_ok-next.ensures in
     rw c.in_ok-push.ensures.items (storing_on g.R.SectionRecord.kind c.laws.ensures c.args.version (in_memory c.new-source.result) now new _ _ c.loop-records.records.items c.in-Some.next c.loop-records.invariant placed.0 placed.1 placed.2)
 
 pub returns-in_err-next : goal.returns-in_err-next

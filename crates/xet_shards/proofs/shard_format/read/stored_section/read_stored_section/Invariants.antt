@@ -1,4 +1,4 @@
-use Rattle.xet_shards.specs.Read.StoredSection.{in_memory}
+use Rattle.xet_base.specs.MemorySource.{in_memory}
 use Rattle.xet_shards.proofs.Read.StoredSections.{IsStoring}
 use Rattle.xet_shards.proofs.shard_format.read.stored_section.read_stored_section.Given as goal
 

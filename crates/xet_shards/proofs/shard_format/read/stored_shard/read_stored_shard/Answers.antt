@@ -10,7 +10,8 @@ use Rattle.xet_shards.specs.declared.shard_format.ends.header.MDBShardFileHeader
 use Rattle.xet_shards.specs.Ends.Ends.{HasHeader}
 use Rattle.xet_shards.specs.Export.KeyedExport.{BadSection, xorbs_after}
 use Rattle.xet_shards.specs.Export.KeyedExport.SectionsCase.{bad_files}
-use Rattle.xet_shards.specs.Read.StoredSection.{in_memory, ReadsStored}
+use Rattle.xet_base.specs.MemorySource.{in_memory}
+use Rattle.xet_shards.specs.Read.StoredSection.{ReadsStored}
 use Rattle.xet_shards.specs.Write.Layout.{shard_header_bytes}
 use Rattle.xet_shards.proofs.Ends.Loading.{header_of}
 use Rattle.xet_shards.proofs.Read.StoredSections.{has_its_rows, xorbs_left, xorbs_bad, shard_stored}
