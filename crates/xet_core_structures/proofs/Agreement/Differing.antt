@@ -1,10 +1,9 @@
 -- The records of lists, hash by hash: which two do not agree.
-use Rattle.std.proofs.Common.{◌≡◌, ◌≢◌, ◌⊎◌, inl, inr, ℕ, ◌+◌, ◌*◌, ◌<◌, ◌≤◌, List, [], ◌∷◌, ◌++◌, length, take, drop, Some, refl, sym, ap, ◌∙◌, subst, arith, take-append-drop}
+use Rattle.std.proofs.Common.{◌≡◌, ◌⊎◌, inl, inr, ℕ, ◌+◌, ◌*◌, ◌<◌, ◌≤◌, List, [], ◌∷◌, ◌++◌, length, take, drop, Some, refl, sym, ap, ◌∙◌, subst, arith, take-append-drop}
 use Rattle.std.specs.Prelude.{Contains, slice_get}
 use Rattle.std.proofs.lemmas.List.{take_at}
 use Rattle.std.proofs.lemmas.List.Elements.{Contains-push, Contains-push_cases, Contains-append_left}
 use Rattle.std.proofs.lemmas.Option.{same_Some}
-use Rattle.xet_base.specs.Hash.{all_ones}
 use Rattle.xet_records.specs.RecordKind.{RecordKind, KindLaws}
 use Rattle.xet_shards.specs.declared.shard_format.read.stored_section.PlacedRecord.{PlacedRecord}
 use Rattle.xet_core_structures.specs.declared.set_operations.agreement.differing.Differing.{Differing}
@@ -13,27 +12,26 @@ use Rattle.xet_core_structures.specs.declared.set_operations.agreement.runs.Plac
 use Rattle.xet_core_structures.specs.Steps.Differing.{AgreeWithin, DifferWithin, ComparesPlace, DiffersAt}
 use Rattle.xet_core_structures.specs.Steps.Differing.{IsRun, IsPlace, IsRecordAt, Covers, KeepsRecord, IsAgainst}
 use Rattle.xet_core_structures.specs.Steps.Placed.{Places}
-use Rattle.xet_core_structures.specs.Steps.MergeJoin.{IsRecordHeader}
 use Rattle.xet_core_structures.proofs.Records.Items.{below_or_at}
 use Rattle.xet_core_structures.proofs.Trees.PlacedRecords.{placed_once}
 
 -- a record lies where its header and the bytes of its rows do
-pub copied_placed : {H R : Type 0} (K : RecordKind H R) (one other : PlacedRecord H) (n : ℕ) → one.header ≡ other.header → n ≡ 48 * K.rows_after one.header → take n one.rows.now ≡ take n other.rows.now → (r : R)
+pub copied_placed : {H R : Type 0} (K : RecordKind H R) → KindLaws K → (one other : PlacedRecord H) (n : ℕ) → one.header ≡ other.header → n ≡ 48 * K.rows_after one.header → take n one.rows.now ≡ take n other.rows.now → (r : R)
     → Places K other r → Places K one r
-copied_placed {H} {R} K one other n same size front r is =
-    let stored = is.rows.stored in
-    let len : length (K.bytes_after stored) ≡ n = is.rows.size ∙ sym (size ∙ ap (λ h. 48 * K.rows_after h) same) in
-    let front_is : take n one.rows.now ≡ K.bytes_after stored = front ∙ ap (take n) is.rows.taken.1 ∙ take_at (K.bytes_after stored) is.rows.taken.0 n len in
+copied_placed K laws one other n same size front r is =
+    let stored = is.stored in
+    let there = is.there in
+    let len : length (K.bytes_after stored) ≡ n = laws.size_after stored there.is_stored ∙ sym (size ∙ ap (λ h. 48 * K.rows_after h) (same ∙ there.header_is)) in
+    let front_is : take n one.rows.now ≡ K.bytes_after stored = front ∙ ap (take n) there.rows_are ∙ take_at (K.bytes_after stored) there.rest n len in
     record {
-      header = subst (IsRecordHeader K) (sym same) is.header;
-      rows = record {
-        stored = stored;
-        same_header = is.rows.same_header ∙ sym same;
-        is_stored = subst (λ (h : H). K.hash_of h ≢ all_ones → K.Fits h → K.IsStored stored) (sym same) is.rows.is_stored;
-        size = is.rows.size ∙ ap (λ h. 48 * K.rows_after h) (sym same);
-        taken = (drop n one.rows.now, sym (take-append-drop n one.rows.now) ∙ ap (λ bs. bs ++ drop n one.rows.now) front_is);
-        returned = is.rows.returned;
+      stored = stored;
+      there = record {
+        is_stored = there.is_stored;
+        header_is = same ∙ there.header_is;
+        rest = drop n one.rows.now;
+        rows_are = sym (take-append-drop n one.rows.now) ∙ ap (λ bs. bs ++ drop n one.rows.now) front_is;
       };
+      returned = is.returned;
     }
 
 module _ {H R : Type 0} (K : RecordKind H R) (agree : R → R → Type 0) where

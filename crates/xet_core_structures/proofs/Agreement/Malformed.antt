@@ -22,7 +22,7 @@ use Rattle.xet_records.specs.Version.{version_of}
 use Rattle.xet_records.specs.XorbRecord.{xorb_records, IsStoredXorb, IsXorb}
 use Rattle.xet_records.specs.XorbRow.{FitsChunk, chunk_row}
 use Rattle.xet_records.proofs.Parts.{rows_of-returned}
-use Rattle.xet_records.proofs.RecordKinds.{stored_ever}
+use Rattle.xet_records.proofs.RecordKinds.{xorb_laws, stored_ever}
 use Rattle.xet_shards.specs.declared.shard_format.read.stored_section.PlacedRecord.{PlacedRecord}
 use Rattle.xet_shards.specs.Content.Shard.{Shard, IsShard}
 use Rattle.xet_shards.specs.Read.SectionReading.{files_of}
@@ -51,16 +51,19 @@ module _ (p : PlacedRecord XorbChunkSequenceHeader) (r : MDBXorbInfo) (here : Pl
   abbrev chunk_rows_size : ℕ
   chunk_rows_size = 48 * p.header.num_entries
 
+  size : length (flat_map chunk_row here.stored.chunks) ≡ chunk_rows_size
+  size = xorb_laws.size_after here.stored here.there.is_stored ∙ ap (λ (h : XorbChunkSequenceHeader). 48 * h.num_entries) (sym here.there.header_is)
+
   pub enough_rows : chunk_rows_size ≤ length p.rows.now
-  enough_rows = omega (arith, here.rows.size, ap length here.rows.taken.1, length-append (flat_map chunk_row here.rows.stored.chunks) here.rows.taken.0)
+  enough_rows = omega (arith, size, ap length here.there.rows_are, length-append (flat_map chunk_row here.stored.chunks) here.there.rest)
 
   pub rows_of_chunks : take chunk_rows_size p.rows.now ≡ flat_map chunk_row r.chunks
   rows_of_chunks =
-      front_is chunk_rows_size p.rows.now (flat_map chunk_row here.rows.stored.chunks) here.rows.taken.0 here.rows.size here.rows.taken.1
-      ∙ ap (λ (x : MDBXorbInfo). flat_map chunk_row x.chunks) here.rows.returned
+      front_is chunk_rows_size p.rows.now (flat_map chunk_row here.stored.chunks) here.there.rest size here.there.rows_are
+      ∙ ap (λ (x : MDBXorbInfo). flat_map chunk_row x.chunks) here.returned
 
   pub chunks_fit : All FitsChunk r.chunks
-  chunks_fit = subst (λ (x : MDBXorbInfo). All FitsChunk x.chunks) here.rows.returned (here.rows.is_stored here.header.is_record here.header.fits).widths.chunks
+  chunks_fit = subst (λ (x : MDBXorbInfo). All FitsChunk x.chunks) here.returned here.there.is_stored.widths.chunks
 
 module _ {H R : Type 0} (K : RecordKind H R) (allowed : R → Type 0) (placed : List (PlacedRecord H)) where
   -- the first of these records are allowed

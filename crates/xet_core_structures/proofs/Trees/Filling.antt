@@ -20,7 +20,7 @@ use Rattle.xet_records.specs.FileRecord.{file_records, file_rows_bytes, as_read,
 use Rattle.xet_records.specs.XorbRecord.{xorb_records}
 use Rattle.xet_records.proofs.Lengths.{length-segment_rows, length-hash_row, length-hash_rows}
 use Rattle.xet_records.proofs.Parts.{rows_of-returned}
-use Rattle.xet_records.proofs.RecordKinds.{length-record_bytes}
+use Rattle.xet_records.proofs.RecordKinds.{file_laws, length-record_bytes}
 use Rattle.xet_records.specs.declared.record_reader.FormatVersion.TheVariants.{V3}
 use Rattle.xet_shards.specs.declared.shard_format.read.stored_section.PlacedRecord.{PlacedRecord}
 use Rattle.xet_shards.specs.declared.shard_format.ends.options.LayoutOptions.{LayoutOptions}
@@ -113,17 +113,17 @@ pub record HasFileRows (p : PlacedRecord FileDataSequenceHeader) (r : MDBFileInf
 pub file_rows_placed : (p : PlacedRecord FileDataSequenceHeader) (r : MDBFileInfo) → Places file_records p r → HasFileRows p r
 unfolding file_rows_bytes
 file_rows_placed p r places =
-    let stored = places.rows.stored in
-    let is = places.rows.is_stored places.header.is_record places.header.fits in
-    let rest = places.rows.taken.0 in
-    let entries : length stored.segments ≡ p.header.num_entries = is.whole.segments ∙ ap (λ (h : FileDataSequenceHeader). h.num_entries) places.rows.same_header in
+    let stored = places.stored in
+    let is = places.there.is_stored in
+    let rest = places.there.rest in
+    let entries : length stored.segments ≡ p.header.num_entries = is.whole.segments ∙ ap (λ (h : FileDataSequenceHeader). h.num_entries) (sym places.there.header_is) in
     let first = flat_map segment_row stored.segments in
     let second = flat_map hash_row (optional_rows stored) in
     let size : length first ≡ 48 * p.header.num_entries = length-segment_rows stored.segments ∙ ap (λ n. 48 * n) entries in
     let size_2 : length second ≡ 48 * length (optional_rows stored) = length-hash_rows (optional_rows stored) is.widths.parts in
-    let total : length (first ++ second) ≡ 48 * rows_after p.header = places.rows.size in
-    let rows_are : p.rows.now ≡ first ++ (second ++ rest) = places.rows.taken.1 ∙ append_assoc first second rest in
-    let same : as_read stored ≡ r = places.rows.returned in
+    let total : length (first ++ second) ≡ 48 * rows_after p.header = file_laws.size_after stored is ∙ ap (λ h. 48 * rows_after h) (sym places.there.header_is) in
+    let rows_are : p.rows.now ≡ first ++ (second ++ rest) = places.there.rows_are ∙ append_assoc first second rest in
+    let same : as_read stored ≡ r = places.returned in
     record {
       optional = optional_rows stored;
       rest = rest;
@@ -131,7 +131,7 @@ file_rows_placed p r places =
       count = omega (arith, size, size_2, total, length-append first second);
       segments = front_is (48 * p.header.num_entries) p.rows.now first (second ++ rest) size rows_are ∙ ap (λ (f : MDBFileInfo). flat_map segment_row f.segments) same;
       others = rest_is (48 * p.header.num_entries) p.rows.now first (second ++ rest) size rows_are;
-      enough = omega (arith, total, ap length places.rows.taken.1, length-append (first ++ second) rest);
+      enough = omega (arith, total, ap length places.there.rows_are, length-append (first ++ second) rest);
       bytes = sym (ap (λ (f : MDBFileInfo). flat_map segment_row f.segments ++ flat_map hash_row (optional_rows f)) same)
           ∙ (λ i. flat_map segment_row (same i).segments ++ flat_map hash_row (optional_rows-cleared stored i));
     }

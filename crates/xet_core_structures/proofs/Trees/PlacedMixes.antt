@@ -1,16 +1,15 @@
 -- What is made of two files that stay where they are.
-use Rattle.std.proofs.Common.{◌≡◌, ◌*◌, [], refl, sym, ap, ◌∙◌, subst, append-nil}
+use Rattle.std.proofs.Common.{◌≡◌, [], refl, sym, ap, ◌∙◌, append-nil}
 use Rattle.xet_base.specs.declared.merklehash.DataHash.{DataHash}
 use Rattle.xet_records.specs.declared.file_structs.header.FileDataSequenceHeader.{FileDataSequenceHeader}
 use Rattle.xet_records.specs.declared.file_structs.MDBFileInfo.{MDBFileInfo}
-use Rattle.xet_records.specs.FileRecord.{file_records, file_rows_bytes, as_read, rows_after}
+use Rattle.xet_records.specs.FileRecord.{file_records, file_rows_bytes, as_read}
 use Rattle.xet_records.specs.Merging.{IncludesBits, mixed_header}
 use Rattle.xet_records.proofs.RecordKinds.{file_laws}
 use Rattle.xet_shards.specs.declared.shard_format.read.stored_section.PlacedRecord.{PlacedRecord}
 use Rattle.xet_core_structures.specs.Records.ByteUnion.{mixed_file, IsEitherFile}
 use Rattle.xet_core_structures.specs.Steps.Placed.{MakesPlaced}
 use Rattle.xet_core_structures.specs.Steps.Placed.{Places}
-use Rattle.xet_core_structures.specs.Steps.MergeJoin.{IsRecordHeader}
 use Rattle.xet_core_structures.proofs.Trees.PlacedUnions.{header_placed, stored_placed}
 use Rattle.xet_core_structures.proofs.TwoShards.Readable.{IsReadableAs, handed_twice, mixed_readable}
 use Rattle.xet_core_structures.proofs.TwoShards.UnitedFiles.{makes_mix}
@@ -20,7 +19,7 @@ placed_readable : (p : PlacedRecord FileDataSequenceHeader) (q : DataHash) (r : 
 placed_readable p q r hash places = record {
   keyed = hash ∙ ap (λ (k : FileDataSequenceHeader). k.file_hash) (sym (header_placed file_records file_laws p r places));
   stored = stored_placed file_records file_laws p r places;
-  unchanged = ap as_read (sym places.rows.returned) ∙ handed_twice places.rows.stored ∙ places.rows.returned;
+  unchanged = ap as_read (sym places.returned) ∙ handed_twice places.stored ∙ places.returned;
 }
 
 module _ (g h : PlacedRecord FileDataSequenceHeader) where
@@ -39,15 +38,9 @@ module _ (g h : PlacedRecord FileDataSequenceHeader) where
         let mix = mixed_readable g.header.file_hash r s (placed_readable g g.header.file_hash r refl one) (placed_readable h g.header.file_hash s hash other) same_count in
         let header_is : (mixed_file r s).metadata ≡ p.header = (λ i. mixed_header (sym (header_1 r one) i) (sym (header_2 s other) i)) ∙ sym header in
         record {
-          header = subst (IsRecordHeader file_records) header_is (record { is_record = file_laws.is_record (mixed_file r s) mix.stored; fits = file_laws.header_fits (mixed_file r s) mix.stored });
-          rows = record {
-            stored = mixed_file r s;
-            same_header = header_is;
-            is_stored = λ is_record fits. mix.stored;
-            size = file_laws.size_after (mixed_file r s) mix.stored ∙ ap (λ k. 48 * rows_after k) header_is;
-            taken = ([], rows ∙ sym (append-nil (file_rows_bytes (mixed_file r s))));
-            returned = mix.unchanged;
-          };
+          stored = mixed_file r s;
+          there = record { is_stored = mix.stored; header_is = sym header_is; rest = []; rows_are = rows ∙ sym (append-nil (file_rows_bytes (mixed_file r s))) };
+          returned = mix.unchanged;
         }
 
   pub mix_made : (¬ IncludesBits g.header.file_flags h.header.file_flags) × (¬ IncludesBits h.header.file_flags g.header.file_flags) → g.header.num_entries ≡ h.header.num_entries

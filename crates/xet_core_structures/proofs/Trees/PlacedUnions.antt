@@ -15,13 +15,11 @@ use Rattle.xet_records.specs.RecordKind.{RecordKind, KindLaws}
 use Rattle.xet_shards.specs.declared.shard_format.read.stored_section.PlacedRecord.{PlacedRecord}
 use Rattle.xet_shards.specs.Write.WithOptions.{Ascends}
 use Rattle.xet_shards.specs.Write.Section.{total_rows}
-use Rattle.xet_shards.proofs.Write.Copying.{rows_returned}
 use Rattle.xet_core_structures.specs.Records.RecordPairs.{key_of_record, Combines}
 use Rattle.xet_core_structures.specs.Steps.Placed.{MakesNothing, KeepsNext, HaveNoListUnion}
 use Rattle.xet_core_structures.specs.Steps.Placed.{CountsRows, Places, PlacesAll, MayUnite, hash_at, IsBefore}
 use Rattle.xet_core_structures.specs.Steps.Placed.KeepsNext.{takes_first, takes_second, takes_both}
 use Rattle.xet_core_structures.proofs.Records.RecordPairs.{ComesLater, HasHash, AreCombinedBefore, combined_start, next_passed, combined_on}
-use Rattle.xet_core_structures.proofs.TwoShards.OneSection.{header_of_found}
 use Rattle.xet_shards.proofs.Read.Zipped.{zipped_append}
 
 -- the header of the first of a list of records in place, if there is one
@@ -50,16 +48,16 @@ module _ {H R : Type 0} (K : RecordKind H R) (makes : Option R → Option R → 
 module _ {H R : Type 0} (K : RecordKind H R) (laws : KindLaws K) where
   -- a record where it stays
   pub header_placed : (p : PlacedRecord H) (r : R) → Places K p r → K.header_of r ≡ p.header
-  header_placed p r places = header_of_found K laws _ p.header r places.rows
+  header_placed p r places = ap K.header_of (sym places.returned) ∙ laws.same_header places.stored ∙ sym places.there.header_is
 
   pub key_placed : (p : PlacedRecord H) (r : R) → Places K p r → key_of_record K r ≡ hash_at K p
   key_placed p r places = ap K.hash_of (header_placed p r places)
 
   pub rows_placed : (p : PlacedRecord H) (r : R) → Places K p r → K.row_count r ≡ 1 + K.rows_after p.header
-  rows_placed p r places = rows_returned K laws _ p.header r places.rows places.header.is_record places.header.fits
+  rows_placed p r places = ap K.row_count (sym places.returned) ∙ laws.same_rows places.stored ∙ laws.rows places.stored places.there.is_stored ∙ ap (λ h. 1 + K.rows_after h) (sym places.there.header_is)
 
   pub stored_placed : (p : PlacedRecord H) (r : R) → Places K p r → K.IsStored r
-  stored_placed p r places = subst K.IsStored places.rows.returned (laws.as_read_stored places.rows.stored (places.rows.is_stored places.header.is_record places.header.fits))
+  stored_placed p r places = subst K.IsStored places.returned (laws.as_read_stored places.stored places.there.is_stored)
 
   after_first : (k : DataHash) (r : R) (ps : List (PlacedRecord H)) (rs : List R) → key_of_record K r ≡ k → PlacesAll K ps rs → Ascends K (r ∷ rs) → ComesLater K k (next_header ps)
   unfolding IsStrictlySortedBy

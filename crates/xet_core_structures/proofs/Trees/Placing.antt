@@ -16,6 +16,7 @@ use Rattle.xet_core_structures.specs.Records.RecordPairs.{ComeBefore}
 use Rattle.xet_core_structures.specs.Steps.Placed.{Places, PlacesAll, ReadsPlaced}
 use Rattle.xet_core_structures.specs.Steps.MergeJoin.{Follows, ReadsFollowing, FollowingFails, AscendingNotStreamed}
 use Rattle.xet_core_structures.proofs.Records.RecordPairs.{IsUnder, before_later, before_push, ascends_push}
+use Rattle.xet_core_structures.proofs.Trees.PlacedRecords.{place_read}
 use Rattle.xet_core_structures.proofs.TwoShards.OneSection.{HasPending, pending_start, pending_on, pending_header, pending_serves, under_pending, no_next}
 use Rattle.xet_shards.proofs.Read.Zipped.{zipped_append}
 
@@ -67,17 +68,7 @@ module _ {H R : Type 0} (K : RecordKind H R) (laws : KindLaws K) (version : Form
         ascends = ascends_push K (K.hash_of h) placing.found (Some r) under.0 before placing.ascends;
         passed = passed_next next' following.follows;
         places = zipped_append (Places K) placed (p ∷ []) placing.found (r ∷ []) placing.places (
-          record {
-            header = rw header_is (pending_header K laws version start now left next placing.found placing.pending h is);
-            rows = rw header_is (record {
-              stored = read.stored;
-              same_header = read.same_header;
-              is_stored = read.is_stored;
-              size = read.size;
-              taken = (bytes_left mid, rows_is ∙ ReadsBytes-consumes now mid (K.bytes_after read.stored) read.taken);
-              returned = read.returned;
-            });
-          },
+          place_read K _ h r (pending_header K laws version start now left next placing.found placing.pending h is) read p header_is (bytes_left mid) (rows_is ∙ ReadsBytes-consumes now mid (K.bytes_after read.stored) read.taken),
           tt,
         );
       }

@@ -28,6 +28,7 @@ use Rattle.xet_core_structures.specs.Steps.MergeJoin.FollowingFails.{not_read as
 use Rattle.xet_core_structures.specs.Steps.Placed.{PlacesAll}
 use Rattle.xet_core_structures.specs.Steps.Rows.{NextIs, RowsFollow, PlacesNext}
 use Rattle.xet_shards.proofs.Read.Zipped.{zipped_append}
+use Rattle.xet_core_structures.proofs.Trees.PlacedRecords.{place_read}
 
 module _ {H R : Type 0} (K : RecordKind H R) (laws : KindLaws K) (range : HashRange) where
   rows_of_next : (before : Option H) (left : ℕ) (bytes : List ℕ) (r : R) (rest : List ℕ) → NextIs K range before left bytes r rest → K.row_count r ≡ 1 + K.rows_after (K.header_of r)
@@ -141,17 +142,7 @@ module _ {H R : Type 0} (K : RecordKind H R) (laws : KindLaws K) (version : Form
           };
           rows = omega (arith, count, whole.rows);
           header = same ∙ sym header_is;
-          places = record {
-            header = rw header_is (record { is_record = begun.read.is_record; fits = begun.read.widths });
-            rows = rw header_is (record {
-              stored = read.stored;
-              same_header = read.same_header;
-              is_stored = read.is_stored;
-              size = read.size;
-              taken = (bytes_left (in_memory new), on ∙ behind);
-              returned = read.returned;
-            });
-          };
+          places = place_read K _ h found (record { is_record = begun.read.is_record; fits = begun.read.widths }) read p header_is (bytes_left (in_memory new)) (on ∙ behind);
         }
 
 -- all steps

@@ -1,5 +1,5 @@
 -- Records of sections in memory that stay where they are.
-use Rattle.std.specs.Prelude.{◌≡◌, ◌⊎◌, ⊤, ℕ, ◌<◌, List, [], ◌∷◌, ◌++◌, drop, Contains, Option, Some}
+use Rattle.std.specs.Prelude.{◌≡◌, ◌⊎◌, ⊤, ℕ, ◌<◌, List, [], ◌∷◌, drop, Contains, Option, Some}
 use Rattle.std.specs.List.{AllZip}
 use Rattle.std.specs.declared.cmp.Ordering.TheVariants.{Less}
 use Rattle.xet_base.specs.declared.merklehash.DataHash.{DataHash}
@@ -7,20 +7,15 @@ use Rattle.xet_base.specs.Hash.{hash_cmp}
 use Rattle.xet_base.specs.Source.{Source}
 use Rattle.xet_records.specs.declared.record_reader.FormatVersion.{FormatVersion}
 use Rattle.xet_records.specs.RecordKind.{RecordKind, in_version}
-use Rattle.xet_records.specs.Reading.{ReadsRowsAfter}
 use Rattle.xet_shards.specs.declared.shard_format.read.stored_section.PlacedRecord.{PlacedRecord}
+use Rattle.xet_shards.specs.Read.StoredSection.{StoresRecord}
 use Rattle.xet_shards.specs.Write.WithOptions.{Ascends}
 use Rattle.xet_shards.specs.Write.Section.{total_rows}
 use Rattle.xet_shards.specs.Read.SectionReading.{StreamsSection}
 use Rattle.xet_core_structures.specs.declared.set_operations.trees.placed.MergeStep.{MergeStep}
 use Rattle.xet_core_structures.specs.declared.set_operations.trees.placed.MergeStep.TheVariants.{End, Keep, Nothing}
 use Rattle.xet_core_structures.specs.Records.RecordPairs.{key_of_record, Combines}
-use Rattle.xet_core_structures.specs.Steps.MergeJoin.{IsRecordHeader}
 use Rattle.xet_records.specs.Limits.{MAX_ROWS}
-
--- bytes begin with others
-abbrev pub BeginsWith : List ℕ → List ℕ → Type 0
-BeginsWith bytes front = (rest : List ℕ) × (bytes ≡ front ++ rest)
 
 -- rows are counted exactly, or are more than a section has
 abbrev pub CountsRows : ℕ → ℕ → Type 0
@@ -30,8 +25,9 @@ CountsRows total counted =
 module _ {H R : Type 0} (K : RecordKind H R) where
   -- a header, and bytes from the rows after it on, are those of a record, as reading returns it
   pub record Places (p : PlacedRecord H) (r : R) : Type 0 where
-    pub header : IsRecordHeader K p.header
-    pub rows : ReadsRowsAfter K p.header (BeginsWith p.rows.now) r
+    pub stored : R
+    pub there : StoresRecord K p stored
+    pub returned : K.as_read stored ≡ r
 
   -- these are the records of a list of records in place, as reading returns them
   abbrev pub PlacesAll : List (PlacedRecord H) → List R → Type 0

@@ -1,6 +1,9 @@
-use Rattle.std.proofs.Common.{◌∙◌}
-use Rattle.xet_core_structures.proofs.Agreement.Malformed.{rows_of_chunks, chunks_fit}
+use Rattle.std.proofs.Common.{◌∙◌, arith}
+use Rattle.xet_core_structures.proofs.Agreement.Malformed.{enough_rows, rows_of_chunks, chunks_fit}
 use Rattle.xet_core_structures.proofs.set_operations.agreement.malformed.MDBXorbInfoRecordRule.is_allowed.Goals as goal
+
+pub returns-then-size-placed : goal.returns-then-size-placed
+returns-then-size-placed c = λ r here. absurd (omega (arith, c.if-size-placed.true, enough_rows c.args.placed.now r here))
 
 pub returns : goal.returns
 returns c = λ r here.
