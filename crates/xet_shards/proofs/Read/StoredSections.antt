@@ -1,6 +1,8 @@
 -- The turns of the loop that reads a section in memory as it is stored.
 use Rattle.std.proofs.Common.{◌≡◌, inl, inr, ℕ, ◌+◌, ◌*◌, ◌-◌, ◌≤◌, List, [], ◌∷◌, ◌++◌, length, flat_map, take, drop, refl, sym, ap, ◌∙◌, subst, arith, append_assoc}
 use Rattle.std.specs.List.{AllZip}
+use Rattle.std.proofs.Math.Logic.{∥∥₁_elim}
+use Rattle.std.proofs.Props.{props}
 use Rattle.std.specs.Prelude.{All}
 use Rattle.std.proofs.lemmas.List.Elements.{All-nil, All-cons}
 use Rattle.std.proofs.lemmas.List.Sums.{sum_by-cons}
@@ -30,7 +32,7 @@ use Rattle.xet_shards.specs.Export.KeyedExport.{BadSection, SectionsCase, xorbs_
 use Rattle.xet_shards.specs.Export.KeyedExport.SectionsCase.{bad_xorbs}
 use Rattle.xet_shards.specs.Export.Rewriting.{HasSections}
 use Rattle.xet_shards.specs.Read.SectionReading.{IsSection}
-use Rattle.xet_shards.specs.Read.StoredSection.{rows_in, HasItsRows, StoresRecord, StoresSection, ReadsStored, StoresSections}
+use Rattle.xet_shards.specs.Read.StoredSection.{rows_in, HasItsRows, StoresRecord, StoresSection, StoresSomeRecords, ReadsStored, StoresSections}
 use Rattle.xet_shards.specs.Steps.SectionReading.{ReadsNext, RecordFails}
 use Rattle.xet_shards.specs.Write.Section.{total_rows}
 use Rattle.xet_shards.proofs.Read.SectionReading.{section_passed, section_fails}
@@ -147,6 +149,10 @@ module _ {H R : Type 0} (K : RecordKind H R) (laws : KindLaws K) (section : Stor
   has_its_rows =
       let there = rows_stored K laws section.records.items rs stores.records in
       ((there.0, omega (arith, there.1, stores.fits.rows)), omega (arith, section_size, there.1))
+
+-- the rows of a section that stores records are there
+pub rows_of_stored : {H R : Type 0} (K : RecordKind H R) (laws : KindLaws K) (section : StoredSection H) → StoresSomeRecords K section → HasItsRows K section
+rows_of_stored K laws s stores = ∥∥₁_elim stores (hlevel props) (λ records. has_its_rows K laws s records.0 records.1)
 
 -- the files of a shard were read
 module _ (bytes : List ℕ) (header : HasHeader bytes) (files : StoredSection FileDataSequenceHeader) (read : ReadsStored file_records header.version (drop 48 bytes) files) where

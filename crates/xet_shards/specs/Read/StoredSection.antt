@@ -44,6 +44,10 @@ module _ {H R : Type 0} (K : RecordKind H R) where
     pub bytes_are : section.bytes.now ≡ flat_map K.record_bytes rs
     pub records : AllZip StoresRecord section.records.items rs
 
+  -- there are records that the section stores
+  abbrev pub StoresSomeRecords : StoredSection H → Type 0
+  StoresSomeRecords section = ∥ ((rs : List R) × StoresSection section rs) ∥₁
+
   -- the bytes begin with a section of a version, and these are its records, as they are stored
   abbrev pub ReadsStored : FormatVersion → List ℕ → StoredSection H → Type 0
   ReadsStored version bytes section =

@@ -3,9 +3,8 @@ use Rattle.std.proofs.lemmas.Result.{IfOk-weaker}
 use Rattle.xet_core_structures.specs.FileRecord.{file_records, file_records_in}
 use Rattle.xet_core_structures.specs.KeyedExport.{BadSection, xorbs_after}
 use Rattle.xet_core_structures.specs.XorbRecord.{xorb_records}
-use Rattle.xet_records.proofs.RecordKinds.{file_laws, xorb_laws}
 use Rattle.xet_shards.specs.Read.StoredSection.{ReadsStored}
-use Rattle.xet_shards.proofs.Read.StoredSections.{has_its_rows, xorbs_left, shard_stored}
+use Rattle.xet_shards.proofs.Read.StoredSections.{xorbs_left, shard_stored}
 use Rattle.shard_bytes.specs.declared.check.Section.TheVariants.{Files, Xorbs}
 use Rattle.shard_bytes.specs.Steps.Checking.{IsReport, IsUnreadable, AddsDisorder, hashes_at}
 use Rattle.shard_bytes.proofs.Checking.{header_in, report_of}
@@ -46,10 +45,7 @@ invariant_of-shard c =
     let f = (goal.at.invariant_of-shard c).In-Ok in
     let files = the_files f in
     let xorbs = c.in-Ok-read_stored_section.ensures in
-    record {
-      file_rows = has_its_rows file_records file_laws c.in-Ok.files files.0 files.2;
-      xorb_rows = has_its_rows xorb_records xorb_laws c.in-Ok-read_stored_section.xorbs xorbs.0 xorbs.2;
-    }
+    record { file_section = ∣ (files.0, files.2) ∣₁; xorb_section = ∣ (xorbs.0, xorbs.2) ∣₁ }
 
 pub returns-clause-report : goal.returns-clause-report
 returns-clause-report c =

@@ -7,7 +7,7 @@ ghost use Rattle.xet_records.specs.FileRecord.{file_records};
 ghost use Rattle.xet_records.specs.XorbRecord.{xorb_records};
 ghost use Rattle.xet_shards.specs.Export.KeyedExport.{SectionsCase};
 ghost use Rattle.xet_shards.specs.Export.Rewriting.{HasSections};
-ghost use Rattle.xet_shards.specs.Read.StoredSection.{HasItsRows, StoresSections};
+ghost use Rattle.xet_shards.specs.Read.StoredSection.{StoresSomeRecords, StoresSections};
 
 use super::stored_section::{StoredSection, bytes_from, end_of_section, read_stored_section};
 use crate::shard_format::HEADER_SIZE;
@@ -19,13 +19,13 @@ use xet_records::file_structs::{FileDataSequenceHeader, MDBFileInfo};
 use xet_records::record_reader::FormatVersion;
 use xet_records::xorb_structs::{MDBXorbInfo, XorbChunkSequenceHeader};
 
-/// The sections of a shard in memory, with all rows that the headers of their records announce.
+/// The sections of a shard in memory, which are those of some records as they are stored.
 #[derive(Drop)]
 pub struct StoredShard<'a> {
     pub files: StoredSection<'a, FileDataSequenceHeader>,
     pub xorbs: StoredSection<'a, XorbChunkSequenceHeader>,
-    ghost file_rows: { HasItsRows file_records files },
-    ghost xorb_rows: { HasItsRows xorb_records xorbs },
+    ghost file_section: { StoresSomeRecords file_records files },
+    ghost xorb_section: { StoresSomeRecords xorb_records xorbs },
 }
 
 /// Reads the header of a shard, and the two sections that follow it, whatever the footer says.

@@ -4,12 +4,21 @@ use Rattle.std.specs.Io.KnownBytes.{Appends}
 use Rattle.std.proofs.lemmas.Result.{on_ok_weaker}
 use Rattle.xet_records.specs.declared.file_structs.MDBFileInfo.{MDBFileInfo}
 use Rattle.xet_records.specs.declared.xorb_structs.MDBXorbInfo.{MDBXorbInfo}
-use Rattle.xet_records.specs.FileRecord.{FitsRecord}
+use Rattle.xet_records.specs.FileRecord.{FitsRecord, file_records}
+use Rattle.xet_records.specs.XorbRecord.{xorb_records}
+use Rattle.xet_records.proofs.RecordKinds.{file_laws, xorb_laws}
 use Rattle.xet_shards.specs.Write.Layout.{shard_header_bytes}
 use Rattle.xet_shards.specs.Write.Written.{HasWritten, HasWrittenFor, end_of_layout}
 use Rattle.xet_shards.specs.Write.WrittenLaws.{written_for}
+use Rattle.xet_shards.proofs.Read.StoredSections.{rows_of_stored}
 use Rattle.xet_shards.proofs.Write.Written.{whole_layout}
 use Rattle.xet_shards.proofs.shard_format.export.rewriting.write_parts.Goals as goal
+
+pub write_section-requires : goal.write_section-requires
+write_section-requires g c = rows_of_stored file_records file_laws c.args.shard.now.files c.args.shard.now.file_section
+
+pub write_section-requires-2 : goal.write_section-requires-2
+write_section-requires-2 g c = rows_of_stored xorb_records xorb_laws c.args.shard.now.xorbs c.args.shard.now.xorb_section
 
 pub returns-clause-bytes : goal.returns-clause-bytes
 returns-clause-bytes g c =

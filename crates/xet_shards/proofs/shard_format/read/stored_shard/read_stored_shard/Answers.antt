@@ -4,8 +4,6 @@ use Rattle.xet_base.specs.Source.{Source, ReadsBytes, bytes_left}
 use Rattle.xet_base.proofs.Reading.{ReadsBytes-consumes}
 use Rattle.xet_records.specs.FileRecord.{file_records, file_records_in}
 use Rattle.xet_records.specs.Version.{IsVersion}
-use Rattle.xet_records.specs.XorbRecord.{xorb_records}
-use Rattle.xet_records.proofs.RecordKinds.{file_laws, xorb_laws}
 use Rattle.xet_shards.specs.declared.shard_format.ends.header.MDBShardFileHeader.{MDBShardFileHeader}
 use Rattle.xet_shards.specs.Ends.Ends.{HasHeader}
 use Rattle.xet_shards.specs.Export.KeyedExport.{BadSection, xorbs_after}
@@ -14,7 +12,7 @@ use Rattle.xet_base.specs.MemorySource.{in_memory}
 use Rattle.xet_shards.specs.Read.StoredSection.{ReadsStored}
 use Rattle.xet_shards.specs.Write.Layout.{shard_header_bytes}
 use Rattle.xet_shards.proofs.Ends.Loading.{header_of}
-use Rattle.xet_shards.proofs.Read.StoredSections.{has_its_rows, xorbs_left, xorbs_bad, shard_stored}
+use Rattle.xet_shards.proofs.Read.StoredSections.{xorbs_left, xorbs_bad, shard_stored}
 use Rattle.xet_shards.proofs.shard_format.read.stored_shard.read_stored_shard.Goals as goal
 use Rattle.xet_shards.proofs.shard_format.read.stored_shard.read_stored_shard.Goals.{In_ok-files}
 
@@ -56,10 +54,7 @@ pub invariant_of-result : goal.invariant_of-result
 invariant_of-result c =
     let files = the_files (goal.at.invariant_of-result c).In_ok-files in
     let xorbs = c.in_ok-xorbs.ensures in
-    record {
-      file_rows = has_its_rows file_records file_laws c.in_ok-files.files files.0 files.2;
-      xorb_rows = has_its_rows xorb_records xorb_laws c.in_ok-xorbs.xorbs xorbs.0 xorbs.2;
-    }
+    record { file_section = ∣ (files.0, files.2) ∣₁; xorb_section = ∣ (xorbs.0, xorbs.2) ∣₁ }
 
 pub returns : goal.returns
 returns c =
