@@ -7,7 +7,7 @@ use Rattle.std.proofs.lemmas.Bool.{cases_eq}
 use Rattle.std.proofs.lemmas.List.{drop-drop, drop-append-le, get_or-map, take-append-le, length-append, length-drop, length-map}
 use Rattle.std.proofs.lemmas.List.Elements.{All-map, All-weaker}
 use Rattle.xet_base.specs.Bytes.{u64_from_bytes}
-use Rattle.xet_shards.proofs.Search.Tables.{hits_below-hit, hits_below-miss, offset_of_row-next, offset_of_row-le}
+use Rattle.xet_base.proofs.Search.Tables.{hits_below-hit, hits_below-miss, offset_of_row-next, offset_of_row-le}
 use Rattle.xet_core_structures.specs.Lookup.{AreHits, Collides, IndexFinds, IsRowNumber}
 use Rattle.xet_core_structures.specs.Table.{Table, offset_of_row, row_offset, key_at, value_at, HasKey, IsSorted, hits, hits_below, Hit, IsHit, OtherRow, Finds, FitsTable}
 use Rattle.shard_bytes.specs.Parts.{table_of}

@@ -7,6 +7,7 @@ pub mod Hex
 pub mod HexText
 pub mod Lists
 pub mod Reading
+pub mod Search
 pub mod Searching
 pub mod Worked
 mod Lanes

@@ -7,5 +7,6 @@ pub mod Input
 pub mod InputLaws
 pub mod KeyedHash
 pub mod MemorySource
+pub mod Search
 pub mod Source
 pub mod Steps

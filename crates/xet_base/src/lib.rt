@@ -5,6 +5,7 @@ pub mod count;
 pub mod error;
 pub mod fields;
 pub mod input;
+pub mod interpolation_search;
 mod keyed_hash;
 pub mod merklehash;
 pub mod serialization_utils;

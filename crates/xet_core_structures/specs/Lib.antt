@@ -30,7 +30,7 @@ pub use Rattle.xet_shards.specs.StreamingShard.MinimalShard
 pub use Rattle.xet_shards.specs.Content.Names
 pub use Rattle.xet_shards.specs.Lookup.RunReading
 pub use Rattle.xet_shards.specs.Read.SectionReading
-pub use Rattle.xet_shards.specs.Search.Table
+pub use Rattle.xet_base.specs.Search.Table
 pub use Rattle.xet_shards.specs.Content.SetOperations
 pub use Rattle.xet_shards.specs.Content.Shard
 pub use Rattle.xet_shards.specs.Content.ShardsWithoutAux

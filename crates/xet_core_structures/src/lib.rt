@@ -7,9 +7,8 @@ pub mod set_operations;
 pub mod well_formed;
 
 pub use xet_base::{
-    count, error, fields, input, merklehash, serialization_utils, sorted_hashes, source,
+    count, error, fields, input, interpolation_search, merklehash, serialization_utils,
+    sorted_hashes, source,
 };
 pub use xet_records::{file_structs, record_bytes, record_reader, rows, xorb_structs};
-pub use xet_shards::{
-    interpolation_search, shard_format, shard_in_memory, shard_writer, streaming_shard, utils,
-};
+pub use xet_shards::{shard_format, shard_in_memory, shard_writer, streaming_shard, utils};

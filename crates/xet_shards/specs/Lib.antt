@@ -3,7 +3,6 @@ pub mod ShardInMemory
 pub mod Ends
 pub mod Write
 pub mod Read
-pub mod Search
 pub mod Lookup
 pub mod Export
 pub mod Steps

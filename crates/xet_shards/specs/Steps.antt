@@ -14,10 +14,8 @@ pub mod MinimalCopying
 pub mod MinimalShard
 pub mod MinimalWriting
 pub mod PartOrder
-pub mod Probes
 pub mod RunReading
 pub mod RunSteps
-pub mod Search
 pub mod SectionReading
 pub mod StoredSection
 pub mod TableReading

@@ -11,7 +11,7 @@ use Rattle.std.proofs.lemmas.Map.Keys.{Less-from_sorted}
 use Rattle.xet_base.specs.declared.error.CoreError.{CoreError}
 use Rattle.xet_base.specs.Bytes.{u32_bytes, u64_bytes}
 use Rattle.xet_base.specs.Source.{Source, DeviceFailure}
-use Rattle.xet_shards.specs.Search.Table.{Table, table_at, Hit, IsHit, Finds, hits, IsSorted, SearchIsBounded, SearchRefused}
+use Rattle.xet_base.specs.Search.Table.{Table, table_at, Hit, IsHit, Finds, hits, IsSorted, SearchIsBounded, SearchRefused}
 use Rattle.xet_base.proofs.Bytes.{length-u32_bytes, u32_bytes-front, u32_bytes-injective}
 use Rattle.xet_records.specs.declared.file_structs.MDBFileInfo.{MDBFileInfo}
 use Rattle.xet_records.specs.declared.xorb_structs.MDBXorbInfo.{MDBXorbInfo}

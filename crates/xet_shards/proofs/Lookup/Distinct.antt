@@ -6,8 +6,8 @@ use Rattle.std.proofs.lemmas.List.{take_all}
 use Rattle.std.proofs.lemmas.List.Elements.{All-cons, All-drop, All-weaker, filter-append}
 use Rattle.std.proofs.lemmas.List.Sums.{sum_by-append, sum_by-cons}
 use Rattle.std.proofs.lemmas.Bool.{cases_eq, ne_eqb, cond-true, cond-false}
-use Rattle.xet_shards.specs.Search.Table.{Hit, OtherRow}
-use Rattle.xet_shards.proofs.Search.KnownTable.{sum_below}
+use Rattle.xet_base.specs.Search.Table.{Hit, OtherRow}
+use Rattle.xet_base.proofs.Search.KnownTable.{sum_below}
 
 -- f, but 0 at i
 abbrev zeroed_at : (ℕ → ℕ) → ℕ → ℕ → ℕ

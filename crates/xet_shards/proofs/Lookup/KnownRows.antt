@@ -7,9 +7,9 @@ use Rattle.std.proofs.Math.Nat.{eq-zero-or-pos}
 use Rattle.xet_base.specs.declared.error.CoreError.{CoreError}
 use Rattle.xet_base.specs.Bytes.{u64_bytes}
 use Rattle.xet_base.specs.Source.{Source, DeviceFailure}
-use Rattle.xet_shards.specs.Search.Table.{offset_of_row, table_at, hits_below, Table, row_offset, key_at, value_at, HasKey, IsSorted, hits, Hit, IsHit, OtherRow, FitsTable, SearchRefused}
-use Rattle.xet_shards.proofs.Search.Tables.{offset_of_row-zero}
-use Rattle.xet_shards.proofs.Search.KnownTable.{sum_below, key_is, value_is, key_is_there, row_is_there, hits_below-sum}
+use Rattle.xet_base.specs.Search.Table.{offset_of_row, table_at, hits_below, Table, row_offset, key_at, value_at, HasKey, IsSorted, hits, Hit, IsHit, OtherRow, FitsTable, SearchRefused}
+use Rattle.xet_base.proofs.Search.Tables.{offset_of_row-zero}
+use Rattle.xet_base.proofs.Search.KnownTable.{sum_below, key_is, value_is, key_is_there, row_is_there, hits_below-sum}
 use Rattle.xet_shards.proofs.Lookup.Distinct.{all_marked, count_marked, few_marked, sum-marked_hits}
 
 -- rows of a table at an offset of a source, in ascending order of their keys; `d` is a row for where a list has none

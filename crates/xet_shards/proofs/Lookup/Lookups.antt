@@ -4,7 +4,7 @@ use Rattle.std.specs.Prelude.{IfOk}
 use Rattle.std.specs.declared.result.Result.{Result}
 use Rattle.std.proofs.lemmas.Grind.{common_steps}
 use Rattle.std.proofs.lemmas.List.{length-append}
-use Rattle.xet_shards.specs.Search.Table.{Table, IsSorted, SearchIsBounded, Hit, Finds}
+use Rattle.xet_base.specs.Search.Table.{Table, IsSorted, SearchIsBounded, Hit, Finds}
 use Rattle.xet_base.specs.Source.{NoFailure, Source, ReadsBytes, Fails, after_seek, bytes_left}
 use Rattle.std.proofs.lemmas.List.Elements.{AllZip-push, All-push}
 use Rattle.std.proofs.lemmas.List.Sums.{sum_by-append}
@@ -14,7 +14,7 @@ use Rattle.xet_shards.specs.Write.Tables.{hash_in}
 use Rattle.std.specs.declared.io.Error.{Error}
 use Rattle.xet_base.specs.Errors.{FromDevice}
 use Rattle.xet_base.proofs.Reading.{ReadsBytes-consumes}
-use Rattle.xet_shards.proofs.Search.Steps.{serves_still, serves_moved, serves_advanced}
+use Rattle.xet_base.proofs.Search.Steps.{serves_still, serves_moved, serves_advanced}
 use Rattle.xet_records.specs.RecordKind.{RecordKind}
 use Rattle.xet_records.specs.Reading.{ReadsBookend}
 use Rattle.xet_records.proofs.RecordKinds.{KindLaws, length-record_bytes, stored_begins}

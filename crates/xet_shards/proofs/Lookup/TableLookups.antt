@@ -12,7 +12,7 @@ use Rattle.xet_base.specs.declared.error.CoreError.TheVariants.{OutOfMemory, Tru
 use Rattle.xet_base.specs.declared.merklehash.DataHash.{DataHash}
 use Rattle.xet_base.specs.Bytes.{u32_bytes}
 use Rattle.xet_base.specs.Source.{Source, DeviceFailure}
-use Rattle.xet_shards.specs.Search.Table.{table_at, Table, IsSorted, hits, Hit, IsHit, OtherRow, SearchRefused, SearchIsBounded}
+use Rattle.xet_base.specs.Search.Table.{table_at, Table, IsSorted, hits, Hit, IsHit, OtherRow, SearchRefused, SearchIsBounded}
 use Rattle.xet_base.proofs.Bytes.{length-u32_bytes, u32_bytes-injective}
 use Rattle.xet_records.specs.RecordKind.{RecordKind}
 use Rattle.xet_records.proofs.RecordKinds.{KindLaws}

@@ -10,7 +10,7 @@ use Rattle.xet_base.specs.Errors.{CoreResult, IsBareInvalidShard}
 use Rattle.xet_base.specs.declared.error.CoreError.TheVariants.{InvalidShard}
 use Rattle.xet_base.specs.declared.merklehash.DataHash.{DataHash}
 use Rattle.xet_base.specs.Source.{Source, NoFailure}
-use Rattle.xet_shards.specs.Search.Table.{Table, Hit, Finds}
+use Rattle.xet_base.specs.Search.Table.{Table, Hit, Finds}
 use Rattle.xet_base.proofs.Lists.{front_is}
 use Rattle.xet_records.specs.XorbRecord.{xorb_records}
 use Rattle.xet_records.proofs.RecordKinds.{xorb_laws}

@@ -13,7 +13,7 @@ use Rattle.xet_base.specs.declared.merklehash.DataHash.{DataHash}
 use Rattle.xet_base.specs.Hash.{hash_eq}
 use Rattle.xet_base.specs.KeyedHash.{under_key}
 use Rattle.xet_base.specs.Source.{Source, DeviceFailure}
-use Rattle.xet_shards.specs.Search.Table.{Table, Hit, IsHit, OtherRow, hits}
+use Rattle.xet_base.specs.Search.Table.{Table, Hit, IsHit, OtherRow, hits}
 use Rattle.xet_base.proofs.HashOrder.{same_hash}
 use Rattle.xet_records.specs.declared.file_structs.MDBFileInfo.{MDBFileInfo}
 use Rattle.xet_records.specs.declared.xorb_structs.MDBXorbInfo.{MDBXorbInfo}

@@ -9,7 +9,7 @@ use Rattle.xet_base.specs.declared.merklehash.DataHash.{DataHash}
 use Rattle.xet_base.specs.Bytes.{u32_bytes}
 use Rattle.xet_base.specs.Errors.{CoreResult, IsBareInvalidShard}
 use Rattle.xet_base.specs.Source.{Source, DeviceFailure, NoFailure}
-use Rattle.xet_shards.specs.Search.Table.{Table, table_at, Hit, IsHit, OtherRow, IsSorted, hits, Finds, FitsTable, SearchIsBounded, IsEven, SearchRefused}
+use Rattle.xet_base.specs.Search.Table.{Table, table_at, Hit, IsHit, OtherRow, IsSorted, hits, Finds, FitsTable, SearchIsBounded, IsEven, SearchRefused}
 use Rattle.xet_records.specs.declared.file_structs.MDBFileInfo.{MDBFileInfo}
 use Rattle.xet_records.specs.RecordKind.{RecordKind}
 use Rattle.xet_records.specs.FileRecord.{file_records}

@@ -6,7 +6,7 @@ use Rattle.xet_base.specs.declared.merklehash.DataHash.{DataHash}
 use Rattle.xet_base.specs.Errors.{CoreResult, IsEndOfInput, IsBareInvalidShard}
 use Rattle.xet_base.specs.KeyedHash.{under_key}
 use Rattle.xet_base.specs.Source.{Source, DeviceFailure, NoFailure}
-use Rattle.xet_shards.specs.Search.Table.{Hit, IsHit, OtherRow, IsSorted, hits, FitsTable, SearchIsBounded, SearchRefused}
+use Rattle.xet_base.specs.Search.Table.{Hit, IsHit, OtherRow, IsSorted, hits, FitsTable, SearchIsBounded, SearchRefused}
 use Rattle.xet_records.specs.declared.xorb_structs.XorbChunkSequenceEntry.{XorbChunkSequenceEntry}
 use Rattle.xet_records.specs.declared.xorb_structs.XorbChunkSequenceHeader.{XorbChunkSequenceHeader}
 use Rattle.xet_records.specs.Reading.{BeginsWithHeader}

@@ -3,7 +3,7 @@
 //! A lookup is a search in a table, `search_table`, which is one function for all widths of rows
 //! (`TableValue`). For a file the records at the rows that `find_rows` found are read one after
 //! another, `first_with_hash`. What these say on any bytes is joined in `look_up`. What it says on
-//! the bytes of a shard follows in lemmas: `xet_shards/proofs/Search/KnownTable.antt` gives the keys and
+//! the bytes of a shard follows in lemmas: `xet_base/proofs/Search/KnownTable.antt` gives the keys and
 //! values of a table whose rows are known, `proofs/Lookup/KnownRows.antt` what a search in it
 //! finds, for rows of any kind, `proofs/Lookup/TableLookups.antt` the record at each row where a
 //! source has a section of records of any kind and a table of their starts (`IsLookedUp`), and what

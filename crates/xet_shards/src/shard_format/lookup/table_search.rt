@@ -2,15 +2,15 @@
 
 ghost use Rattle.std.specs.Prelude.{◌≡◌, ◌⊎◌, ℕ, List, ◌+◌, ◌<◌, ◌≤◌, length, min, MatchResult, OnOk, IfOk, IfErr};
 ghost use Rattle.xet_base.specs.Source.{FillFails, next_bytes, NoFailure};
-ghost use Rattle.xet_shards.specs.Search.Table.{table_at, Finds, FitsTable, SearchRefused, hits, IsSorted, SearchIsBounded, IsEven, ReadsCount};
+ghost use Rattle.xet_base.specs.Search.Table.{table_at, Finds, FitsTable, SearchRefused, hits, IsSorted, SearchIsBounded, IsEven, ReadsCount};
 ghost use Rattle.xet_shards.specs.Lookup.Lookup.{IsRowNumber, IsRowAndIndex, Searches, LooksUpIndex};
 
-use crate::interpolation_search::search_on_sorted_u64s;
 use crate::shard_format::MOST_FOUND;
 use std::alloc::Global;
 use std::io;
 use xet_base::error::{CoreError, Result};
 use xet_base::fields::split_u32;
+use xet_base::interpolation_search::search_on_sorted_u64s;
 use xet_base::source::{ShardSource, read_full};
 
 /// What a row of a lookup table has behind its first word.

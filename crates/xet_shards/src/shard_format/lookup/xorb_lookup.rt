@@ -3,7 +3,7 @@
 ghost use Rattle.std.specs.Prelude.{◌≡◌, ℕ, List, Option, true, ◌+◌, ◌≤◌, min, MatchResult, OnOk, IfOk, IfErr};
 ghost use Rattle.std.specs.FinMap as finite;
 ghost use Rattle.xet_base.specs.KeyedHash.{under_key};
-ghost use Rattle.xet_shards.specs.Search.Table.{IsSorted};
+ghost use Rattle.xet_base.specs.Search.Table.{IsSorted};
 ghost use Rattle.xet_base.specs.Source.{NoFailure};
 ghost use Rattle.xet_records.specs.declared.file_structs.MDBFileInfo.{MDBFileInfo as File};
 ghost use Rattle.xet_records.specs.declared.xorb_structs.MDBXorbInfo.{MDBXorbInfo as Xorb};

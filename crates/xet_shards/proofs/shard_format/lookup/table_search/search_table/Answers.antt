@@ -1,5 +1,5 @@
 use Rattle.std.proofs.Common.{length, rules, subst}
-use Rattle.xet_shards.specs.Search.Table.{table_at}
+use Rattle.xet_base.specs.Search.Table.{table_at}
 use Rattle.xet_shards.specs.Lookup.Lookup.{Searches}
 use Rattle.xet_shards.proofs.Lookup.Lookups.{finds_weaker}
 use Rattle.xet_shards.proofs.shard_format.lookup.table_search.search_table.Goals as goal
