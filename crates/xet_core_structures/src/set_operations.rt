@@ -3,12 +3,12 @@
 ghost use Rattle.std.specs.Prelude.{◌≡◌, ◌≢◌, ◌⊎◌, ◌<◌, ◌≤◌, Some, length, map, slice_get, IsErrAnd, MatchResult, List};
 ghost use Rattle.xet_shards.specs.Content.Shard.{Shard};
 ghost use Rattle.xet_shards.specs.Write.WrittenShard.{IsBytesWithoutExpiry};
-ghost use Rattle.xet_core_structures.specs.TwoShards.ByteResults.{key_of};
+ghost use Rattle.xet_core_structures.specs.TwoShards.ByteResults.{key_of, UnitesBytes, BytesRefusal};
 ghost use Rattle.xet_core_structures.specs.Trees.Filling.{FillsWith};
 ghost use Rattle.xet_core_structures.specs.TwoShards.SetOutcomes.{Unites, Subtracts};
 ghost use Rattle.xet_core_structures.specs.TwoShards.Streams.{streams};
 ghost use Rattle.xet_core_structures.specs.Trees.InVersions.{MadeIn, RefusedIn, TreeWritesIn, TreeRefusalIn};
-ghost use Rattle.xet_core_structures.specs.Trees.MergeTrees.{TreeWrites, TreeRefusal, IsMerge, MergeRefused};
+ghost use Rattle.xet_core_structures.specs.Trees.MergeTrees.{LeafWrites, LeafRefusal, TreeWrites, TreeRefusal, IsMerge, MergeRefused};
 
 mod agreement;
 mod ranges;
@@ -32,8 +32,9 @@ use trees::versions::{fill_with_part_in, part_bytes_in};
 use two_shards::record_operation::{OfDifference, OfUnion};
 use two_shards::results::operate;
 use xet_base::error::{CoreError, Result};
-use xet_base::source::ShardSource;
+use xet_base::source::{MemorySource, ShardSource};
 pub use xet_records::record_reader::FormatVersion;
+use xet_records::row_copier::CopyFailure;
 use xet_shards::shard_format::MDBShardInfo;
 
 /// Writes the union of two shards, each of either version, in version 3: header, sections, lookup
@@ -123,7 +124,54 @@ pub fn shard_union_tree(alloc: Global, plan: &MergePlan, inputs: &[&[u8]]) -> Re
         → IsMerge (map (λ x. x.now) inputs.now) plan.now shards join
         → MatchResult result (λ bytes. IsBytesWithoutExpiry join bytes.items) (MergeRefused join) }
 {
-    merge(alloc, plan, inputs, FormatVersion::V3)
+    merge(alloc, plan, inputs)
+}
+
+// The same, without the clause on inputs that agree.
+fn merge(alloc: Global, plan: &MergePlan, inputs: &[&[u8]]) -> Result<Vec<u8>>
+    ensures { MatchResult result
+        (λ bytes. TreeWrites (map (λ x. x.now) inputs.now) plan.now bytes.items)
+        (TreeRefusal (map (λ x. x.now) inputs.now) plan.now) }
+{
+    match plan {
+        MergePlan::Leaf(index) => copy_input(alloc, inputs, *index),
+        MergePlan::Both(left, right) => {
+            let left = merge(alloc, left, inputs)?;
+            let right = merge(alloc, right, inputs)?;
+            unite_bytes(alloc, &left, &right)
+        }
+    }
+}
+
+// A copy of the input at an index.
+fn copy_input(alloc: Global, inputs: &[&[u8]], index: usize) -> Result<Vec<u8>>
+    ensures { MatchResult result
+        (λ bytes. LeafWrites (map (λ x. x.now) inputs.now) index bytes.items)
+        (LeafRefusal (map (λ x. x.now) inputs.now) index) }
+{
+    if index >= inputs.len() {
+        return Err(CoreError::InvalidArguments);
+    }
+    Ok(Vec::from_slice(alloc, inputs[index])?)
+}
+
+// The bytes of the union of two shards. Writing to a vector fails only if it is out of memory.
+fn unite_bytes(alloc: Global, first: &[u8], second: &[u8]) -> Result<Vec<u8>>
+    ensures { MatchResult result (λ bytes. UnitesBytes first.now second.now bytes.items)
+        (BytesRefusal first.now second.now) }
+{
+    let mut r1 = MemorySource::new(first);
+    let mut r2 = MemorySource::new(second);
+    let s1 = MDBShardInfo::load_from_reader(alloc, &mut r1)?;
+    let s2 = MDBShardInfo::load_from_reader(alloc, &mut r2)?;
+    let mut bytes = Vec::new(alloc);
+    match operate::<OfUnion, MemorySource<'_>, MemorySource<'_>, Vec<u8>>(
+        alloc, &s1, &mut r1, &s2, &mut r2, &mut bytes,
+    ) {
+        Ok(_) => Ok(bytes),
+        Err(CopyFailure::Input(error)) => Err(error),
+        Err(CopyFailure::Output(_)) => Err(CoreError::OutOfMemory),
+    }
 }
 
 /// The same in a version of the format. What a leaf alone gives is copied, whatever its version.
@@ -143,7 +191,7 @@ pub fn shard_union_tree_in(
         → MatchResult result (λ bytes. MadeIn version (IsBytesWithoutExpiry join) bytes.items)
         (RefusedIn version (IsBytesWithoutExpiry join) (MergeRefused join)) }
 {
-    merge(alloc, plan, inputs, version)
+    merge_in(alloc, plan, inputs, version)
 }
 
 /// Writes the bytes that [`shard_union_tree_in`] makes to the front of a slice, if they fit, and
@@ -171,7 +219,7 @@ pub fn shard_union_tree_into(
 // The same, without the clause on inputs that agree. No byte is written before the tree is done.
 // The list and its slices share one lifetime: the borrow checker finds no lifetime within both
 // theirs and the arena's.
-fn merge<'a>(
+fn merge_in<'a>(
     alloc: Global,
     plan: &MergePlan,
     inputs: &'a [&'a [u8]],

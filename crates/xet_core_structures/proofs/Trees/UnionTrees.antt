@@ -11,7 +11,6 @@ use Rattle.xet_shards.specs.Content.Shard.{Shard}
 use Rattle.xet_shards.proofs.Content.Joins.{join-unique, join-one, follows_parts}
 use Rattle.xet_core_structures.specs.declared.set_operations.MergePlan.{MergePlan}
 use Rattle.xet_core_structures.specs.declared.set_operations.MergePlan.TheVariants.{Leaf, Both'}
-use Rattle.xet_core_structures.specs.declared.set_operations.trees.parts.TreePart.{TreePart}
 use Rattle.xet_core_structures.specs.TwoShards.ByteResults.{keyed_layout, UnitesBytes, BytesRefusal}
 use Rattle.xet_core_structures.specs.Records.ShardContents.{HoldsShard}
 use Rattle.xet_core_structures.specs.Trees.MergeTrees.{leaves, HasUnion, TreeMakes, TreeRefuses, MergeRefused}
@@ -20,7 +19,7 @@ use Rattle.xet_core_structures.proofs.Trees.Sides.{sides_of, side_refused}
 -- `Makes` says what each leaf makes, `Refuses` why one makes nothing
 module _ (Makes : ℕ → List ℕ → Type 0) (Refuses : ℕ → CoreError → Type 0) where
   -- both sides of a tree give a part, and so does their union, or it is refused
-  pub both_parts : (Is : List ℕ → TreePart → Type 0) (left right : MergePlan) (x y : List ℕ) (r : Result TreePart CoreError) → TreeMakes Makes left x → TreeMakes Makes right y
+  pub both_parts : {T : Type 0} (Is : List ℕ → T → Type 0) (left right : MergePlan) (x y : List ℕ) (r : Result T CoreError) → TreeMakes Makes left x → TreeMakes Makes right y
       → MatchResult r (λ part. (bytes : List ℕ) × UnitesBytes x y bytes × Is bytes part) (BytesRefusal x y)
       → MatchResult r
       (λ part. (bytes : List ℕ) × ((x y : List ℕ) × TreeMakes Makes left x × TreeMakes Makes right y × UnitesBytes x y bytes) × Is bytes part)

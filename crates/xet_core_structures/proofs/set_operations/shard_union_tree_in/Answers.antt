@@ -11,5 +11,5 @@ returns-clause-one_byte_string c = λ shards join merge.
     let version = c.args.version in
     let layout = one_layout inputs plan shards join merge in
     let refusal = one_refusal inputs plan shards join merge in
-    if_written _ _ _ _ c.merge.result (λ out writes. made_as _ _ _ _ layout refusal version out (made_by_tree inputs version plan out merge.union writes))
-    (λ e refused. refused_as _ _ _ _ layout refusal version e (refused_by_tree inputs version plan e merge.union refused)) c.merge.ensures
+    if_written _ _ _ _ c.merge_in.result (λ out writes. made_as _ _ _ _ layout refusal version out (made_by_tree inputs version plan out merge.union writes))
+    (λ e refused. refused_as _ _ _ _ layout refusal version e (refused_by_tree inputs version plan e merge.union refused)) c.merge_in.ensures

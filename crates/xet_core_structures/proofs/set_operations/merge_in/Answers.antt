@@ -3,7 +3,7 @@ use Rattle.std.specs.Borrow.{Bor}
 use Rattle.std.proofs.lemmas.Result.{err_from_is_err_and}
 use Rattle.xet_core_structures.proofs.Trees.Parts.{part_of_tree}
 use Rattle.xet_core_structures.proofs.Trees.InVersions.{made_of_tree, refused_of_tree, refused_early, if_written}
-use Rattle.xet_core_structures.proofs.set_operations.merge.Goals as goal
+use Rattle.xet_core_structures.proofs.set_operations.merge_in.Goals as goal
 
 pub returns-in_err-part : goal.returns-in_err-part
 returns-in_err-part c =
