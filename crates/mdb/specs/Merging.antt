@@ -4,11 +4,11 @@ use Rattle.std.specs.Borrow.{Bor}
 use Rattle.std.specs.Option.{MatchOption}
 use Rattle.xet_core_structures.specs.declared.error.CoreError.{CoreError}
 use Rattle.xet_core_structures.specs.declared.error.CoreError.TheVariants.{OutOfMemory as no_memory}
-use Rattle.xet_core_structures.specs.declared.set_operations.agreement.Disagreement.{Disagreement}
-use Rattle.xet_core_structures.specs.declared.set_operations.agreement.MalformedRecord.{MalformedRecord}
-use Rattle.xet_core_structures.specs.Agreement.Agreement.{HoldShards, IsFirstMalformed, InputsAgree, InputsRefusal}
-use Rattle.xet_core_structures.specs.Agreement.Agreement.{HasAllDisagreements}
-use Rattle.xet_core_structures.specs.Trees.InVersions.{MadeIn, RefusedIn}
+use Rattle.shard_merging.specs.declared.merging.agreement.Disagreement.{Disagreement}
+use Rattle.shard_merging.specs.declared.merging.agreement.MalformedRecord.{MalformedRecord}
+use Rattle.shard_merging.specs.Agreement.Agreement.{HoldShards, IsFirstMalformed, InputsAgree, InputsRefusal}
+use Rattle.shard_merging.specs.Agreement.Agreement.{HasAllDisagreements}
+use Rattle.shard_merging.specs.Trees.InVersions.{MadeIn, RefusedIn}
 use Rattle.xet_records.specs.declared.record_reader.FormatVersion.{FormatVersion}
 use Rattle.shard_bytes.specs.Agreeing.{IsMergeOfAgreeing, RefusesAgreeing}
 use Rattle.shard_bytes.specs.Merging.{MergesBytes, RefusesMerge}

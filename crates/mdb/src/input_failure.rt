@@ -1,7 +1,7 @@
 //! Why inputs cannot be combined, and which of them is at fault.
 
 ghost use Rattle.std.specs.Prelude.{◌≡◌, [], map, slice_get, IsTrue, MatchOption, MatchResult};
-ghost use Rattle.xet_core_structures.specs.Agreement.Agreement.{HasAllDisagreements, InputsRefusal};
+ghost use Rattle.shard_merging.specs.Agreement.Agreement.{HasAllDisagreements, InputsRefusal};
 ghost use Rattle.mdb.specs.Merging.{SaysDisagree, SaysCause};
 
 use crate::failure::{Failure, Subject};
@@ -11,12 +11,12 @@ use shard_bytes::check::{Finding, Part};
 use shard_bytes::combine::{Operation, combine_bytes};
 use shard_bytes::load::load_bytes;
 use shard_files::files::read_shard;
+use shard_merging::{Disagreement, MalformedRecord, find_disagreements};
 use std::alloc::Global;
 use std::rt::Files;
 use xet_core_structures::error::CoreError;
 use xet_core_structures::merklehash::MerkleHash;
 use xet_core_structures::record_reader::FormatVersion;
-use xet_core_structures::set_operations::{Disagreement, MalformedRecord, find_disagreements};
 
 /// Why a union or a difference failed: the first input that cannot be read, else what is wrong with
 /// the inputs together.

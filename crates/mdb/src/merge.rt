@@ -2,7 +2,7 @@
 
 ghost use Rattle.std.specs.Prelude.{◌≡◌, List, ℕ, Option, zip, map, IfOk, MatchResult};
 ghost use Rattle.shard_bytes.specs.Merging.{MergesBytes};
-ghost use Rattle.xet_core_structures.specs.Trees.InVersions.{MadeIn};
+ghost use Rattle.shard_merging.specs.Trees.InVersions.{MadeIn};
 ghost use Rattle.mdb.specs.Expiries.{IsNewExpiry};
 ghost use Rattle.mdb.specs.Merging.{UnitesTo, UnionFails, SaysNotMerged};
 ghost use Rattle.mdb.specs.Writing.{HasExpiry};

@@ -11,12 +11,12 @@ use record_report::record_line::LineFault;
 use shard_bytes::check::{Finding, Part, Section, check_bytes};
 use shard_bytes::export::Export;
 use shard_bytes::load::load_bytes;
+use shard_merging::RecordHash;
 use std::alloc::{AllocError, AllocFailed, Global};
 use std::{fmt, io};
 use xet_core_structures::error::CoreError;
 use xet_core_structures::file_structs::KeptParts;
 use xet_core_structures::merklehash::MerkleHash;
-use xet_core_structures::set_operations::RecordHash;
 
 /// Why a command failed.
 #[derive(Drop)]

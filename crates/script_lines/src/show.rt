@@ -2,6 +2,7 @@
 
 use crate::ranges::hex_digits;
 use shard_bytes::check::Finding;
+use shard_merging::{Disagreement, MalformedRecord, RecordHash};
 use std::alloc::Global;
 use std::io::{self, Write};
 use std::rc::Rc;
@@ -10,7 +11,6 @@ use xet_core_structures::file_structs::{
     FileVerificationEntry, MDBFileInfo,
 };
 use xet_core_structures::merklehash::{HMACKey, MerkleHash};
-use xet_core_structures::set_operations::{Disagreement, MalformedRecord, RecordHash};
 use xet_core_structures::xorb_structs::{
     MDBXorbInfo, XorbChunkSequenceEntry, XorbChunkSequenceHeader,
 };

@@ -7,30 +7,30 @@ use Rattle.xet_core_structures.specs.declared.merklehash.DataHash.{DataHash}
 use Rattle.xet_core_structures.specs.declared.file_structs.MDBFileInfo.{MDBFileInfo}
 use Rattle.xet_core_structures.specs.declared.xorb_structs.MDBXorbInfo.{MDBXorbInfo}
 use Rattle.xet_core_structures.specs.declared.set_operations.MergePlan.{MergePlan}
-use Rattle.xet_core_structures.specs.declared.set_operations.agreement.AgreeingMerge.{AgreeingMerge}
-use Rattle.xet_core_structures.specs.declared.set_operations.agreement.AgreeingMerge.TheVariants.{Bytes, Disagreements, Malformed}
-use Rattle.xet_core_structures.specs.declared.set_operations.agreement.AgreeingFill.{AgreeingFill}
-use Rattle.xet_core_structures.specs.declared.set_operations.agreement.AgreeingFill.TheVariants.{Bytes as FilledBytes, Disagreements as Disagreeing, Malformed as Misformed}
-use Rattle.xet_core_structures.specs.declared.set_operations.agreement.Disagreement.{Disagreement}
-use Rattle.xet_core_structures.specs.declared.set_operations.agreement.MalformedRecord.{MalformedRecord}
-use Rattle.xet_core_structures.specs.declared.set_operations.agreement.RecordHash.{RecordHash}
-use Rattle.xet_core_structures.specs.declared.set_operations.agreement.RecordHash.TheVariants.{File, Xorb}
-use Rattle.xet_core_structures.specs.Agreement.Agreement.{HoldsAt, IsHeld, HasKey, HasMalformed, HoldShards, IsFirstMalformed, InputsAgree, InputsDisagree, HasAllDisagreements, AgreeingRefusal, MergesOrFinds, FillsOrFinds}
+use Rattle.shard_merging.specs.declared.merging.agreement.AgreeingMerge.{AgreeingMerge}
+use Rattle.shard_merging.specs.declared.merging.agreement.AgreeingMerge.TheVariants.{Bytes, Disagreements, Malformed}
+use Rattle.shard_merging.specs.declared.merging.agreement.AgreeingFill.{AgreeingFill}
+use Rattle.shard_merging.specs.declared.merging.agreement.AgreeingFill.TheVariants.{Bytes as FilledBytes, Disagreements as Disagreeing, Malformed as Misformed}
+use Rattle.shard_merging.specs.declared.merging.agreement.Disagreement.{Disagreement}
+use Rattle.shard_merging.specs.declared.merging.agreement.MalformedRecord.{MalformedRecord}
+use Rattle.shard_merging.specs.declared.merging.agreement.RecordHash.{RecordHash}
+use Rattle.shard_merging.specs.declared.merging.agreement.RecordHash.TheVariants.{File, Xorb}
+use Rattle.shard_merging.specs.Agreement.Agreement.{HoldsAt, IsHeld, HasKey, HasMalformed, HoldShards, IsFirstMalformed, InputsAgree, InputsDisagree, HasAllDisagreements, AgreeingRefusal, MergesOrFinds, FillsOrFinds}
 use Rattle.xet_core_structures.specs.FileRecord.{IsWellFormed}
 use Rattle.xet_core_structures.specs.XorbRecord.{IsXorb}
 use Rattle.xet_core_structures.specs.Records.ShardContents.{HasShard, HoldsShard}
 use Rattle.xet_core_structures.specs.Joins.{AgreePairwise}
 use Rattle.xet_core_structures.specs.Shard.{Shard, IsShard}
 use Rattle.xet_core_structures.specs.Errors.{CoreResult}
-use Rattle.xet_core_structures.specs.Trees.InVersions.{MadeIn}
+use Rattle.shard_merging.specs.Trees.InVersions.{MadeIn}
 use Rattle.xet_core_structures.specs.Trees.MergeTrees.{leaves}
 use Rattle.xet_core_structures.specs.declared.set_operations.FormatVersion.{FormatVersion}
-use Rattle.xet_core_structures.proofs.Agreement.AgreeingTrees.{of_hash, held_agree, agreeing_tree}
-use Rattle.xet_core_structures.proofs.Agreement.Malformed.{held_formed}
+use Rattle.shard_merging.proofs.Agreement.AgreeingTrees.{of_hash, held_agree, agreeing_tree}
+use Rattle.shard_merging.proofs.Agreement.Malformed.{held_formed}
 use Rattle.xet_core_structures.proofs.Records.ShardContents.{only_shard}
-use Rattle.xet_core_structures.proofs.Records.Items.{has_at, place_of_item}
+use Rattle.shard_merging.proofs.Records.Items.{has_at, place_of_item}
 use Rattle.xet_shards.proofs.Read.Zipped.{zip_at, zip_back, zipped_member}
-use Rattle.xet_core_structures.proofs.Trees.InVersions.{made_as}
+use Rattle.shard_merging.proofs.Trees.InVersions.{made_as}
 use Rattle.xet_core_structures.proofs.Trees.SameTrees.{join_of_same}
 use Rattle.xet_shards.proofs.Content.AgreeingJoins.{joins_exist}
 use Rattle.xet_shards.proofs.ShardInMemory.FileUnions.{holds_in_map}

@@ -17,10 +17,10 @@ use Rattle.xet_core_structures.specs.declared.merklehash.DataHash.{DataHash}
 use Rattle.xet_core_structures.specs.FileRecord.{file_records, file_records_in, file_record_bytes, has_aux_ext, rows_after}
 use Rattle.xet_core_structures.specs.InARow.{ShardPart, bytes_of_part, options_in, IsPartUnder, files_in}
 use Rattle.xet_core_structures.specs.SectionReading.{IsSection}
-use Rattle.xet_core_structures.specs.Steps.InVersions.{AreNumbered, with_number_2}
-use Rattle.xet_core_structures.specs.Trees.Filling.{Fills}
-use Rattle.xet_core_structures.proofs.Records.Items.{below_or_at}
-use Rattle.xet_core_structures.proofs.Trees.InVersions.{filled_numbered}
+use Rattle.shard_merging.specs.Steps.InVersions.{AreNumbered, with_number_2}
+use Rattle.shard_merging.specs.Trees.Filling.{Fills}
+use Rattle.shard_merging.proofs.Records.Items.{below_or_at}
+use Rattle.shard_merging.proofs.Trees.InVersions.{filled_numbered}
 use Rattle.xet_shards.proofs.Export.Rewriting.{sections_of_layout}
 use Rattle.xet_shards.proofs.Write.Sections.{fits_ever}
 use Rattle.shard_bytes.specs.Versions.{have_aux_rows}

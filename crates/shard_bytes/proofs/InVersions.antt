@@ -6,18 +6,18 @@ use Rattle.xet_core_structures.specs.declared.file_structs.MDBFileInfo.{MDBFileI
 use Rattle.xet_core_structures.specs.declared.merklehash.DataHash.{DataHash}
 use Rattle.xet_core_structures.specs.declared.xorb_structs.MDBXorbInfo.{MDBXorbInfo}
 use Rattle.xet_core_structures.specs.declared.set_operations.MergePlan.{MergePlan}
-use Rattle.xet_core_structures.specs.declared.set_operations.ranges.HashRange.{HashRange}
+use Rattle.shard_merging.specs.declared.merging.ranges.HashRange.{HashRange}
 use Rattle.xet_core_structures.specs.FileRecord.{file_records, file_records_in}
 use Rattle.xet_core_structures.specs.SectionReading.{IsSection}
 use Rattle.xet_core_structures.specs.WithOptions.{FitsSection}
-use Rattle.xet_core_structures.specs.Trees.InVersions.{AreInBothVersions, MadeIn, RefusedIn, TreeWritesIn, TreeRefusalIn}
+use Rattle.shard_merging.specs.Trees.InVersions.{AreInBothVersions, MadeIn, RefusedIn, TreeWritesIn, TreeRefusalIn}
 use Rattle.xet_core_structures.specs.Trees.MergeTrees.{TreeWrites, TreeRefusal}
-use Rattle.xet_core_structures.specs.Trees.RangeTrees.{RangeWrites, RangeRefusal}
+use Rattle.shard_merging.specs.Trees.RangeTrees.{RangeWrites, RangeRefusal}
 use Rattle.xet_core_structures.specs.Shard.{Shard}
 use Rattle.xet_core_structures.specs.TwoShards.ByteResults.{keyed_info, keyed_options}
 use Rattle.xet_core_structures.specs.TwoShards.Readable.{IsBytesUnderKey}
 use Rattle.xet_core_structures.proofs.Trees.TreeXorbs.{shard_under}
-use Rattle.xet_core_structures.proofs.Trees.InVersions.{in_version_2, has_header, number_keeps_size, made_as, refused_as, made_by_tree, refused_by_tree}
+use Rattle.shard_merging.proofs.Trees.InVersions.{in_version_2, has_header, number_keeps_size, made_as, refused_as, made_by_tree, refused_by_tree}
 use Rattle.xet_records.specs.declared.record_reader.FormatVersion.{FormatVersion}
 use Rattle.xet_records.specs.declared.record_reader.FormatVersion.TheVariants.{V2, V3}
 use Rattle.xet_shards.specs.declared.shard_writer.LayoutOptions.{LayoutOptions}

@@ -9,11 +9,11 @@ use Rattle.xet_core_structures.specs.declared.set_operations.MergePlan.{MergePla
 use Rattle.xet_core_structures.specs.declared.set_operations.MergePlan.TheVariants.{Leaf, Both'}
 use Rattle.xet_core_structures.specs.Records.ShardContents.{HoldsShard}
 use Rattle.xet_core_structures.specs.declared.merklehash.DataHash.{DataHash}
-use Rattle.xet_core_structures.specs.declared.set_operations.ranges.HashRange.{HashRange}
+use Rattle.shard_merging.specs.declared.merging.ranges.HashRange.{HashRange}
 use Rattle.xet_core_structures.specs.Joins.{IsJoinOf, AgreePairwise}
 use Rattle.xet_core_structures.specs.KeyedHash.{no_key}
 use Rattle.xet_core_structures.specs.Trees.MergeTrees.{leaves, HasUnion, InputIs, IsMerge}
-use Rattle.xet_core_structures.specs.Trees.RangeTrees.{IsRangeMerge}
+use Rattle.shard_merging.specs.Trees.RangeTrees.{IsRangeMerge}
 use Rattle.xet_core_structures.specs.Shard.{Shard, empty_shard}
 use Rattle.xet_shards.proofs.Content.MappedShards.{mapped_member, unmapped_member}
 use Rattle.xet_shards.proofs.Read.Zipped.{zipped_made}

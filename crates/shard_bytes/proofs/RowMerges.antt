@@ -3,18 +3,18 @@ use Rattle.std.proofs.Common.{inl, inr, ℕ, ◌-◌, ◌+◌, ◌/◌, ◌<◌,
 use Rattle.std.specs.List.{AllZip}
 use Rattle.xet_core_structures.specs.declared.merklehash.DataHash.{DataHash}
 use Rattle.xet_core_structures.specs.declared.set_operations.MergePlan.TheVariants.{Leaf, Both'}
-use Rattle.xet_core_structures.specs.Records.Ranges.{ranges_between, AreCuts}
-use Rattle.xet_core_structures.specs.Trees.RangeTrees.{RangeWrites}
-use Rattle.xet_core_structures.specs.Trees.RowTrees.{InputRowsAre, IsRowsOf, WriteInRows}
-use Rattle.xet_core_structures.proofs.LawProofs.RowRanges.{rows_cover_ranges as by_one_tree}
+use Rattle.shard_merging.specs.Records.Ranges.{ranges_between, AreCuts}
+use Rattle.shard_merging.specs.Trees.RangeTrees.{RangeWrites}
+use Rattle.shard_merging.specs.Trees.RowTrees.{InputRowsAre, IsRowsOf, WriteInRows}
+use Rattle.shard_merging.proofs.LawProofs.RowRanges.{rows_cover_ranges as by_one_tree}
 use Rattle.xet_core_structures.specs.declared.error.CoreError.{CoreError}
 use Rattle.xet_core_structures.specs.declared.set_operations.FormatVersion.{FormatVersion}
 use Rattle.xet_core_structures.specs.declared.set_operations.MergePlan.{MergePlan}
-use Rattle.xet_core_structures.specs.declared.set_operations.ranges.HashRange.{HashRange}
-use Rattle.xet_core_structures.specs.declared.set_operations.rows.SectionRows.{SectionRows}
-use Rattle.xet_core_structures.specs.Trees.InVersions.{MadeIn, RefusedIn}
-use Rattle.xet_core_structures.specs.Trees.RowTrees.{RowsWrite, RowsRefusal}
-use Rattle.xet_core_structures.proofs.Trees.InVersions.{made_as, refused_as}
+use Rattle.shard_merging.specs.declared.merging.ranges.HashRange.{HashRange}
+use Rattle.shard_merging.specs.declared.merging.rows.SectionRows.{SectionRows}
+use Rattle.shard_merging.specs.Trees.InVersions.{MadeIn, RefusedIn}
+use Rattle.shard_merging.specs.Trees.RowTrees.{RowsWrite, RowsRefusal}
+use Rattle.shard_merging.proofs.Trees.InVersions.{made_as, refused_as}
 use Rattle.shard_bytes.specs.Merging.{IsBalanced, IsPlanOfBoth, IsMergePlan, MergesRange}
 use Rattle.shard_bytes.specs.Rows.{MergesRows, MergeInRows, RefusesRows}
 

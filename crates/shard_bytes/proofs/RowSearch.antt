@@ -7,7 +7,7 @@ use Rattle.xet_base.specs.Bytes.{u32_bytes, u64_bytes, u64_from_bytes}
 use Rattle.xet_base.proofs.Bytes.{length-u32_bytes, length-u64_bytes, u64_from_bytes-bytes}
 use Rattle.xet_base.proofs.Lists.{front_is, rest_is}
 use Rattle.xet_core_structures.specs.declared.merklehash.DataHash.{DataHash}
-use Rattle.xet_core_structures.specs.declared.set_operations.rows.SectionRows.{SectionRows}
+use Rattle.shard_merging.specs.declared.merging.rows.SectionRows.{SectionRows}
 use Rattle.shard_bytes.specs.Rows.{word_in, IsRowIn, HasEnds, AreEndsOf}
 
 -- an entry of a table

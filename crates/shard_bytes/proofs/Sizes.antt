@@ -7,15 +7,15 @@ use Rattle.xet_core_structures.specs.declared.error.CoreError.{CoreError}
 use Rattle.xet_core_structures.specs.declared.set_operations.MergePlan.{MergePlan}
 use Rattle.xet_core_structures.specs.declared.set_operations.MergePlan.TheVariants.{Leaf, Both'}
 use Rattle.xet_core_structures.specs.TwoShards.ByteResults.{UnitesBytes}
-use Rattle.xet_core_structures.specs.Trees.Filling.{FillsWith}
+use Rattle.shard_merging.specs.Trees.Filling.{FillsWith}
 use Rattle.xet_core_structures.specs.Trees.MergeTrees.{leaves, HasUnion, TreeMakes, LeafWrites, TreeWrites}
 use Rattle.xet_core_structures.specs.Records.Sizes.{bytes_at}
-use Rattle.xet_core_structures.specs.declared.set_operations.ranges.HashRange.{HashRange}
-use Rattle.xet_core_structures.specs.Trees.RangeTrees.{IsRangeOf, LeafWritesRange, RangeWrites}
-use Rattle.xet_core_structures.specs.declared.set_operations.rows.SectionRows.{SectionRows}
-use Rattle.xet_core_structures.specs.Trees.RowTrees.{IsRowsOf, LeafWritesRows, RowsWrite}
-use Rattle.xet_core_structures.proofs.LawProofs.RangeSizes.{bytes_of_range, bytes_of_repeated_range}
-use Rattle.xet_core_structures.proofs.LawProofs.RowSizes.{bytes_of_rows, bytes_of_repeated_rows}
+use Rattle.shard_merging.specs.declared.merging.ranges.HashRange.{HashRange}
+use Rattle.shard_merging.specs.Trees.RangeTrees.{IsRangeOf, LeafWritesRange, RangeWrites}
+use Rattle.shard_merging.specs.declared.merging.rows.SectionRows.{SectionRows}
+use Rattle.shard_merging.specs.Trees.RowTrees.{IsRowsOf, LeafWritesRows, RowsWrite}
+use Rattle.shard_merging.proofs.LawProofs.RangeSizes.{bytes_of_range, bytes_of_repeated_range}
+use Rattle.shard_merging.proofs.LawProofs.RowSizes.{bytes_of_rows, bytes_of_repeated_rows}
 use Rattle.xet_core_structures.proofs.LawProofs.UnionSizes.{bytes_of_union, bytes_of_tree, bytes_of_difference, bytes_of_repetition}
 use Rattle.shard_bytes.specs.declared.combine.Operation.{Operation}
 use Rattle.shard_bytes.specs.declared.combine.Operation.TheVariants.{Union, Difference}

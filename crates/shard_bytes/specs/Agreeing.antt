@@ -2,19 +2,19 @@
 use Rattle.std.specs.Prelude.{◌≡◌, ◌⊎◌, ℕ, ◌<◌, List, length, Contains}
 use Rattle.std.specs.List.{AllZip}
 use Rattle.xet_core_structures.specs.declared.merklehash.DataHash.{DataHash}
-use Rattle.xet_core_structures.specs.Agreement.Agreement.{HoldShards, IsFirstMalformed, InputsAgree, HasAllDisagreements, WellFormedRefusal}
+use Rattle.shard_merging.specs.Agreement.Agreement.{HoldShards, IsFirstMalformed, InputsAgree, HasAllDisagreements, WellFormedRefusal}
 use Rattle.xet_core_structures.specs.Joins.{IsJoinOf, AgreePairwise}
 use Rattle.xet_core_structures.specs.Records.ShardContents.{HasShard, HoldsShard}
 use Rattle.xet_core_structures.specs.Shard.{Shard}
-use Rattle.xet_core_structures.specs.Trees.Filling.{Fills}
-use Rattle.xet_core_structures.specs.Trees.InVersions.{MadeIn, RefusedIn}
+use Rattle.shard_merging.specs.Trees.Filling.{Fills}
+use Rattle.shard_merging.specs.Trees.InVersions.{MadeIn, RefusedIn}
 use Rattle.xet_core_structures.specs.TwoShards.ByteResults.{keyed_layout}
 use Rattle.xet_core_structures.specs.declared.error.CoreError.{CoreError}
 use Rattle.xet_core_structures.specs.declared.set_operations.FormatVersion.{FormatVersion}
-use Rattle.xet_core_structures.specs.declared.set_operations.agreement.AgreeingMerge.{AgreeingMerge}
-use Rattle.xet_core_structures.specs.declared.set_operations.agreement.AgreeingMerge.TheVariants.{Bytes, Disagreements, Malformed}
-use Rattle.xet_core_structures.specs.declared.set_operations.agreement.AgreeingFill.{AgreeingFill}
-use Rattle.xet_core_structures.specs.declared.set_operations.agreement.AgreeingFill.TheVariants.{Bytes as FilledBytes, Disagreements as Disagreeing, Malformed as Misformed}
+use Rattle.shard_merging.specs.declared.merging.agreement.AgreeingMerge.{AgreeingMerge}
+use Rattle.shard_merging.specs.declared.merging.agreement.AgreeingMerge.TheVariants.{Bytes, Disagreements, Malformed}
+use Rattle.shard_merging.specs.declared.merging.agreement.AgreeingFill.{AgreeingFill}
+use Rattle.shard_merging.specs.declared.merging.agreement.AgreeingFill.TheVariants.{Bytes as FilledBytes, Disagreements as Disagreeing, Malformed as Misformed}
 use Rattle.shard_bytes.specs.Merging.{MergesBytes, RefusesMerge}
 
 -- what the merge gives in a version: its bytes, if each input holds a well-formed shard and these

@@ -11,9 +11,9 @@ use Rattle.xet_core_structures.specs.declared.set_operations.FormatVersion.{Form
 use Rattle.xet_core_structures.specs.declared.set_operations.FormatVersion.TheVariants.{V2, V3}
 use Rattle.xet_core_structures.specs.InARow.{ShardPart, bytes_of_part, IsPartUnder, files_in, xorbs_in, options_under, AscendBoth, ArePartsInARow, AreBytesOf, AreInARow, IsConcatenation, RefusesShardsInARow}
 use Rattle.xet_core_structures.specs.Layout.{layout_in, layout_of}
-use Rattle.xet_core_structures.specs.Records.Ranges.{IsPartOf, is_within, ranges_between, AreCuts}
+use Rattle.shard_merging.specs.Records.Ranges.{IsPartOf, is_within, ranges_between, AreCuts}
 use Rattle.xet_core_structures.specs.Shard.{Shard, IsShard}
-use Rattle.xet_core_structures.specs.Trees.RangeTrees.{IsHeldLayout}
+use Rattle.shard_merging.specs.Trees.RangeTrees.{IsHeldLayout}
 use Rattle.xet_core_structures.specs.WrittenShard.{HasFilesIn}
 use Rattle.shard_bytes.specs.Outcomes.{InMemory}
 use Rattle.shard_bytes.specs.Versions.{have_aux_rows}

@@ -9,10 +9,10 @@ use Rattle.xet_core_structures.specs.Records.ShardContents.{HoldsShard}
 use Rattle.xet_core_structures.specs.Joins.{IsJoinOf, AgreePairwise}
 use Rattle.xet_core_structures.specs.KeyedHash.{no_key}
 use Rattle.xet_core_structures.specs.declared.merklehash.DataHash.{DataHash}
-use Rattle.xet_core_structures.specs.declared.set_operations.ranges.HashRange.{HashRange}
-use Rattle.xet_core_structures.specs.Records.Ranges.{IsPartOf, is_within}
+use Rattle.shard_merging.specs.declared.merging.ranges.HashRange.{HashRange}
+use Rattle.shard_merging.specs.Records.Ranges.{IsPartOf, is_within}
 use Rattle.xet_core_structures.specs.Trees.MergeTrees.{TreeWrites, TreeRefusal}
-use Rattle.xet_core_structures.specs.Trees.RangeTrees.{RangeWrites, RangeRefusal}
+use Rattle.shard_merging.specs.Trees.RangeTrees.{RangeWrites, RangeRefusal}
 use Rattle.xet_core_structures.specs.Shard.{Shard}
 
 -- a tree over so many inputs from an index on: of two or more, half of them are at its left

@@ -3,11 +3,11 @@ use Rattle.std.specs.Prelude.{◌≡◌, ◌⊎◌, ℕ, ◌+◌, ◌-◌, ◌*�
 use Rattle.std.specs.List.{AllZip}
 use Rattle.xet_core_structures.specs.declared.error.CoreError.{CoreError}
 use Rattle.xet_core_structures.specs.declared.error.CoreError.TheVariants.{OutOfMemory}
-use Rattle.xet_core_structures.specs.declared.set_operations.ranges.HashRange.{HashRange}
-use Rattle.xet_core_structures.specs.declared.set_operations.rows.SectionRows.{SectionRows}
+use Rattle.shard_merging.specs.declared.merging.ranges.HashRange.{HashRange}
+use Rattle.shard_merging.specs.declared.merging.rows.SectionRows.{SectionRows}
 use Rattle.xet_core_structures.specs.declared.shard_format.MDBShardInfo.{MDBShardInfo}
 use Rattle.xet_core_structures.specs.Ends.{HasHeaderAndFooter}
-use Rattle.xet_core_structures.specs.Trees.RowTrees.{RowsWrite, RowsRefusal, EachInRows}
+use Rattle.shard_merging.specs.Trees.RowTrees.{RowsWrite, RowsRefusal, EachInRows}
 use Rattle.xet_core_structures.specs.TwoShards.ByteResults.{LoadRefusal}
 use Rattle.xet_core_structures.specs.declared.merklehash.DataHash.{DataHash}
 use Rattle.xet_base.specs.Bytes.{u32_bytes, u64_from_bytes}

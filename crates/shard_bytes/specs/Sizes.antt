@@ -1,9 +1,9 @@
 -- How large results are.
 use Rattle.std.specs.Prelude.{⊤, ℕ, ◌+◌, ◌*◌, ◌≤◌, List, [], ◌∷◌, length, sum_by}
-use Rattle.xet_core_structures.specs.declared.set_operations.agreement.AgreeingMerge.{AgreeingMerge}
-use Rattle.xet_core_structures.specs.declared.set_operations.agreement.AgreeingMerge.TheVariants.{Bytes, Disagreements, Malformed}
-use Rattle.xet_core_structures.specs.declared.set_operations.agreement.AgreeingFill.{AgreeingFill}
-use Rattle.xet_core_structures.specs.declared.set_operations.agreement.AgreeingFill.TheVariants.{Bytes as FilledBytes, Disagreements as Disagreeing, Malformed as Misformed}
+use Rattle.shard_merging.specs.declared.merging.agreement.AgreeingMerge.{AgreeingMerge}
+use Rattle.shard_merging.specs.declared.merging.agreement.AgreeingMerge.TheVariants.{Bytes, Disagreements, Malformed}
+use Rattle.shard_merging.specs.declared.merging.agreement.AgreeingFill.{AgreeingFill}
+use Rattle.shard_merging.specs.declared.merging.agreement.AgreeingFill.TheVariants.{Bytes as FilledBytes, Disagreements as Disagreeing, Malformed as Misformed}
 use Rattle.shard_bytes.specs.declared.combine.Operation.{Operation}
 use Rattle.shard_bytes.specs.declared.combine.Operation.TheVariants.{Union, Difference}
 

@@ -5,12 +5,11 @@ ghost use Rattle.shard_bytes.specs.Agreeing.{MergesAgreeing, RefusesAgreeing, Gi
 ghost use Rattle.shard_bytes.specs.Sizes.{HasResultSize, HasFillSize};
 
 use crate::merge::merge_plan;
+pub use shard_merging::{AgreeingFill, AgreeingMerge};
+use shard_merging::{merge_or_disagreements, merge_or_disagreements_into};
 use std::alloc::Global;
 use xet_core_structures::error::{CoreError, Result};
-pub use xet_core_structures::set_operations::{AgreeingFill, AgreeingMerge};
-use xet_core_structures::set_operations::{
-    FormatVersion, merge_or_disagreements, merge_or_disagreements_into,
-};
+use xet_core_structures::set_operations::FormatVersion;
 
 /// The bytes of the union of one shard or more in a version of the format, from their bytes, as
 /// [`merge_bytes`](crate::merge::merge_bytes) makes it, if each input holds a well-formed shard and
@@ -22,7 +21,7 @@ use xet_core_structures::set_operations::{
 /// that disagree are looked for, and then the merge is made.
 ///
 /// `InvalidArguments` if the list is empty, or the keys of shards that agree differ. Else the errors
-/// are those of [`find_disagreements`](xet_core_structures::set_operations::find_disagreements) and
+/// are those of [`find_disagreements`](shard_merging::find_disagreements) and
 /// [`merge_bytes`](crate::merge::merge_bytes).
 #[tactic(auto, using(xet_core_structures::proofs::Trees::InVersions::refused_in_version))]
 pub fn merge_agreeing_bytes(

@@ -2,7 +2,7 @@
 
 ghost use Rattle.std.specs.Prelude.{◌≡◌, ◌⊎◌, length, IfOk, MatchResult};
 ghost use Rattle.xet_core_structures.specs.Errors.{IsWriteError};
-ghost use Rattle.xet_core_structures.specs.Trees.InVersions.{MadeIn, RefusedIn};
+ghost use Rattle.shard_merging.specs.Trees.InVersions.{MadeIn, RefusedIn};
 ghost use Rattle.xet_core_structures.specs.TwoShards.ByteResults.{WritesResult, InputsFail};
 ghost use Rattle.shard_bytes.specs.Combining.{IsResultOf, RefusalOf, CombinesBytes, CombiningRefusal};
 ghost use Rattle.shard_bytes.specs.Sizes.{IsResultSize, sources_of};

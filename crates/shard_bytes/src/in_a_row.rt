@@ -1,7 +1,7 @@
 //! Concatenation: one shard made of many whose records follow one another.
 
 ghost use Rattle.std.specs.Prelude.{map, MatchResult};
-ghost use Rattle.xet_core_structures.specs.Trees.Filling.{FillsWith};
+ghost use Rattle.shard_merging.specs.Trees.Filling.{FillsWith};
 ghost use Rattle.shard_bytes.specs.InARow.{Concatenates};
 
 use crate::aux_rows::have_new_files;

@@ -1,22 +1,22 @@
 //! The union of a list of shards, whole or in a range of hashes.
 
 ghost use Rattle.std.specs.Prelude.{◌≡◌, ◌⊎◌, ◌+◌, ◌<◌, ◌^◌, List, map, length, IfOk, IfErr, MatchResult};
-ghost use Rattle.xet_core_structures.specs.Trees.Filling.{FillsWith};
-ghost use Rattle.xet_core_structures.specs.Trees.InVersions.{MadeIn, RefusedIn};
+ghost use Rattle.shard_merging.specs.Trees.Filling.{FillsWith};
+ghost use Rattle.shard_merging.specs.Trees.InVersions.{MadeIn, RefusedIn};
 ghost use Rattle.xet_core_structures.specs.Trees.MergeTrees.{MergeRefused};
-ghost use Rattle.xet_core_structures.specs.Trees.RangeTrees.{IsHeldLayout};
+ghost use Rattle.shard_merging.specs.Trees.RangeTrees.{IsHeldLayout};
 ghost use Rattle.xet_core_structures.specs.declared.merklehash.DataHash.{DataHash};
 ghost use Rattle.xet_core_structures.specs.Shard.{Shard};
 ghost use Rattle.xet_core_structures.specs.WrittenShard.{IsBytesWithoutExpiry};
 ghost use Rattle.shard_bytes.specs.Merging.{IsBalanced, IsPlanOfBoth, IsMergePlan, MergesBytes, RefusesMerge, IsMergeOfList, MergesRange, RefusesRange, IsRangeMergeOfList};
 ghost use Rattle.shard_bytes.specs.Sizes.{IsResultSize};
 
+use shard_merging::{
+    HashRange, merge_range, merge_range_into, shard_union_tree_in, shard_union_tree_into,
+};
 use std::alloc::Global;
 use xet_core_structures::error::{CoreError, Result};
-use xet_core_structures::set_operations::{
-    FormatVersion, HashRange, MergePlan, merge_range, merge_range_into, shard_union_tree_in,
-    shard_union_tree_into,
-};
+use xet_core_structures::set_operations::{FormatVersion, MergePlan};
 
 /// The bytes of the union of one shard or more, in a version of the format, from their bytes, by a
 /// balanced tree of unions: that of the first half of the list with that of the second. One shard is

@@ -6,7 +6,7 @@ ghost use Rattle.xet_core_structures.specs.declared.xorb_structs.MDBXorbInfo.{MD
 ghost use Rattle.xet_core_structures.specs.FileRecord.{file_records};
 ghost use Rattle.xet_core_structures.specs.Layout.{layout_of};
 ghost use Rattle.xet_core_structures.specs.SectionReading.{IsSection};
-ghost use Rattle.xet_core_structures.specs.Trees.Filling.{Fills};
+ghost use Rattle.shard_merging.specs.Trees.Filling.{Fills};
 ghost use Rattle.xet_core_structures.specs.WithOptions.{FitsSection};
 ghost use Rattle.xet_records.specs.declared.record_reader.FormatVersion.TheVariants.{V3};
 ghost use Rattle.xet_shards.specs.declared.shard_writer.LayoutOptions.{LayoutOptions};
@@ -14,9 +14,10 @@ ghost use Rattle.shard_bytes.specs.Steps.Versions.{IsLayoutWith, IsNumberedIn};
 ghost use Rattle.shard_bytes.specs.Versions.{has_new_files};
 
 use crate::aux_rows::has_aux_rows;
+use shard_merging::put_number;
 use xet_core_structures::error::{CoreError, Result};
 use xet_core_structures::rows::ROW_SIZE;
-use xet_core_structures::set_operations::{FormatVersion, put_number};
+use xet_core_structures::set_operations::FormatVersion;
 
 /// The bytes in a version of a shard whose bytes in version 3 these are.
 ///

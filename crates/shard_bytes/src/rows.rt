@@ -3,13 +3,13 @@
 ghost use Rattle.std.specs.Prelude.{◌≡◌, ◌+◌, ◌*◌, ◌<◌, ◌≤◌, ℕ, List, None, map, length, IfOk, MatchResult};
 ghost use Rattle.std.specs.List.{AllZip};
 ghost use Rattle.xet_core_structures.specs.declared.merklehash.DataHash.{DataHash};
-ghost use Rattle.xet_core_structures.specs.declared.set_operations.rows.SectionRows.{SectionRows};
-ghost use Rattle.xet_core_structures.specs.Records.Ranges.{ranges_between, AreCuts};
-ghost use Rattle.xet_core_structures.specs.Trees.Filling.{FillsWith};
-ghost use Rattle.xet_core_structures.specs.Trees.InVersions.{MadeIn, RefusedIn};
+ghost use Rattle.shard_merging.specs.declared.merging.rows.SectionRows.{SectionRows};
+ghost use Rattle.shard_merging.specs.Records.Ranges.{ranges_between, AreCuts};
+ghost use Rattle.shard_merging.specs.Trees.Filling.{FillsWith};
+ghost use Rattle.shard_merging.specs.Trees.InVersions.{MadeIn, RefusedIn};
 ghost use Rattle.xet_core_structures.specs.Trees.MergeTrees.{MergeRefused};
-ghost use Rattle.xet_core_structures.specs.Trees.RangeTrees.{IsHeldLayout};
-ghost use Rattle.xet_core_structures.specs.Trees.RowTrees.{HaveRowsOfRange};
+ghost use Rattle.shard_merging.specs.Trees.RangeTrees.{IsHeldLayout};
+ghost use Rattle.shard_merging.specs.Trees.RowTrees.{HaveRowsOfRange};
 ghost use Rattle.xet_core_structures.specs.Shard.{Shard};
 ghost use Rattle.xet_core_structures.specs.TwoShards.ByteResults.{LoadRefusal};
 ghost use Rattle.shard_bytes.specs.Merging.{MergesRange, IsRangeMergeOfList};
@@ -18,12 +18,13 @@ ghost use Rattle.shard_bytes.specs.Sizes.{IsResultSize};
 
 use crate::load::load_bytes;
 use crate::merge::merge_plan;
+use shard_merging::{HashRange, SectionRows, merge_rows_into};
 use std::alloc::Global;
 use xet_core_structures::error::{CoreError, Result};
 use xet_core_structures::fields::{split_u32, split_u64};
 use xet_core_structures::merklehash::MerkleHash;
 use xet_core_structures::rows::{ROW_LIMIT, ROW_SIZE};
-use xet_core_structures::set_operations::{FormatVersion, HashRange, SectionRows, merge_rows_into};
+use xet_core_structures::set_operations::FormatVersion;
 use xet_core_structures::shard_format::START_ROW_SIZE;
 
 /// Writes what [`merge_range_bytes_into`](crate::merge::merge_range_bytes_into) writes, but of the

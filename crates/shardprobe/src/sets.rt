@@ -5,11 +5,11 @@ use crate::stop::Stop;
 use script_lines::show::show_line;
 use script_lines::words::parse_u64;
 use shard_bytes::check::check_bytes;
-use std::alloc::Global;
-use xet_core_structures::set_operations::{
-    MergeOutcome, MergePlan, find_disagreement, find_disagreements, find_malformed, merge_agreeing,
-    shard_union_tree,
+use shard_merging::{
+    MergeOutcome, find_disagreement, find_disagreements, find_malformed, merge_agreeing,
 };
+use std::alloc::Global;
+use xet_core_structures::set_operations::{MergePlan, shard_union_tree};
 
 impl Probe {
     /// Runs a command on many buffers. `false` if the words are no such command.

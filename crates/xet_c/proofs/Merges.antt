@@ -3,9 +3,9 @@ use Rattle.std.proofs.Common.{◌≡◌, inl, inr, ℕ, ◌<◌, List, [], ◌�
 use Rattle.std.specs.Prelude.{IfOk, MatchResult}
 use Rattle.xet_core_structures.specs.Errors.{CoreResult}
 use Rattle.xet_core_structures.specs.declared.set_operations.FormatVersion.{FormatVersion}
-use Rattle.xet_core_structures.specs.declared.set_operations.agreement.AgreeingFill.{AgreeingFill}
-use Rattle.xet_core_structures.specs.declared.set_operations.agreement.AgreeingFill.TheVariants.{Bytes, Disagreements, Malformed}
-use Rattle.xet_core_structures.specs.declared.set_operations.agreement.Disagreement.{Disagreement}
+use Rattle.shard_merging.specs.declared.merging.agreement.AgreeingFill.{AgreeingFill}
+use Rattle.shard_merging.specs.declared.merging.agreement.AgreeingFill.TheVariants.{Bytes, Disagreements, Malformed}
+use Rattle.shard_merging.specs.declared.merging.agreement.Disagreement.{Disagreement}
 use Rattle.shard_bytes.specs.Agreeing.{FillsAgreeing, FillsJoin, RefusesAgreeing}
 use Rattle.shard_bytes.specs.Sizes.{IsResultSize, HasFillSize}
 use Rattle.shard_bytes.proofs.Agreeing.{join_made}

@@ -1,18 +1,18 @@
 -- How disagreements of shards, and a merge of those that agree, are shown.
 use Rattle.std.specs.Prelude.{◌≡◌, ◌⊎◌, ℕ, ◌<◌, Bool, true, false, List, [], ◌∷◌, length, map, Option, None, Some, Ok, Err}
-use Rattle.xet_core_structures.specs.declared.set_operations.agreement.Disagreement.{Disagreement}
-use Rattle.xet_core_structures.specs.declared.set_operations.agreement.MalformedRecord.{MalformedRecord}
-use Rattle.xet_core_structures.specs.declared.set_operations.agreement.RecordHash.{RecordHash}
-use Rattle.xet_core_structures.specs.declared.set_operations.agreement.RecordHash.TheVariants.{File, Xorb}
+use Rattle.shard_merging.specs.declared.merging.agreement.Disagreement.{Disagreement}
+use Rattle.shard_merging.specs.declared.merging.agreement.MalformedRecord.{MalformedRecord}
+use Rattle.shard_merging.specs.declared.merging.agreement.RecordHash.{RecordHash}
+use Rattle.shard_merging.specs.declared.merging.agreement.RecordHash.TheVariants.{File, Xorb}
 use Rattle.xet_core_structures.specs.declared.error.CoreError.{CoreError}
 use Rattle.xet_core_structures.specs.declared.error.CoreError.TheVariants.{InvalidArguments}
 use Rattle.xet_core_structures.specs.declared.set_operations.FormatVersion.{FormatVersion}
-use Rattle.xet_core_structures.specs.Agreement.Agreement.{HoldShards, IsFirstMalformed, InputsAgree, HasAllDisagreements}
+use Rattle.shard_merging.specs.Agreement.Agreement.{HoldShards, IsFirstMalformed, InputsAgree, HasAllDisagreements}
 use Rattle.xet_core_structures.specs.Errors.{CoreResult, variant_number}
 use Rattle.xet_core_structures.specs.Hash.{words_of}
-use Rattle.xet_core_structures.specs.declared.set_operations.agreement.AgreeingFill.{AgreeingFill}
-use Rattle.xet_core_structures.specs.declared.set_operations.agreement.AgreeingFill.TheVariants.{Bytes, Disagreements, Malformed}
-use Rattle.xet_core_structures.specs.Trees.InVersions.{MadeIn}
+use Rattle.shard_merging.specs.declared.merging.agreement.AgreeingFill.{AgreeingFill}
+use Rattle.shard_merging.specs.declared.merging.agreement.AgreeingFill.TheVariants.{Bytes, Disagreements, Malformed}
+use Rattle.shard_merging.specs.Trees.InVersions.{MadeIn}
 use Rattle.xet_core_structures.specs.Version.{IsVersion, number_of}
 use Rattle.shard_bytes.specs.Agreeing.{IsMergeOfAgreeing, HoldNoneAgreeing, RefusesAgreeing}
 use Rattle.shard_bytes.specs.Merging.{MergesBytes}

@@ -3,9 +3,9 @@
 ghost use Rattle.std.specs.Prelude.{◌≡◌, ◌⊎◌, false, List, Option, map, IfOk, IfErr, MatchOption, MatchResult};
 ghost use Rattle.xet_core_structures.specs.declared.error.CoreError.{CoreError};
 ghost use Rattle.xet_core_structures.specs.declared.set_operations.FormatVersion.TheVariants.{V3};
-ghost use Rattle.xet_core_structures.specs.declared.set_operations.agreement.Disagreement.{Disagreement};
-ghost use Rattle.xet_core_structures.specs.declared.set_operations.agreement.MalformedRecord.{MalformedRecord};
-ghost use Rattle.xet_core_structures.specs.Agreement.Agreement.{HasAllDisagreements, HoldShards, IsFirstMalformed, InputsRefusal, WellFormedRefusal};
+ghost use Rattle.shard_merging.specs.declared.merging.agreement.Disagreement.{Disagreement};
+ghost use Rattle.shard_merging.specs.declared.merging.agreement.MalformedRecord.{MalformedRecord};
+ghost use Rattle.shard_merging.specs.Agreement.Agreement.{HasAllDisagreements, HoldShards, IsFirstMalformed, InputsRefusal, WellFormedRefusal};
 ghost use Rattle.xet_core_structures.specs.Errors.{variant_number};
 ghost use Rattle.shard_bytes.specs.Sizes.{IsResultSize};
 ghost use Rattle.xet_c.specs.Agreeing.{c_record, c_disagreement, c_malformed, AreAllDisagreements, ShowsFirst, ShowsMalformed, MergesIfAgreeing, MergesIfAgreeingIn, ShowsFill};
@@ -13,11 +13,12 @@ ghost use Rattle.xet_c.specs.Output.{Outcome};
 
 use crate::output::{XET_DISAGREE, XET_MALFORMED, answer, deliver, error_number};
 use shard_bytes::agree::{AgreeingFill, merge_agreeing_bytes_into};
+use shard_merging::{
+    Disagreement, MalformedRecord, RecordHash, find_disagreements, find_malformed,
+};
 use std::alloc::Global;
 use xet_core_structures::error::{CoreError, Result};
-use xet_core_structures::set_operations::{
-    Disagreement, FormatVersion, MalformedRecord, RecordHash, find_disagreements, find_malformed,
-};
+use xet_core_structures::set_operations::FormatVersion;
 
 /// A hash under which two shards have records that do not agree, a xorb's or a file's, and the
 /// numbers of two such shards in the list.

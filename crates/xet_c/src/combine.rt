@@ -1,7 +1,7 @@
 //! Union and difference.
 
 ghost use Rattle.std.specs.Prelude.{[], ◌∷◌, length, IfOk, MatchResult};
-ghost use Rattle.xet_core_structures.specs.Trees.InVersions.{MadeIn, RefusedIn};
+ghost use Rattle.shard_merging.specs.Trees.InVersions.{MadeIn, RefusedIn};
 ghost use Rattle.shard_bytes.specs.declared.combine.Operation.TheVariants.{Union, Difference};
 ghost use Rattle.shard_bytes.specs.Combining.{IsResultOf, RefusalOf, CombinesBytes, CombiningRefusal};
 ghost use Rattle.shard_bytes.specs.Sizes.{IsResultSize, sources_of};

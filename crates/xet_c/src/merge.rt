@@ -2,11 +2,11 @@
 
 ghost use Rattle.std.specs.Prelude.{◌≡◌, ◌⊎◌, List, map, IfOk};
 ghost use Rattle.xet_core_structures.specs.declared.merklehash.DataHash.{DataHash};
-ghost use Rattle.xet_core_structures.specs.declared.set_operations.ranges.HashRange.{HashRange};
-ghost use Rattle.xet_core_structures.specs.Trees.Filling.{FillsWith};
-ghost use Rattle.xet_core_structures.specs.Trees.InVersions.{MadeIn, RefusedIn};
+ghost use Rattle.shard_merging.specs.declared.merging.ranges.HashRange.{HashRange};
+ghost use Rattle.shard_merging.specs.Trees.Filling.{FillsWith};
+ghost use Rattle.shard_merging.specs.Trees.InVersions.{MadeIn, RefusedIn};
 ghost use Rattle.xet_core_structures.specs.Trees.MergeTrees.{MergeRefused};
-ghost use Rattle.xet_core_structures.specs.Trees.RangeTrees.{IsHeldLayout};
+ghost use Rattle.shard_merging.specs.Trees.RangeTrees.{IsHeldLayout};
 ghost use Rattle.xet_core_structures.specs.Shard.{Shard};
 ghost use Rattle.xet_core_structures.specs.WrittenShard.{IsBytesWithoutExpiry};
 ghost use Rattle.shard_bytes.specs.Merging.{MergesBytes, RefusesMerge, IsMergeOfList, MergesRange, RefusesRange, IsRangeMergeOfList};
@@ -17,10 +17,11 @@ ghost use Rattle.xet_c.specs.Versions.{InNumber, NotInNumber};
 
 use crate::output::answer;
 use shard_bytes::merge::{merge_into, merge_range_bytes_into};
+use shard_merging::HashRange;
 use std::alloc::Global;
 use xet_core_structures::error::{CoreError, Result};
 use xet_core_structures::merklehash::MerkleHash;
-use xet_core_structures::set_operations::{FormatVersion, HashRange};
+use xet_core_structures::set_operations::FormatVersion;
 
 /// The union of one shard or more, to the front of `out`, to which it is written at once.
 #[unsafe(no_mangle)]

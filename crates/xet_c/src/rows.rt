@@ -2,11 +2,11 @@
 
 ghost use Rattle.std.specs.Prelude.{◌<◌, List, length, map};
 ghost use Rattle.xet_core_structures.specs.declared.merklehash.DataHash.{DataHash};
-ghost use Rattle.xet_core_structures.specs.declared.set_operations.ranges.HashRange.{HashRange};
+ghost use Rattle.shard_merging.specs.declared.merging.ranges.HashRange.{HashRange};
 ghost use Rattle.xet_core_structures.specs.Shard.{Shard};
 ghost use Rattle.xet_core_structures.specs.Trees.MergeTrees.{MergeRefused};
-ghost use Rattle.xet_core_structures.specs.Trees.RangeTrees.{IsHeldLayout};
-ghost use Rattle.xet_core_structures.specs.Trees.RowTrees.{HaveRowsOfRange};
+ghost use Rattle.shard_merging.specs.Trees.RangeTrees.{IsHeldLayout};
+ghost use Rattle.shard_merging.specs.Trees.RowTrees.{HaveRowsOfRange};
 ghost use Rattle.shard_bytes.specs.Merging.{IsRangeMergeOfList};
 ghost use Rattle.shard_bytes.specs.Rows.{MergesRows, RefusesRows, AreEndsOf, RefusesEnds};
 ghost use Rattle.shard_bytes.specs.Sizes.{IsResultSize};
@@ -16,8 +16,9 @@ ghost use Rattle.xet_c.specs.Output.{Outcome};
 use crate::merge::{XetRange, range_of};
 use crate::output::{answer, deliver};
 use shard_bytes::rows::{find_ends, merge_rows_bytes_into};
+use shard_merging::SectionRows;
 use std::alloc::Global;
-use xet_core_structures::set_operations::{FormatVersion, SectionRows};
+use xet_core_structures::set_operations::FormatVersion;
 
 /// What `xet_merge_range` writes, but of the records in these rows of the shards alone, to the front
 /// of `out`, to which it is written at once.

@@ -2,9 +2,6 @@
 
 pub mod ByteLaws
 pub mod UnionSizes
-pub mod RangeSizes
 pub mod ExportTrees
 pub mod FileLookups
 pub mod MinimalAgain
-pub mod RowRanges
-pub mod RowSizes

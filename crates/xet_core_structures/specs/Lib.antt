@@ -1,7 +1,6 @@
 pub mod Records
 pub mod TwoShards
 pub mod Trees
-pub mod Agreement
 pub mod Steps
 pub use Rattle.xet_base.specs.Blake3
 pub use Rattle.xet_base.specs.Errors

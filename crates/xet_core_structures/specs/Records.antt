@@ -2,7 +2,6 @@
 
 pub mod ShardContents
 pub mod RecordPairs
-pub mod Ranges
 pub mod ByteUnion
 pub mod Equality
 pub mod Sizes

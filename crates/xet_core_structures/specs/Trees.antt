@@ -1,9 +1,4 @@
 -- Trees of unions.
 
 pub mod MergeTrees
-pub mod RangeTrees
-pub mod RowTrees
 pub mod ExportTrees
-pub mod InVersions
-pub mod Parts
-pub use Rattle.xet_shards.specs.Write.Filling

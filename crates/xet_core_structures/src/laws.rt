@@ -45,22 +45,15 @@ ghost use Rattle.xet_shards.specs.Content.SetOperations.{IsUnion, IsDifference, 
 ghost use Rattle.xet_shards.specs.Content.Joins.{IsJoinOf, AgreePairwise};
 ghost use Rattle.xet_shards.specs.Write.WrittenShard.{HasFilesIn, IsBytesOf, IsBytesWithInfo, IsBytesWithoutExpiry};
 
-mod agreement;
 mod exports;
 mod minimal;
-mod ranges;
 mod sizes;
 
-pub use agreement::merges_of_agreeing_inputs;
 pub use exports::{
     exports_merge_to_the_export_of_the_join, joins_keep_runs, joins_without_auxiliary_rows,
     keyed_shards_are_exported, keys_pass_to_joins, merges_keep_runs,
 };
 pub use minimal::{minimal_shards_are_written_again, subsets_keep_eligible_chunks};
-pub use ranges::{
-    joins_pass_to_parts, ranges_are_bounded, ranges_concatenate, ranges_have_all_records,
-    rows_are_bounded, rows_cover_ranges, unions_of_ranges_follow_one_another,
-};
 pub use sizes::results_are_bounded;
 
 /// Each two shards have exactly one union.

@@ -4,7 +4,6 @@
 
 pub mod laws;
 pub mod set_operations;
-pub mod well_formed;
 
 pub use xet_base::{
     count, error, fields, input, interpolation_search, merklehash, serialization_utils,

@@ -4,33 +4,18 @@ ghost use Rattle.std.specs.Prelude.{◌≡◌, ◌≢◌, ◌⊎◌, ◌<◌, �
 ghost use Rattle.xet_shards.specs.Content.Shard.{Shard};
 ghost use Rattle.xet_shards.specs.Write.WrittenShard.{IsBytesWithoutExpiry};
 ghost use Rattle.xet_core_structures.specs.TwoShards.ByteResults.{key_of, UnitesBytes, BytesRefusal};
-ghost use Rattle.xet_core_structures.specs.Trees.Filling.{FillsWith};
 ghost use Rattle.xet_core_structures.specs.TwoShards.SetOutcomes.{Unites, Subtracts};
 ghost use Rattle.xet_core_structures.specs.TwoShards.Streams.{streams};
-ghost use Rattle.xet_core_structures.specs.Trees.InVersions.{MadeIn, RefusedIn, TreeWritesIn, TreeRefusalIn};
 ghost use Rattle.xet_core_structures.specs.Trees.MergeTrees.{LeafWrites, LeafRefusal, TreeWrites, TreeRefusal, IsMerge, MergeRefused};
 
-mod agreement;
-mod ranges;
-mod rows;
-mod trees;
 mod two_shards;
 
-pub use agreement::{
-    AgreeingFill, AgreeingMerge, Disagreement, MalformedRecord, MergeOutcome, RecordHash,
-    find_disagreement, find_disagreements, find_malformed, merge_agreeing, merge_or_disagreements,
-    merge_or_disagreements_into,
-};
-use bumpalo::Bump;
-pub use ranges::{HashRange, merge_range, merge_range_into};
-pub use rows::{SectionRows, merge_rows_into};
 use std::alloc::Global;
 use std::io::Write;
-use trees::parts::place_tree;
-pub use trees::versions::put_number;
-use trees::versions::{fill_with_part_in, part_bytes_in};
+pub use two_shards::mix::mix_rows;
 use two_shards::record_operation::{OfDifference, OfUnion};
 use two_shards::results::operate;
+pub use two_shards::sections::next_header;
 use xet_base::error::{CoreError, Result};
 use xet_base::source::{MemorySource, ShardSource};
 pub use xet_records::record_reader::FormatVersion;
@@ -172,80 +157,4 @@ fn unite_bytes(alloc: Global, first: &[u8], second: &[u8]) -> Result<Vec<u8>>
         Err(CopyFailure::Input(error)) => Err(error),
         Err(CopyFailure::Output(_)) => Err(CoreError::OutOfMemory),
     }
-}
-
-/// The same in a version of the format. What a leaf alone gives is copied, whatever its version.
-///
-/// `InvalidArguments` too if the union has an auxiliary row, and the version is 2, which has none.
-pub fn shard_union_tree_in(
-    alloc: Global,
-    plan: &MergePlan,
-    inputs: &[&[u8]],
-    version: FormatVersion,
-) -> Result<Vec<u8>>
-    ensures any_bytes { MatchResult result
-        (λ bytes. TreeWritesIn version (map (λ x. x.now) inputs.now) plan.now bytes.items)
-        (TreeRefusalIn version (map (λ x. x.now) inputs.now) plan.now) }
-    ensures one_byte_string { (shards : List Shard) → (join : Shard)
-        → IsMerge (map (λ x. x.now) inputs.now) plan.now shards join
-        → MatchResult result (λ bytes. MadeIn version (IsBytesWithoutExpiry join) bytes.items)
-        (RefusedIn version (IsBytesWithoutExpiry join) (MergeRefused join)) }
-{
-    merge_in(alloc, plan, inputs, version)
-}
-
-/// Writes the bytes that [`shard_union_tree_in`] makes to the front of a slice, if they fit, and
-/// returns their number. If they don't, or if the call fails, the slice stays as it is. The errors
-/// are the same.
-pub fn shard_union_tree_into(
-    alloc: Global,
-    plan: &MergePlan,
-    inputs: &[&[u8]],
-    version: FormatVersion,
-    out: &mut [u8],
-) -> Result<usize>
-    ensures any_bytes { FillsWith
-        (TreeWritesIn version (map (λ x. x.now) inputs.now) plan.now)
-        (TreeRefusalIn version (map (λ x. x.now) inputs.now) plan.now) out.old out.new result }
-    ensures one_byte_string { (shards : List Shard) → (join : Shard)
-        → IsMerge (map (λ x. x.now) inputs.now) plan.now shards join
-        → FillsWith (MadeIn version (IsBytesWithoutExpiry join))
-        (RefusedIn version (IsBytesWithoutExpiry join) (MergeRefused join)) out.old out.new
-        result }
-{
-    merge_into(alloc, plan, inputs, version, out)
-}
-
-// The same, without the clause on inputs that agree. No byte is written before the tree is done.
-// The list and its slices share one lifetime: the borrow checker finds no lifetime within both
-// theirs and the arena's.
-fn merge_in<'a>(
-    alloc: Global,
-    plan: &MergePlan,
-    inputs: &'a [&'a [u8]],
-    version: FormatVersion,
-) -> Result<Vec<u8>>
-    ensures { MatchResult result
-        (λ bytes. TreeWritesIn version (map (λ x. x.now) inputs.now) plan.now bytes.items)
-        (TreeRefusalIn version (map (λ x. x.now) inputs.now) plan.now) }
-{
-    let arena = Bump::new(alloc);
-    let part = place_tree(alloc, &arena, plan, inputs)?;
-    part_bytes_in(alloc, part, version)
-}
-
-// The same to a slice.
-fn merge_into<'a>(
-    alloc: Global,
-    plan: &MergePlan,
-    inputs: &'a [&'a [u8]],
-    version: FormatVersion,
-    out: &mut [u8],
-) -> Result<usize>
-    ensures { FillsWith (TreeWritesIn version (map (λ x. x.now) inputs.now) plan.now)
-        (TreeRefusalIn version (map (λ x. x.now) inputs.now) plan.now) out.old out.new result }
-{
-    let arena = Bump::new(alloc);
-    let part = place_tree(alloc, &arena, plan, inputs)?;
-    fill_with_part_in(alloc, part, version, out)
 }

@@ -4,11 +4,9 @@ ghost use Rattle.std.specs.Prelude.{◌≡◌, ◌<◌, ◌≤◌, ◌↔◌, No
 
 use crate::failure::Failure;
 use crate::input_failure::{disagreement_under, failure_on_malformed};
+use shard_merging::{Disagreement, MalformedRecord, find_disagreements, find_malformed};
 use std::alloc::Global;
 use xet_core_structures::error::Result;
-use xet_core_structures::set_operations::{
-    Disagreement, MalformedRecord, find_disagreements, find_malformed,
-};
 
 /// What was found in the rounds so far.
 #[derive(Clone, Copy)]

@@ -15,13 +15,13 @@ ghost use Rattle.xet_shards.specs.Read.StoredSection.{StoresRecord, StoresSectio
 ghost use Rattle.shard_bytes.specs.Steps.Checking.{AddsMalformed, HasRows};
 
 use super::{Finding, Section, push_unless};
+use shard_merging::well_formed::have_few_bytes;
 use xet_core_structures::error::Result;
 use xet_core_structures::fields::{split_hash, split_u64};
 use xet_core_structures::file_structs::{FileDataSequenceHeader, MDBFileInfo};
 use xet_core_structures::record_reader::SectionRecord;
 use xet_core_structures::rows::ROW_SIZE;
 use xet_core_structures::shard_writer::{PlacedRecord, StoredSection};
-use xet_core_structures::well_formed::have_few_bytes;
 use xet_core_structures::xorb_structs::{MDBXorbInfo, XorbChunkSequenceHeader};
 
 /// A record that is judged by its header and the bytes of the rows after it.

@@ -1,8 +1,8 @@
 use Rattle.std.proofs.Common.{◌≡◌, map, inl, ap, subst, ◌∙◌}
 use Rattle.std.specs.List.{slice_get}
 use Rattle.std.specs.Option.{MatchOption}
-use Rattle.xet_core_structures.specs.Agreement.Agreement.{IsFirstMalformed}
-use Rattle.xet_core_structures.specs.declared.set_operations.agreement.MalformedRecord.{MalformedRecord}
+use Rattle.shard_merging.specs.Agreement.Agreement.{IsFirstMalformed}
+use Rattle.shard_merging.specs.declared.merging.agreement.MalformedRecord.{MalformedRecord}
 use Rattle.shard_bytes.specs.Agreeing.{MergesAgreeing}
 use Rattle.mdb_report.specs.declared.fault.Fault.TheVariants.{Malformed}
 use Rattle.mdb.specs.declared.failure.Subject.TheVariants.{File, StandardOutput}

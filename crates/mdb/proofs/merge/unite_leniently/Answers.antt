@@ -1,8 +1,8 @@
 use Rattle.std.proofs.Common.{◌⊎◌, inl, inr, ℕ, List}
 use Rattle.xet_core_structures.specs.declared.error.CoreError.{CoreError}
-use Rattle.xet_core_structures.specs.Agreement.Agreement.{InputsRefusal}
-use Rattle.xet_core_structures.specs.Trees.InVersions.{RefusedIn}
-use Rattle.xet_core_structures.proofs.Agreement.AgreeingInputs.{refused_as_inputs}
+use Rattle.shard_merging.specs.Agreement.Agreement.{InputsRefusal}
+use Rattle.shard_merging.specs.Trees.InVersions.{RefusedIn}
+use Rattle.shard_merging.proofs.Agreement.AgreeingInputs.{refused_as_inputs}
 use Rattle.xet_records.specs.declared.record_reader.FormatVersion.{FormatVersion}
 use Rattle.shard_bytes.specs.Agreeing.{RefusesAgreeing}
 use Rattle.shard_bytes.specs.Merging.{MergesBytes, RefusesMerge}

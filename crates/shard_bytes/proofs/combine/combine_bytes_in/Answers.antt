@@ -1,7 +1,7 @@
 use Rattle.std.proofs.lemmas.Result.{err_from_is_err_and}
 use Rattle.std.specs.FinMap.{values}
 use Rattle.xet_core_structures.specs.TwoShards.ByteResults.{keyed_options}
-use Rattle.xet_core_structures.proofs.Trees.InVersions.{refused_in_version, if_written}
+use Rattle.shard_merging.proofs.Trees.InVersions.{refused_in_version, if_written}
 use Rattle.shard_bytes.specs.Combining.{IsResultOf, RefusalOf, CombinesBytes, CombiningRefusal}
 use Rattle.shard_bytes.specs.Sizes.{IsResultSize, sources_of}
 use Rattle.shard_bytes.proofs.Combining.{result_under}

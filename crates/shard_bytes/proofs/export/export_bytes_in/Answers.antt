@@ -1,7 +1,7 @@
 use Rattle.std.proofs.Common.{◌≡◌}
 use Rattle.std.proofs.lemmas.Result.{err_from_is_err_and}
 use Rattle.xet_core_structures.specs.declared.error.CoreError.TheVariants.{OutOfMemory}
-use Rattle.xet_core_structures.proofs.Trees.InVersions.{if_written}
+use Rattle.shard_merging.proofs.Trees.InVersions.{if_written}
 use Rattle.shard_bytes.specs.Exporting.{ExportsBytes, HoldsExport, RefusesExport}
 use Rattle.shard_bytes.specs.Sizes.{IsRewriteSize}
 use Rattle.shard_bytes.proofs.ExportedShards.{export_in_3, files_out, xorbs_out, options_out, export_size}

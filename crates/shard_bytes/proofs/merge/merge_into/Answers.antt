@@ -1,7 +1,7 @@
 use Rattle.std.proofs.Common.{ℕ, List, length, map, Bor, sym, subst}
 use Rattle.std.proofs.lemmas.List.{length-map}
 use Rattle.xet_core_structures.specs.KeyedHash.{no_key}
-use Rattle.xet_core_structures.proofs.Trees.InVersions.{if_filled}
+use Rattle.shard_merging.proofs.Trees.InVersions.{if_filled}
 use Rattle.shard_bytes.specs.Merging.{IsMergePlan, MergesBytes}
 use Rattle.shard_bytes.specs.Sizes.{IsResultSize}
 use Rattle.shard_bytes.proofs.InVersions.{merge_made, merge_refused, size_in}

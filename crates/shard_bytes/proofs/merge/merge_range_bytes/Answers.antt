@@ -1,6 +1,6 @@
 use Rattle.std.proofs.Common.{length, map, Bor, ℕ, List, sym, subst}
 use Rattle.std.proofs.lemmas.List.{length-map}
-use Rattle.xet_core_structures.proofs.Trees.InVersions.{if_written}
+use Rattle.shard_merging.proofs.Trees.InVersions.{if_written}
 use Rattle.shard_bytes.specs.Merging.{IsMergePlan, MergesRange}
 use Rattle.shard_bytes.specs.Sizes.{IsResultSize}
 use Rattle.shard_bytes.proofs.InVersions.{range_made, range_refused, size_in}

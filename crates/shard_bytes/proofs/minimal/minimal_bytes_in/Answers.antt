@@ -2,7 +2,7 @@ use Rattle.std.proofs.Common.{map, None}
 use Rattle.std.proofs.lemmas.Result.{err_from_is_err_and}
 use Rattle.xet_core_structures.specs.MinimalShard.{mark_starts, is_start, minimal_options}
 use Rattle.xet_core_structures.specs.View.{as_kept}
-use Rattle.xet_core_structures.proofs.Trees.InVersions.{if_written}
+use Rattle.shard_merging.proofs.Trees.InVersions.{if_written}
 use Rattle.shard_bytes.specs.Minimal.{MinimalBytes, RefusesMinimalBytes}
 use Rattle.shard_bytes.specs.Sizes.{IsMinimalSize}
 use Rattle.shard_bytes.proofs.InVersions.{laid_out, not_laid_out, not_laid_out_for, size_laid_out}

@@ -1,6 +1,6 @@
 use Rattle.std.proofs.Common.{[], map}
 use Rattle.xet_core_structures.specs.MinimalShard.{mark_starts, is_start, minimal_options}
-use Rattle.xet_core_structures.proofs.Trees.InVersions.{if_written}
+use Rattle.shard_merging.proofs.Trees.InVersions.{if_written}
 use Rattle.shard_bytes.specs.Minimal.{RefusesMinimal, SubsetBytes}
 use Rattle.shard_bytes.specs.Outcomes.{InMemory}
 use Rattle.shard_bytes.specs.Sizes.{IsMinimalSize}

@@ -1,6 +1,6 @@
 use Rattle.std.proofs.Common.{length, map, Bor, ℕ, List, sym, subst, arith}
 use Rattle.std.proofs.lemmas.List.{length-map}
-use Rattle.xet_core_structures.proofs.Trees.InVersions.{if_filled}
+use Rattle.shard_merging.proofs.Trees.InVersions.{if_filled}
 use Rattle.shard_bytes.specs.Merging.{IsMergePlan}
 use Rattle.shard_bytes.specs.Rows.{MergesRows}
 use Rattle.shard_bytes.specs.Sizes.{IsResultSize}

@@ -1,4 +1,4 @@
-use Rattle.xet_core_structures.specs.Trees.InVersions.{MadeIn, RefusedIn}
+use Rattle.shard_merging.specs.Trees.InVersions.{MadeIn, RefusedIn}
 use Rattle.shard_bytes.specs.Combining.{IsResultOf, RefusalOf, CombinesBytes, CombiningRefusal}
 use Rattle.xet_c.proofs.Versions.{made_in}
 use Rattle.xet_c.proofs.combine.combine_in.Goals as goal

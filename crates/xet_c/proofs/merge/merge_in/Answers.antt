@@ -1,5 +1,5 @@
 use Rattle.std.proofs.Common.{Bor, ℕ, List, map}
-use Rattle.xet_core_structures.specs.Trees.InVersions.{MadeIn, RefusedIn}
+use Rattle.shard_merging.specs.Trees.InVersions.{MadeIn, RefusedIn}
 use Rattle.xet_core_structures.specs.Trees.MergeTrees.{MergeRefused}
 use Rattle.xet_core_structures.specs.WrittenShard.{IsBytesWithoutExpiry}
 use Rattle.shard_bytes.specs.Merging.{MergesBytes, RefusesMerge}

@@ -1,7 +1,7 @@
 use Rattle.std.proofs.Common.{Bor, ℕ, List, map}
-use Rattle.xet_core_structures.specs.Trees.InVersions.{MadeIn, RefusedIn}
+use Rattle.shard_merging.specs.Trees.InVersions.{MadeIn, RefusedIn}
 use Rattle.xet_core_structures.specs.Trees.MergeTrees.{MergeRefused}
-use Rattle.xet_core_structures.specs.Trees.RangeTrees.{IsHeldLayout}
+use Rattle.shard_merging.specs.Trees.RangeTrees.{IsHeldLayout}
 use Rattle.shard_bytes.specs.Merging.{MergesRange, RefusesRange}
 use Rattle.xet_c.proofs.Versions.{filled_in}
 use Rattle.xet_c.proofs.merge.merge_range_in.Goals as goal

@@ -1,0 +1,4 @@
+pub mod Agreement
+pub mod LawProofs
+pub mod Records
+pub mod Trees

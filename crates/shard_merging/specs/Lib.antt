@@ -1,0 +1,4 @@
+pub mod Agreement
+pub mod Records
+pub mod Steps
+pub mod Trees

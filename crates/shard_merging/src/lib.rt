@@ -1,0 +1,16 @@
+//! Merges of shards in memory: trees of unions that write each record once, in either version, for
+//! all hashes, a range of them or some rows; inputs that have to agree, and what does not.
+#![tactic(auto)]
+
+pub mod laws;
+mod merging;
+pub mod well_formed;
+
+pub use merging::agreement::{
+    AgreeingFill, AgreeingMerge, Disagreement, MalformedRecord, MergeOutcome, RecordHash,
+    find_disagreement, find_disagreements, find_malformed, merge_agreeing, merge_or_disagreements,
+    merge_or_disagreements_into,
+};
+pub use merging::ranges::{HashRange, merge_range, merge_range_into};
+pub use merging::rows::{SectionRows, merge_rows_into};
+pub use merging::trees::{put_number, shard_union_tree_in, shard_union_tree_into};
