@@ -15,7 +15,7 @@ use Rattle.xet_core_structures.specs.declared.file_structs.FileDataSequenceHeade
 use Rattle.xet_core_structures.specs.declared.file_structs.MDBFileInfo.{MDBFileInfo}
 use Rattle.xet_core_structures.specs.declared.merklehash.DataHash.{DataHash}
 use Rattle.xet_core_structures.specs.FileRecord.{file_records, file_records_in, file_record_bytes, has_aux_ext, rows_after}
-use Rattle.xet_core_structures.specs.InARow.{ShardPart, bytes_of_part, options_in, IsPartUnder, files_in}
+use Rattle.shard_merging.specs.InARow.{ShardPart, bytes_of_part, options_in, IsPartUnder, files_in}
 use Rattle.xet_core_structures.specs.SectionReading.{IsSection}
 use Rattle.shard_merging.specs.Steps.InVersions.{AreNumbered, with_number_2}
 use Rattle.shard_merging.specs.Trees.Filling.{Fills}

@@ -15,7 +15,7 @@ use Rattle.xet_core_structures.specs.declared.xorb_structs.MDBXorbInfo.{MDBXorbI
 use Rattle.xet_core_structures.specs.declared.set_operations.FormatVersion.{FormatVersion}
 use Rattle.xet_core_structures.specs.declared.set_operations.FormatVersion.TheVariants.{V2, V3}
 use Rattle.xet_core_structures.specs.Errors.{IsWriteError}
-use Rattle.xet_core_structures.specs.InARow.{ShardPart, bytes_of_part, IsPartUnder, files_in, xorbs_in, options_under, AscendBoth, ArePartsInARow, AreBytesOf, AreInARow, AppendsShardsInARow, IsConcatenation, RefusesShardsInARow}
+use Rattle.shard_merging.specs.InARow.{ShardPart, bytes_of_part, IsPartUnder, files_in, xorbs_in, options_under, AscendBoth, ArePartsInARow, AreBytesOf, AreInARow, AppendsShardsInARow, IsConcatenation, RefusesShardsInARow}
 use Rattle.xet_core_structures.specs.Layout.{layout_of, plain_options}
 use Rattle.shard_merging.specs.Records.Ranges.{IsPartOf, is_within, ranges_between, AreCuts}
 use Rattle.xet_core_structures.specs.Shard.{Shard, IsShard}
@@ -23,7 +23,7 @@ use Rattle.shard_merging.specs.Trees.Filling.{Fills}
 use Rattle.shard_merging.specs.Trees.RangeTrees.{IsHeldLayout}
 use Rattle.shard_merging.proofs.Trees.InVersions.{in_version_2}
 use Rattle.shard_merging.proofs.Trees.RangeParts.{ranges_concatenate}
-use Rattle.xet_shards.proofs.Export.InARow.{ArePartsOf, parts_of, parts_in_a_row}
+use Rattle.shard_merging.proofs.InARow.InARow.{ArePartsOf, parts_of, parts_in_a_row}
 use Rattle.xet_shards.proofs.Export.KeyedExport.{footer_last}
 use Rattle.shard_bytes.specs.InARow.{IsLayoutIn, FailsIn, IsConcatenationIn, Concatenates}
 use Rattle.shard_bytes.specs.Outcomes.{InMemory}

@@ -6,7 +6,7 @@ use Rattle.xet_core_structures.specs.declared.merklehash.DataHash.{DataHash}
 use Rattle.xet_core_structures.specs.declared.xorb_structs.MDBXorbInfo.{MDBXorbInfo}
 use Rattle.xet_core_structures.specs.KeyedExport.{ExportCase}
 use Rattle.xet_core_structures.specs.Layout.{layout_of}
-use Rattle.xet_shards.specs.Export.InARow.{options_under}
+use Rattle.shard_merging.specs.InARow.{options_under}
 use Rattle.xet_shards.specs.Export.Rewriting.{HasSections}
 use Rattle.shard_bytes.specs.Outcomes.{InMemory}
 

@@ -3,7 +3,7 @@
 ghost use Rattle.std.specs.Prelude.{◌≡◌, List, All, drop, map};
 ghost use Rattle.xet_core_structures.specs.declared.merklehash.DataHash.{DataHash};
 ghost use Rattle.xet_core_structures.specs.FileRecord.{file_records};
-ghost use Rattle.xet_core_structures.specs.InARow.{ShardPart, bytes_of_part, IsPartUnder, files_in};
+ghost use Rattle.shard_merging.specs.InARow.{ShardPart, bytes_of_part, IsPartUnder, files_in};
 ghost use Rattle.xet_core_structures.specs.SectionReading.{IsSection};
 ghost use Rattle.shard_bytes.specs.Versions.{have_aux_rows, has_new_files};
 

@@ -2,3 +2,4 @@ pub mod Agreement
 pub mod LawProofs
 pub mod Records
 pub mod Trees
+pub mod InARow

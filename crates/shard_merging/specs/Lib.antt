@@ -2,3 +2,4 @@ pub mod Agreement
 pub mod Records
 pub mod Steps
 pub mod Trees
+pub mod InARow

@@ -7,3 +7,8 @@ pub mod InVersions
 pub mod Parts
 pub mod Placed
 pub mod Rows
+pub mod PartFilling
+pub mod Gathering
+pub mod InARow
+pub mod PartOrder
+pub mod ChunkMerging

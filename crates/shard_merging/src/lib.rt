@@ -1,11 +1,15 @@
 //! Merges of shards in memory: trees of unions that write each record once, in either version, for
-//! all hashes, a range of them or some rows; inputs that have to agree, and what does not.
+//! all hashes, a range of them or some rows; inputs that have to agree, and what does not; and shards
+//! whose records follow one another.
 #![tactic(auto)]
 
+mod in_a_row;
 pub mod laws;
 mod merging;
 pub mod well_formed;
 
+pub use in_a_row::filling::shards_in_a_row_into;
+pub use in_a_row::shards_in_a_row;
 pub use merging::agreement::{
     AgreeingFill, AgreeingMerge, Disagreement, MalformedRecord, MergeOutcome, RecordHash,
     find_disagreement, find_disagreements, find_malformed, merge_agreeing, merge_or_disagreements,

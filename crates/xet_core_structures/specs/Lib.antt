@@ -18,7 +18,6 @@ pub use Rattle.xet_shards.specs.ShardInMemory.ChunkLookup
 pub use Rattle.xet_shards.specs.Ends.Ends
 pub use Rattle.xet_shards.specs.Write.WithOptions
 pub use Rattle.xet_shards.specs.Content.Joins
-pub use Rattle.xet_shards.specs.Export.InARow
 pub use Rattle.xet_shards.specs.Export.KeyedExport
 pub use Rattle.xet_shards.specs.Content.KeyedShards
 pub use Rattle.xet_shards.specs.Write.Layout

@@ -3,4 +3,3 @@
 pub mod KeyedExport
 pub mod ExportLaws
 pub mod Rewriting
-pub mod InARow

@@ -2,18 +2,13 @@
 
 pub mod ChunkLookup
 pub mod Collecting
-pub mod ChunkMerging
 pub mod FileStore
-pub mod Filling
-pub mod Gathering
-pub mod InARow
 pub mod Joining
 pub mod KeyedExport
 pub mod Lookup
 pub mod MinimalCopying
 pub mod MinimalShard
 pub mod MinimalWriting
-pub mod PartOrder
 pub mod RunReading
 pub mod RunSteps
 pub mod SectionReading

@@ -9,4 +9,3 @@ pub mod WrittenShard
 pub mod Written
 pub mod WrittenLaws
 pub mod Copying
-pub mod Filling

@@ -3,8 +3,6 @@
 //! are stored. Also writes shards of lists of records, without a chunk lookup.
 
 pub use crate::shard_format::ends::options::LayoutOptions;
-pub use crate::shard_format::export::filling::shards_in_a_row_into;
-pub use crate::shard_format::export::in_a_row::shards_in_a_row;
 pub use crate::shard_format::export::rewriting::write_again;
 pub use crate::shard_format::read::stored_section::{
     PlacedRecord, StoredSection, bytes_from, end_of_section, have_aux_rows, read_stored_section,

@@ -13,7 +13,7 @@ use Rattle.xet_base.specs.declared.merklehash.DataHash.{DataHash}
 use Rattle.xet_base.specs.Hash.{hash_cmp}
 use Rattle.xet_base.proofs.HashOrder.{hash_cmp-IsTotalOrder, hash_cmp-IsAntisymmetric}
 use Rattle.xet_shards.specs.Content.Shard.{Shard}
-use Rattle.xet_shards.specs.Export.InARow.{AreInARow}
+use Rattle.shard_merging.specs.InARow.{AreInARow}
 use Rattle.xet_shards.proofs.Content.Maps.{both_left, both_right}
 use Rattle.xet_shards.proofs.ShardInMemory.Sums.{all_of_map}
 use Rattle.shard_merging.specs.Records.Ranges.{IsRestriction, IsPartOf, is_from, is_before, is_up_to, is_within, ranges_between, AreCuts}

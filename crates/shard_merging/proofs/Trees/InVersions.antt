@@ -21,7 +21,7 @@ use Rattle.xet_records.specs.Version.{number_of}
 use Rattle.xet_records.specs.XorbRecord.{xorb_records}
 use Rattle.xet_records.proofs.RecordKinds.{file_laws}
 use Rattle.xet_shards.specs.declared.shard_format.read.stored_section.PlacedRecord.{PlacedRecord}
-use Rattle.xet_shards.specs.Write.Filling.{Fills, FillsWith}
+use Rattle.shard_merging.specs.Trees.Filling.{Fills, FillsWith}
 use Rattle.xet_shards.specs.declared.shard_format.ends.options.LayoutOptions.{LayoutOptions}
 use Rattle.xet_shards.specs.Write.Layout.{header_tag, layout_of, shard_header_bytes}
 use Rattle.xet_shards.specs.Write.Section.{section_bytes}

@@ -11,10 +11,10 @@ use Rattle.xet_records.specs.FileRecord.{file_records}
 use Rattle.xet_records.specs.XorbRecord.{xorb_records}
 use Rattle.xet_shards.specs.Content.Shard.{Shard}
 use Rattle.xet_shards.specs.Ends.Ends.{FitsFooter}
-use Rattle.xet_shards.specs.Export.InARow.{ShardPart, bytes_of_part, IsPartUnder, files_in, xorbs_in, AscendBoth, FitTogether, AreInARow}
+use Rattle.shard_merging.specs.InARow.{ShardPart, bytes_of_part, IsPartUnder, files_in, xorbs_in, AscendBoth, FitTogether, AreInARow}
 use Rattle.xet_shards.specs.Write.Layout.{footer_value, layout_of}
 use Rattle.xet_shards.specs.Write.WithOptions.{Ascends}
-use Rattle.xet_shards.proofs.Export.InARow.{plain_widths, fit_together}
+use Rattle.shard_merging.proofs.InARow.InARow.{plain_widths, fit_together}
 use Rattle.xet_shards.proofs.Write.Sections.{files_fit, xorbs_fit}
 use Rattle.xet_shards.proofs.Write.WithOptions.{files_ascend, xorbs_ascend}
 use Rattle.shard_merging.specs.Records.Ranges.{IsPartOf, is_within, ranges_between, AreCuts}

@@ -21,7 +21,7 @@ ghost use Rattle.xet_shards.specs.Write.Layout.{layout_of, layout};
 ghost use Rattle.xet_core_structures.specs.Records.ByteUnion.{IsEitherFile, IsEitherXorb};
 ghost use Rattle.xet_core_structures.specs.Records.RecordPairs.{Combines, AreApart};
 ghost use Rattle.shard_merging.specs.Records.Ranges.{IsPartOf, is_within, ranges_between, AreCuts};
-ghost use Rattle.xet_shards.specs.Export.InARow.{AreInARow};
+ghost use Rattle.shard_merging.specs.InARow.{AreInARow};
 ghost use Rattle.xet_shards.specs.Content.Joins.{IsJoinOf};
 ghost use Rattle.xet_shards.specs.Content.SetOperations.{ShardsAgree};
 ghost use Rattle.xet_shards.specs.Content.Shard.{Shard};

@@ -30,7 +30,7 @@ use Rattle.xet_shards.specs.Write.Section.{total_rows, with_fronts, section_byte
 use Rattle.xet_shards.specs.Write.Tables.{hash_in, chunk_table_rows_from, chunk_table_rows, chunk_table, start_of, starts, start_row, chunk_table_row_bytes, table_bytes, chunk_table_bytes}
 use Rattle.xet_shards.specs.Write.Layout.{LayoutOptions, if_included, shard_header_bytes, header_value, shard_footer_bytes, footer_value, layout_of, layout_in, info_value_in, plain_options_in}
 use Rattle.xet_shards.specs.Read.TableReading.{FitsStart, triple_of, triple_row, FitsTriple}
-use Rattle.xet_shards.specs.Steps.ChunkMerging.{FitsTableRow}
+use Rattle.xet_shards.specs.Read.TableReading.{FitsTableRow}
 use Rattle.xet_shards.proofs.Write.ChunkTableRows.{key_alone, keys-key_alone, chunk_table_row}
 use Rattle.xet_shards.proofs.Write.Layouts.{length-shard_header_bytes}
 use Rattle.xet_shards.proofs.Content.Maps.{All-keys-from_entries}

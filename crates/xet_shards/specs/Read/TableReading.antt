@@ -57,3 +57,7 @@ pub record TableFails (size : ℕ) (old new : Source) (at count : ℕ) (e : Core
   pub read : new.read ≤ old.read + size * count
   pub cause : (IsBareInvalidShard e × (MAX_ROWS < count) × (new ≡ old))
       ⊎ ((count ≤ MAX_ROWS) × RowsFailure old new at (size * count) e)
+
+-- the numbers of a row of the chunk table are within their widths
+abbrev pub FitsTableRow : ChunkTableRow → Type 0
+FitsTableRow row = FitsTriple (triple_of row)

@@ -1,6 +1,6 @@
 use Rattle.std.proofs.Common.{◌≡◌, List, All, map, drop}
 use Rattle.xet_core_structures.specs.declared.merklehash.DataHash.{DataHash}
-use Rattle.xet_core_structures.specs.InARow.{ShardPart, bytes_of_part, IsPartUnder, files_in}
+use Rattle.shard_merging.specs.InARow.{ShardPart, bytes_of_part, IsPartUnder, files_in}
 use Rattle.shard_bytes.specs.Versions.{have_aux_rows}
 use Rattle.shard_bytes.proofs.aux_rows.have_aux_rows.Given as goal
 

@@ -1,5 +1,5 @@
 use Rattle.std.proofs.Common.{sym, ap, ◌∙◌}
-use Rattle.xet_core_structures.specs.InARow.{files_in}
+use Rattle.shard_merging.specs.InARow.{files_in}
 use Rattle.shard_bytes.specs.Versions.{has_new_files}
 use Rattle.shard_bytes.proofs.aux_rows.have_new_files.Goals as goal
 

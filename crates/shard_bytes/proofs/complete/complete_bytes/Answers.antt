@@ -2,7 +2,7 @@ use Rattle.std.proofs.Common.{ℕ, List, length, sym, subst, arith}
 use Rattle.std.proofs.lemmas.Result.{err_from_is_err_and}
 use Rattle.xet_core_structures.specs.Hash.{IsHash}
 use Rattle.xet_core_structures.specs.KeyedExport.{ExportCase}
-use Rattle.xet_shards.specs.Export.InARow.{options_under}
+use Rattle.shard_merging.specs.InARow.{options_under}
 use Rattle.shard_bytes.specs.Completing.{Completes}
 use Rattle.shard_bytes.specs.Sizes.{IsRewriteSize}
 use Rattle.shard_bytes.proofs.Completing.{whole_holds, only_memory_lacks}

@@ -1,6 +1,6 @@
 use Rattle.std.proofs.Common.{Bor, inl, ℕ, List, map, sym, ◌∙◌}
 use Rattle.std.proofs.lemmas.Result.{err_from_is_err_and}
-use Rattle.xet_core_structures.specs.InARow.{RefusesShardsInARow, files_in}
+use Rattle.shard_merging.specs.InARow.{RefusesShardsInARow, files_in}
 use Rattle.shard_bytes.proofs.InARow.{appended_is, row_is, lacks_memory, fails_for_memory, fails_for_files, refuses_new, whole_numbered, none_concatenated, concatenates}
 use Rattle.shard_bytes.proofs.MemoryErrors.{from_memory}
 use Rattle.shard_bytes.proofs.in_a_row.concatenate.Goals as goal

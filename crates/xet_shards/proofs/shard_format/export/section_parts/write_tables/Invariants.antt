@@ -1,8 +1,0 @@
-use Rattle.std.proofs.Common.{List, take}
-use Rattle.xet_shards.specs.Steps.InARow.{HoldSections}
-use Rattle.xet_shards.proofs.Export.SectionParts.{HasWrittenTables}
-use Rattle.xet_shards.proofs.shard_format.export.section_parts.write_tables.Given as goal
-
-abbrev pub invariant-loop-section : goal.invariant-loop-section
-invariant-loop-section g l = (records : List (List _)) → HoldSections g.R.SectionRecord.kind l.sections records
-    → HasWrittenTables g.R.SectionRecord.kind l.first (take l.section-index records) (g.W.Write.contents l.initial.writer) (g.W.Write.contents l.writer)
