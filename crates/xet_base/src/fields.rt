@@ -57,14 +57,18 @@ pub fn put_u64(row: &mut [u8], at: usize, value: u64) -> usize
 }
 
 /// The hash at the front of `bytes`, and what follows it.
+#[tactic(auto, unfolding(crate::specs::Hash::hash_bytes))]
 #[inline(always)]
 pub fn split_hash(bytes: &[u8]) -> (MerkleHash, &[u8])
     requires { 32 ≤ length bytes.now }
     ensures bytes { bytes.now ≡ hash_bytes result.0 ++ result.1.now }
     ensures len { length result.1.now + 32 ≡ length bytes.now }
 {
-    let (front, rest) = bytes.split_at(32);
-    (MerkleHash::from_32(front), rest)
+    let (word0, rest) = split_u64(bytes);
+    let (word1, rest) = split_u64(rest);
+    let (word2, rest) = split_u64(rest);
+    let (word3, rest) = split_u64(rest);
+    (MerkleHash::from([word0, word1, word2, word3]), rest)
 }
 
 /// The number in the first four bytes, lowest byte first, and what follows them.
@@ -110,7 +114,7 @@ pub fn split_u64s<'a>(bytes: &'a [u8], values: &mut [u64]) -> &'a [u8]
 
 #[tactic(auto, unfolding(crate::specs::Bytes::u32_bytes))]
 #[inline(always)]
-pub(crate) fn u32_of(bytes: [u8; 4]) -> u32
+fn u32_of(bytes: [u8; 4]) -> u32
     ensures { u32_bytes result ≡ bytes }
 {
     u32::from_le_bytes(bytes)
@@ -118,7 +122,7 @@ pub(crate) fn u32_of(bytes: [u8; 4]) -> u32
 
 #[tactic(auto, unfolding(crate::specs::Bytes::u64_bytes))]
 #[inline(always)]
-pub(crate) fn u64_of(bytes: [u8; 8]) -> u64
+fn u64_of(bytes: [u8; 8]) -> u64
     ensures { u64_bytes result ≡ bytes }
 {
     u64::from_le_bytes(bytes)

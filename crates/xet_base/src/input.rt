@@ -15,9 +15,12 @@ ghost use Rattle.xet_base.specs.InputLaws.{reader_fails, reader_fails_later, rea
 use crate::error::Result;
 use crate::fields::all_bytes;
 use crate::serialization_utils::read_bytes;
-use crate::source::{BLOCK_SIZE, ShardSource, read_full};
+use crate::source::{ShardSource, read_full};
 use std::io;
 use std::io::Read;
+
+// How many bytes `skip` reads at once where it has to read.
+const BLOCK_SIZE: usize = 768;
 
 /// Marks the inputs that are readers.
 pub struct OfReader {}

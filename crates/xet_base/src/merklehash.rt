@@ -175,7 +175,7 @@ impl DataHash {
 
     #[tactic(auto, unfolding(crate::specs::Hash::hash_bytes))]
     #[inline(always)]
-    pub(crate) fn from_32(bytes: &[u8]) -> DataHash
+    fn from_32(bytes: &[u8]) -> DataHash
         requires { length bytes.now ≡ 32 }
         ensures { hash_bytes result ≡ bytes.now }
     {

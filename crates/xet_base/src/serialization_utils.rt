@@ -13,7 +13,7 @@ ghost use Rattle.xet_base.specs.Bytes.{u32_bytes, u64_bytes, HasBytes};
 ghost use Rattle.xet_base.specs.Input.{ReaderLacks};
 ghost use Rattle.xet_base.specs.Hash.{hash_bytes};
 
-use crate::fields::{u32_of, u64_of};
+use crate::fields::{split_hash, split_u32, split_u64};
 use crate::merklehash::MerkleHash;
 use std::io;
 use std::io::{ErrorKind, Read, Write};
@@ -101,7 +101,8 @@ pub fn read_hash<R: Read>(reader: &mut R) -> io::Result<MerkleHash>
 {
     let mut bytes = [0u8; 32];
     read_bytes(reader, &mut bytes)?;
-    Ok(MerkleHash::from_32(&bytes))
+    let (hash, _) = split_hash(&bytes);
+    Ok(hash)
 }
 
 /// Reads one byte.
@@ -127,7 +128,8 @@ pub fn read_u32<R: Read>(reader: &mut R) -> io::Result<u32>
 {
     let mut bytes = [0u8; 4];
     read_bytes(reader, &mut bytes)?;
-    Ok(u32_of(bytes))
+    let (value, _) = split_u32(&bytes);
+    Ok(value)
 }
 
 /// Reads eight bytes as a number, lowest byte first.
@@ -140,7 +142,8 @@ pub fn read_u64<R: Read>(reader: &mut R) -> io::Result<u64>
 {
     let mut bytes = [0u8; 8];
     read_bytes(reader, &mut bytes)?;
-    Ok(u64_of(bytes))
+    let (value, _) = split_u64(&bytes);
+    Ok(value)
 }
 
 /// Fills `slice` from the reader.

@@ -10,8 +10,8 @@ use crate::fields::all_bytes;
 use std::io;
 use std::io::ErrorKind;
 
-// How many bytes `pass` and `skip` read at once where they have to read.
-pub(crate) const BLOCK_SIZE: usize = 768;
+// How many bytes `pass` reads at once where it has to read.
+const BLOCK_SIZE: usize = 768;
 
 /// Bytes with a read position. Contracts see the bytes, the position, the seeks made, the bytes
 /// read, the failures so far and the latest failure.
