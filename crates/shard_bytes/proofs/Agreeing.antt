@@ -24,7 +24,7 @@ use Rattle.xet_core_structures.specs.Shard.{Shard, IsShard}
 use Rattle.xet_core_structures.specs.Errors.{CoreResult}
 use Rattle.shard_merging.specs.Trees.InVersions.{MadeIn}
 use Rattle.xet_core_structures.specs.Trees.MergeTrees.{leaves}
-use Rattle.xet_core_structures.specs.declared.set_operations.FormatVersion.{FormatVersion}
+use Rattle.xet_core_structures.specs.declared.record_reader.FormatVersion.{FormatVersion}
 use Rattle.shard_merging.proofs.Agreement.AgreeingTrees.{of_hash, held_agree, agreeing_tree}
 use Rattle.shard_merging.proofs.Agreement.Malformed.{held_formed}
 use Rattle.xet_core_structures.proofs.Records.ShardContents.{only_shard}

@@ -8,7 +8,7 @@ use Rattle.shard_merging.specs.Trees.RangeTrees.{RangeWrites}
 use Rattle.shard_merging.specs.Trees.RowTrees.{InputRowsAre, IsRowsOf, WriteInRows}
 use Rattle.shard_merging.proofs.LawProofs.RowRanges.{rows_cover_ranges as by_one_tree}
 use Rattle.xet_core_structures.specs.declared.error.CoreError.{CoreError}
-use Rattle.xet_core_structures.specs.declared.set_operations.FormatVersion.{FormatVersion}
+use Rattle.xet_core_structures.specs.declared.record_reader.FormatVersion.{FormatVersion}
 use Rattle.xet_core_structures.specs.declared.set_operations.MergePlan.{MergePlan}
 use Rattle.shard_merging.specs.declared.merging.ranges.HashRange.{HashRange}
 use Rattle.shard_merging.specs.declared.merging.rows.SectionRows.{SectionRows}

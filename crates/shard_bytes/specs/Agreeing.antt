@@ -10,7 +10,7 @@ use Rattle.shard_merging.specs.Trees.Filling.{Fills}
 use Rattle.shard_merging.specs.Trees.InVersions.{MadeIn, RefusedIn}
 use Rattle.xet_core_structures.specs.TwoShards.ByteResults.{keyed_layout}
 use Rattle.xet_core_structures.specs.declared.error.CoreError.{CoreError}
-use Rattle.xet_core_structures.specs.declared.set_operations.FormatVersion.{FormatVersion}
+use Rattle.xet_core_structures.specs.declared.record_reader.FormatVersion.{FormatVersion}
 use Rattle.shard_merging.specs.declared.merging.agreement.AgreeingMerge.{AgreeingMerge}
 use Rattle.shard_merging.specs.declared.merging.agreement.AgreeingMerge.TheVariants.{Bytes, Disagreements, Malformed}
 use Rattle.shard_merging.specs.declared.merging.agreement.AgreeingFill.{AgreeingFill}

@@ -7,8 +7,8 @@ use Rattle.xet_core_structures.specs.declared.error.CoreError.TheVariants.{Inval
 use Rattle.xet_core_structures.specs.declared.file_structs.MDBFileInfo.{MDBFileInfo}
 use Rattle.xet_core_structures.specs.declared.merklehash.DataHash.{DataHash}
 use Rattle.xet_core_structures.specs.declared.xorb_structs.MDBXorbInfo.{MDBXorbInfo}
-use Rattle.xet_core_structures.specs.declared.set_operations.FormatVersion.{FormatVersion}
-use Rattle.xet_core_structures.specs.declared.set_operations.FormatVersion.TheVariants.{V2, V3}
+use Rattle.xet_core_structures.specs.declared.record_reader.FormatVersion.{FormatVersion}
+use Rattle.xet_core_structures.specs.declared.record_reader.FormatVersion.TheVariants.{V2, V3}
 use Rattle.shard_merging.specs.InARow.{ShardPart, bytes_of_part, IsPartUnder, files_in, xorbs_in, options_under, AscendBoth, ArePartsInARow, AreBytesOf, AreInARow, IsConcatenation, RefusesShardsInARow}
 use Rattle.xet_core_structures.specs.Layout.{layout_in, layout_of}
 use Rattle.shard_merging.specs.Records.Ranges.{IsPartOf, is_within, ranges_between, AreCuts}

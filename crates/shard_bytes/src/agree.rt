@@ -9,7 +9,7 @@ pub use shard_merging::{AgreeingFill, AgreeingMerge};
 use shard_merging::{merge_or_disagreements, merge_or_disagreements_into};
 use std::alloc::Global;
 use xet_core_structures::error::{CoreError, Result};
-use xet_core_structures::set_operations::FormatVersion;
+use xet_core_structures::record_reader::FormatVersion;
 
 /// The bytes of the union of one shard or more in a version of the format, from their bytes, as
 /// [`merge_bytes`](crate::merge::merge_bytes) makes it, if each input holds a well-formed shard and

@@ -9,9 +9,8 @@ ghost use Rattle.shard_bytes.specs.Versions.{have_aux_rows, has_new_files};
 
 use xet_core_structures::file_structs::{FileDataSequenceHeader, MDBFileInfo};
 use xet_core_structures::record_bytes::row;
-use xet_core_structures::record_reader::SectionRecord;
+use xet_core_structures::record_reader::{FormatVersion, SectionRecord};
 use xet_core_structures::rows::ROW_SIZE;
-use xet_core_structures::set_operations::FormatVersion;
 
 /// Whether a version does not have a file of one of these shards. Nothing is said of bytes that are
 /// no shard.

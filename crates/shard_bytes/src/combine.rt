@@ -13,7 +13,8 @@ use crate::room::with_room;
 use std::alloc::Global;
 use std::io::Write;
 use xet_core_structures::error::Result;
-use xet_core_structures::set_operations::{FormatVersion, shard_set_difference, shard_set_union};
+use xet_core_structures::record_reader::FormatVersion;
+use xet_core_structures::set_operations::{shard_set_difference, shard_set_union};
 use xet_core_structures::shard_format::MDBShardInfo;
 use xet_core_structures::source::{MemorySource, ShardSource};
 

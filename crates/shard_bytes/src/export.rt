@@ -22,7 +22,7 @@ use std::alloc::Global;
 use std::io::Write;
 use xet_core_structures::error::Result;
 use xet_core_structures::merklehash::HMACKey;
-use xet_core_structures::set_operations::FormatVersion;
+use xet_core_structures::record_reader::FormatVersion;
 use xet_core_structures::shard_format::MDBShardInfo;
 use xet_core_structures::source::{MemorySource, ShardSource};
 

@@ -11,7 +11,7 @@ use crate::room::with_room;
 use shard_merging::{shards_in_a_row, shards_in_a_row_into};
 use std::alloc::Global;
 use xet_core_structures::error::{CoreError, Result};
-use xet_core_structures::set_operations::FormatVersion;
+use xet_core_structures::record_reader::FormatVersion;
 
 /// The bytes of the shard that has the records of one shard or more, in their order, in a version
 /// of the format. The hashes of files, and those of xorbs, have to ascend from each shard to the

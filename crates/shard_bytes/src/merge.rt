@@ -16,7 +16,8 @@ use shard_merging::{
 };
 use std::alloc::Global;
 use xet_core_structures::error::{CoreError, Result};
-use xet_core_structures::set_operations::{FormatVersion, MergePlan};
+use xet_core_structures::record_reader::FormatVersion;
+use xet_core_structures::set_operations::MergePlan;
 
 /// The bytes of the union of one shard or more, in a version of the format, from their bytes, by a
 /// balanced tree of unions: that of the first half of the list with that of the second. One shard is

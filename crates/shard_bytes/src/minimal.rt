@@ -16,7 +16,7 @@ use std::io::{self, ErrorKind};
 use xet_core_structures::error::{CoreError, Result};
 use xet_core_structures::file_structs::KeptParts;
 use xet_core_structures::merklehash::MerkleHash;
-use xet_core_structures::set_operations::FormatVersion;
+use xet_core_structures::record_reader::FormatVersion;
 use xet_core_structures::sorted_hashes::SortedHashes;
 use xet_core_structures::streaming_shard::MDBMinimalShard;
 use xet_core_structures::xorb_structs::MDBXorbInfoView;

@@ -16,8 +16,8 @@ ghost use Rattle.shard_bytes.specs.Versions.{has_new_files};
 use crate::aux_rows::has_aux_rows;
 use shard_merging::put_number;
 use xet_core_structures::error::{CoreError, Result};
+use xet_core_structures::record_reader::FormatVersion;
 use xet_core_structures::rows::ROW_SIZE;
-use xet_core_structures::set_operations::FormatVersion;
 
 /// The bytes in a version of a shard whose bytes in version 3 these are.
 ///

@@ -23,8 +23,8 @@ use std::alloc::Global;
 use xet_core_structures::error::{CoreError, Result};
 use xet_core_structures::fields::{split_u32, split_u64};
 use xet_core_structures::merklehash::MerkleHash;
+use xet_core_structures::record_reader::FormatVersion;
 use xet_core_structures::rows::{ROW_LIMIT, ROW_SIZE};
-use xet_core_structures::set_operations::FormatVersion;
 use xet_core_structures::shard_format::START_ROW_SIZE;
 
 /// Writes what [`merge_range_bytes_into`](crate::merge::merge_range_bytes_into) writes, but of the

@@ -9,7 +9,7 @@ use script_lines::files_and_xorbs::{parse_file, parse_xorb};
 use script_lines::records::{
     Form, parse_aux, parse_full_chunk, parse_full_segment, parse_metadata, parse_verification_row,
 };
-use script_lines::show::{show_counted, show_line};
+use script_lines::show::show_line;
 use script_lines::words::parse_optional_u64;
 use std::alloc::Global;
 use std::io::{ErrorKind, Read, Write};
@@ -19,7 +19,6 @@ use xet_core_structures::file_structs::{
     FileVerificationEntry, MDBFileInfo,
 };
 use xet_core_structures::record_reader::FormatVersion;
-use xet_core_structures::rows::{Rows, read_optional, read_rows};
 use xet_core_structures::shard_format::{MDBShardFileFooter, MDBShardFileHeader, MDBShardInfo};
 use xet_core_structures::source::ShardSource;
 use xet_core_structures::xorb_structs::{
@@ -172,7 +171,6 @@ fn show_value<R: Read>(
         "xorb" => show_line(&MDBXorbInfo::deserialize(alloc, reader)?, out)?,
         "header" => show_line(&MDBShardFileHeader::deserialize(alloc, reader)?, out)?,
         "footer" => show_line(&MDBShardFileFooter::deserialize(alloc, reader)?, out)?,
-        "three_rows" => show_three_rows(alloc, reader, out)?,
         _ => show_row(kind, reader, out)?,
     }
     Ok(())
@@ -190,12 +188,4 @@ fn show_row<R: Read>(kind: &str, reader: &mut R, out: &mut Vec<u8>) -> Result<()
         _ => show_number(kind, reader, out)?,
     }
     Ok(())
-}
-
-// Reads two verification rows as a list and one that is optional, and prints them.
-fn show_three_rows<R: Read>(alloc: Global, reader: &mut R, out: &mut Vec<u8>) -> Result<(), Stop> {
-    let rows: Rows<FileVerificationEntry> = read_rows(alloc, reader, 2)?;
-    let last: Option<FileVerificationEntry> = read_optional(reader, true)?;
-    show_counted(rows.as_slice(), out)?;
-    Ok(show_line(&last, out)?)
 }

@@ -2,7 +2,7 @@
 use Rattle.std.proofs.Common.{◌≡◌, inl, inr, ℕ, ◌<◌, List, [], ◌∷◌, length, Ok, Err, sym, subst, arith}
 use Rattle.std.specs.Prelude.{IfOk, MatchResult}
 use Rattle.xet_core_structures.specs.Errors.{CoreResult}
-use Rattle.xet_core_structures.specs.declared.set_operations.FormatVersion.{FormatVersion}
+use Rattle.xet_core_structures.specs.declared.record_reader.FormatVersion.{FormatVersion}
 use Rattle.shard_merging.specs.declared.merging.agreement.AgreeingFill.{AgreeingFill}
 use Rattle.shard_merging.specs.declared.merging.agreement.AgreeingFill.TheVariants.{Bytes, Disagreements, Malformed}
 use Rattle.shard_merging.specs.declared.merging.agreement.Disagreement.{Disagreement}

@@ -6,7 +6,7 @@ use Rattle.shard_merging.specs.declared.merging.agreement.RecordHash.{RecordHash
 use Rattle.shard_merging.specs.declared.merging.agreement.RecordHash.TheVariants.{File, Xorb}
 use Rattle.xet_core_structures.specs.declared.error.CoreError.{CoreError}
 use Rattle.xet_core_structures.specs.declared.error.CoreError.TheVariants.{InvalidArguments}
-use Rattle.xet_core_structures.specs.declared.set_operations.FormatVersion.{FormatVersion}
+use Rattle.xet_core_structures.specs.declared.record_reader.FormatVersion.{FormatVersion}
 use Rattle.shard_merging.specs.Agreement.Agreement.{HoldShards, IsFirstMalformed, InputsAgree, HasAllDisagreements}
 use Rattle.xet_core_structures.specs.Errors.{CoreResult, variant_number}
 use Rattle.xet_core_structures.specs.Hash.{words_of}

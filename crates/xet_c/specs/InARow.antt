@@ -1,7 +1,7 @@
 -- How a concatenation is shown.
 use Rattle.std.specs.Prelude.{◌≡◌, ◌⊎◌, ℕ, List}
 use Rattle.xet_core_structures.specs.declared.error.CoreError.TheVariants.{InvalidArguments}
-use Rattle.xet_core_structures.specs.declared.set_operations.FormatVersion.{FormatVersion}
+use Rattle.xet_core_structures.specs.declared.record_reader.FormatVersion.{FormatVersion}
 use Rattle.xet_core_structures.specs.Version.{IsVersion, number_of}
 use Rattle.shard_bytes.specs.InARow.{Concatenates}
 use Rattle.xet_c.specs.Output.{Outcome, Refuses}

@@ -8,7 +8,7 @@ use Rattle.xet_core_structures.specs.declared.xorb_structs.MDBXorbInfo.{MDBXorbI
 use Rattle.xet_core_structures.specs.Errors.{CoreResult, variant_number}
 use Rattle.xet_core_structures.specs.FileRecord.{has_verification, has_metadata_ext, has_aux_ext}
 use Rattle.xet_core_structures.specs.Hash.{words_of}
-use Rattle.xet_core_structures.specs.declared.set_operations.FormatVersion.{FormatVersion}
+use Rattle.xet_core_structures.specs.declared.record_reader.FormatVersion.{FormatVersion}
 use Rattle.xet_core_structures.specs.Layout.{layout_in}
 use Rattle.xet_core_structures.specs.WrittenShard.{HasFilesIn}
 use Rattle.shard_bytes.specs.declared.records.Records.{Records}

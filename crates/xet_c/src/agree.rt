@@ -2,7 +2,7 @@
 
 ghost use Rattle.std.specs.Prelude.{◌≡◌, ◌⊎◌, false, List, Option, map, IfOk, IfErr, MatchOption, MatchResult};
 ghost use Rattle.xet_core_structures.specs.declared.error.CoreError.{CoreError};
-ghost use Rattle.xet_core_structures.specs.declared.set_operations.FormatVersion.TheVariants.{V3};
+ghost use Rattle.xet_core_structures.specs.declared.record_reader.FormatVersion.TheVariants.{V3};
 ghost use Rattle.shard_merging.specs.declared.merging.agreement.Disagreement.{Disagreement};
 ghost use Rattle.shard_merging.specs.declared.merging.agreement.MalformedRecord.{MalformedRecord};
 ghost use Rattle.shard_merging.specs.Agreement.Agreement.{HasAllDisagreements, HoldShards, IsFirstMalformed, InputsRefusal, WellFormedRefusal};
@@ -18,7 +18,7 @@ use shard_merging::{
 };
 use std::alloc::Global;
 use xet_core_structures::error::{CoreError, Result};
-use xet_core_structures::set_operations::FormatVersion;
+use xet_core_structures::record_reader::FormatVersion;
 
 /// A hash under which two shards have records that do not agree, a xorb's or a file's, and the
 /// numbers of two such shards in the list.

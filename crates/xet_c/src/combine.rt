@@ -12,7 +12,7 @@ use crate::output::deliver;
 use shard_bytes::combine::{Operation, combine_bytes, combine_bytes_in};
 use std::alloc::Global;
 use xet_core_structures::error::{CoreError, Result};
-use xet_core_structures::set_operations::FormatVersion;
+use xet_core_structures::record_reader::FormatVersion;
 
 /// The union of two shards, to the front of `out`.
 #[unsafe(no_mangle)]

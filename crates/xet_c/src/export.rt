@@ -14,7 +14,7 @@ use shard_bytes::export::{Export, ExportParts, export_bytes, export_bytes_in};
 use std::alloc::Global;
 use xet_core_structures::error::{CoreError, Result};
 use xet_core_structures::merklehash::HMACKey;
-use xet_core_structures::set_operations::FormatVersion;
+use xet_core_structures::record_reader::FormatVersion;
 
 /// The key of an export, its times in seconds, and which parts it has.
 #[repr(C)]

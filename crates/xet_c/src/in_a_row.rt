@@ -1,14 +1,14 @@
 //! Concatenation: one shard made of many whose records follow one another.
 
 ghost use Rattle.std.specs.Prelude.{map};
-ghost use Rattle.xet_core_structures.specs.declared.set_operations.FormatVersion.TheVariants.{V3};
+ghost use Rattle.xet_core_structures.specs.declared.record_reader.FormatVersion.TheVariants.{V3};
 ghost use Rattle.xet_c.specs.InARow.{ConcatenatesIn, ShowsConcatenation};
 
 use crate::output::answer;
 use shard_bytes::in_a_row::concatenate_into;
 use std::alloc::Global;
 use xet_core_structures::error::CoreError;
-use xet_core_structures::set_operations::FormatVersion;
+use xet_core_structures::record_reader::FormatVersion;
 
 /// The shard that has the records of all shards, in their order, to the front of `out`, to which it
 /// is written at once. The hashes of files and those of xorbs have to ascend from each shard to the

@@ -21,7 +21,7 @@ use shard_merging::HashRange;
 use std::alloc::Global;
 use xet_core_structures::error::{CoreError, Result};
 use xet_core_structures::merklehash::MerkleHash;
-use xet_core_structures::set_operations::FormatVersion;
+use xet_core_structures::record_reader::FormatVersion;
 
 /// The union of one shard or more, to the front of `out`, to which it is written at once.
 #[unsafe(no_mangle)]

@@ -12,7 +12,7 @@ use shard_bytes::minimal::{minimal_bytes, minimal_bytes_in};
 use std::alloc::Global;
 use xet_core_structures::error::{CoreError, Result};
 use xet_core_structures::file_structs::KeptParts;
-use xet_core_structures::set_operations::FormatVersion;
+use xet_core_structures::record_reader::FormatVersion;
 
 /// The records of a shard without tables, created at `now`, to the front of `out`. Files keep their
 /// verification rows and their auxiliary rows if they are asked for.

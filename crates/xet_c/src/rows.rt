@@ -18,7 +18,7 @@ use crate::output::{answer, deliver};
 use shard_bytes::rows::{find_ends, merge_rows_bytes_into};
 use shard_merging::SectionRows;
 use std::alloc::Global;
-use xet_core_structures::set_operations::FormatVersion;
+use xet_core_structures::record_reader::FormatVersion;
 
 /// What `xet_merge_range` writes, but of the records in these rows of the shards alone, to the front
 /// of `out`, to which it is written at once.

@@ -14,7 +14,7 @@ use crate::output::deliver;
 use shard_bytes::minimal::{KeptXorbs, Subset, subset_bytes_in};
 use std::alloc::Global;
 use xet_core_structures::error::{CoreError, Result};
-use xet_core_structures::set_operations::FormatVersion;
+use xet_core_structures::record_reader::FormatVersion;
 
 /// The times of a subset in seconds, where an expiry of 0 means none, and whether it has all xorbs
 /// or only those that are listed.

@@ -4,7 +4,7 @@ ghost use Rattle.std.specs.Prelude.{◌≡◌, ◌⊎◌, ◌≤◌, [], ◌∷�
 ghost use Rattle.xet_core_structures.specs.FileRecord.{has_metadata_ext, has_aux_ext};
 ghost use Rattle.xet_c.specs.Arguments.{c_segment};
 ghost use Rattle.xet_c.specs.Walking.{c_chunk};
-ghost use Rattle.xet_core_structures.specs.declared.set_operations.FormatVersion.TheVariants.{V3};
+ghost use Rattle.xet_core_structures.specs.declared.record_reader.FormatVersion.TheVariants.{V3};
 ghost use Rattle.xet_c.specs.Output.{Outcome};
 ghost use Rattle.xet_c.specs.Recording.{AreHashRows, if_flagged, IsListedFile, IsListedXorb, AreListedFiles, AreListedXorbs, AddUp, WritesListed, RefusesListed};
 ghost use Rattle.xet_c.specs.Versions.{InNumber, NotInNumber};
@@ -23,8 +23,8 @@ use xet_core_structures::file_structs::{
     FileAuxExt, FileDataSequenceEntry, FileMetadataExt, FileVerificationEntry, MDBFileInfo,
 };
 use xet_core_structures::merklehash::MerkleHash;
+use xet_core_structures::record_reader::FormatVersion;
 use xet_core_structures::rows::Rows;
-use xet_core_structures::set_operations::FormatVersion;
 use xet_core_structures::xorb_structs::{MDBXorbInfo, XorbChunkSequenceEntry};
 
 /// The shard that has these files and xorbs, to the front of `out`. The first file has the first

@@ -18,7 +18,6 @@ use two_shards::results::operate;
 pub use two_shards::sections::next_header;
 use xet_base::error::{CoreError, Result};
 use xet_base::source::{MemorySource, ShardSource};
-pub use xet_records::record_reader::FormatVersion;
 use xet_records::row_copier::CopyFailure;
 use xet_shards::shard_format::MDBShardInfo;
 

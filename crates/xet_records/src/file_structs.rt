@@ -18,7 +18,7 @@ use crate::record_reader::{FormatVersion, MAX_ROWS_OF_RECORD, SectionRecord, rea
 use crate::row_reader;
 use crate::rows::{ROW_SIZE, Rows, write_optional, write_row, write_rows};
 pub use header::{FileDataSequenceHeader, SupersetResult};
-pub use part::{OptionalPart, Parts};
+pub use part::OptionalPart;
 pub use rows::{
     FileAuxExt, FileDataSequenceEntry, FileMetadataExt, FileVerificationEntry, HashRow,
 };
@@ -173,8 +173,8 @@ impl MDBFileInfo {
         Ok(())
     }
 
-    /// The number of rows of a part that the record has, whatever its header announces.
-    pub fn part_len(&self, part: OptionalPart) -> usize
+    // The number of rows of a part that the record has, whatever its header announces.
+    fn part_len(&self, part: OptionalPart) -> usize
         ensures { result ≡ length (rows_of part self.now) }
     {
         match part {

@@ -20,6 +20,15 @@ use xet_base::serialization_utils::write_bytes;
 /// The size of a row in bytes.
 pub const ROW_SIZE: usize = 48;
 
+/// The size of a row of the file table or the xorb table, in bytes.
+pub const START_ROW_SIZE: usize = 12;
+
+/// The size of a row of the chunk table, in bytes.
+pub const CHUNK_ROW_SIZE: usize = 16;
+
+/// The size of a shard without records, in bytes: a header, two bookends and a footer.
+pub const EMPTY_SIZE: u64 = 344;
+
 /// The most rows that a section may have.
 pub const ROW_LIMIT: u64 = u32::MAX as u64;
 
@@ -236,32 +245,4 @@ pub fn read_row<T: Row, R: Read>(reader: &mut R) -> io::Result<T>
         (ReaderLacks (R.remaining reader.old) 48) }
 {
     row_reader::read_input_row::<T, OfReader, R>(reader)
-}
-
-/// Reads `count` rows. `UnexpectedEof` if fewer are left. May fail with `OutOfMemory`.
-pub fn read_rows<T: Row + Drop, R: Read>(
-    alloc: Global,
-    reader: &mut R,
-    count: u32,
-) -> Result<Rows<T>>
-    ensures value { IfOk result
-        (ReadsRows T.row_bytes T.Fits T.as_read
-        (Consumes (R.remaining reader.old) (R.remaining reader.new)) count) }
-    ensures end { IfErr result
-        (λ e. IsEndOfInput e → LacksBytes (R.remaining reader.old) (48 * count)) }
-    ensures causes { IfErr result IsDeviceError }
-{
-    row_reader::read_rows::<T, OfReader, R>(alloc, reader, count)
-}
-
-/// Reads a row if it is `wanted`. `UnexpectedEof` if it is and fewer than 48 bytes are left.
-pub fn read_optional<T: Row, R: Read>(reader: &mut R, wanted: bool) -> io::Result<Option<T>>
-    ensures value { IfOk result
-        (ReadsOptional T.row_bytes T.Fits T.as_read
-        (Consumes (R.remaining reader.old) (R.remaining reader.new)) wanted) }
-    ensures end { IfErr result
-        (ReaderLacks (R.remaining reader.old) (if wanted then 48 else 0)) }
-    ensures touched { IfErr result (λ _. IsTrue wanted) }
-{
-    row_reader::read_optional::<T, OfReader, R>(reader, wanted)
 }

@@ -9,3 +9,4 @@ pub mod WrittenShard
 pub mod Written
 pub mod WrittenLaws
 pub mod Copying
+pub mod Unindexed

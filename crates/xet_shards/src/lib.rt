@@ -1,7 +1,6 @@
 //! Shards: in memory, and as bytes that are written, read whole and looked up.
 #![tactic(auto)]
 
-pub mod ranges;
 pub mod shard_format;
 pub mod shard_in_memory;
 pub mod shard_writer;

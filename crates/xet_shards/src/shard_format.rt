@@ -9,6 +9,7 @@ pub(crate) mod write;
 pub use ends::footer::MDBShardFileFooter;
 pub use ends::header::MDBShardFileHeader;
 pub use ends::info::MDBShardInfo;
+pub use xet_records::rows::{CHUNK_ROW_SIZE, START_ROW_SIZE};
 
 /// The size of a shard's header, in bytes.
 pub const HEADER_SIZE: u64 = 48;
@@ -19,14 +20,5 @@ pub const TAG_SIZE: usize = 32;
 /// The size of a shard's footer, in bytes.
 pub const FOOTER_SIZE: u64 = 200;
 
-/// The size of a row of the file table or the xorb table, in bytes.
-pub const START_ROW_SIZE: usize = 12;
-
-/// The size of a row of the chunk table, in bytes.
-pub const CHUNK_ROW_SIZE: usize = 16;
-
 /// The most rows of a table that a lookup by the first word of a hash gives.
 pub const MOST_FOUND: usize = 8;
-
-/// The size of a shard without records, in bytes: a header, two bookends and a footer.
-pub(crate) const EMPTY_SIZE: u64 = 344;

@@ -31,11 +31,9 @@ ghost use Rattle.xet_records.specs.Limits.{MAX_ROWS};
 mod chunk_query;
 mod file_store;
 mod sums;
-pub(crate) mod unindexed;
 mod union_rows;
-mod xorb_store;
+pub(crate) mod xorb_store;
 
-use crate::shard_format::{CHUNK_ROW_SIZE, EMPTY_SIZE, START_ROW_SIZE};
 use chunk_query::chunk_hash_dedup_query;
 use file_store::FileStore;
 use std::alloc::Global;
@@ -49,7 +47,7 @@ use union_rows::{united_file_rows, united_xorb_rows};
 use xet_base::error::{CoreError, Result};
 use xet_base::merklehash::MerkleHash;
 use xet_records::file_structs::{FileDataSequenceEntry, MDBFileInfo};
-use xet_records::rows::{ROW_LIMIT, ROW_SIZE};
+use xet_records::rows::{CHUNK_ROW_SIZE, EMPTY_SIZE, ROW_LIMIT, ROW_SIZE, START_ROW_SIZE};
 use xet_records::xorb_structs::MDBXorbInfo;
 use xorb_store::XorbStore;
 

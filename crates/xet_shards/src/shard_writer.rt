@@ -8,9 +8,9 @@ pub use crate::shard_format::read::stored_section::{
     PlacedRecord, StoredSection, bytes_from, end_of_section, have_aux_rows, read_stored_section,
 };
 pub use crate::shard_format::read::stored_shard::{StoredShard, read_stored_shard};
+pub use crate::shard_format::write::unindexed::UnindexedShard;
 pub use crate::shard_format::write::writer::{end_size, write_end};
 pub use crate::shard_format::write::written::{
-    RecordTable, WrittenFiles, WrittenSection, WrittenXorbs, collect_records,
+    WrittenFiles, WrittenSection, WrittenXorbs, collect_records,
 };
 pub use crate::shard_format::write::xorb_writer::ChunkTableRow;
-pub use crate::shard_in_memory::unindexed::UnindexedShard;

@@ -102,9 +102,9 @@ impl FileDataSequenceHeader {
         self.file_hash == MerkleHash::from([u64::MAX; 4])
     }
 
-    /// The optional parts that the header announces.
+    // The optional parts that the header announces.
     #[inline(always)]
-    pub fn parts(&self) -> Parts
+    pub(super) fn parts(&self) -> Parts
         ensures { result ≡ flags_of (announces self.now.file_flags) }
     {
         Parts::of_flags(self.file_flags)
@@ -118,8 +118,8 @@ impl FileDataSequenceHeader {
         self.parts().contains(part)
     }
 
-    /// The flags of the optional parts that the header announces, and no others.
-    pub fn known_flags(&self) -> u32
+    // The flags of the optional parts that the header announces, and no others.
+    fn known_flags(&self) -> u32
         ensures { result ≡ flags_of (announces self.now.file_flags) }
     {
         self.parts().flags()

@@ -32,9 +32,9 @@ impl OptionalPart {
         OptionalPart::AuxExt,
     ];
 
-    /// The flag that announces the part.
+    // The flag that announces the part.
     #[inline(always)]
-    pub fn flag(self) -> u32
+    fn flag(self) -> u32
         ensures { result ≡ 2 ^ bit_of self }
     {
         match self {
@@ -44,10 +44,10 @@ impl OptionalPart {
         }
     }
 
-    /// The set of this part if it is wanted, else the empty set.
+    // The set of this part if it is wanted, else the empty set.
     #[tactic(auto, using(crate::proofs::PartSets::one_part))]
     #[inline(always)]
-    pub fn when(self, wanted: bool) -> Parts
+    pub(super) fn when(self, wanted: bool) -> Parts
         ensures { result ≡ flags_of (λ part. wanted && is_part self part) }
     {
         Parts {
@@ -62,9 +62,9 @@ impl OptionalPart {
         &OptionalPart::ALL[..self as usize]
     }
 
-    /// The number of its rows in a file with so many segments.
+    // The number of its rows in a file with so many segments.
     #[inline(always)]
-    pub fn size(self, segments: u32) -> u32
+    pub(super) fn size(self, segments: u32) -> u32
         ensures { result ≡ size_of_part self segments }
     {
         match self {

@@ -22,9 +22,10 @@ ghost use Rattle.xet_records.specs.View.{BeginsWithHeaderRow, BeginsWithFile, No
 ghost use Rattle.xet_records.specs.Steps.View.{keeps};
 ghost use Rattle.xet_records.specs.Limits.{MAX_ROWS};
 
+use super::part::Parts;
 use super::{
     FileAuxExt, FileDataSequenceEntry, FileDataSequenceHeader, FileMetadataExt,
-    FileVerificationEntry, MDB_FILE_INFO_ENTRY_SIZE, MDBFileInfo, OptionalPart, Parts,
+    FileVerificationEntry, MDB_FILE_INFO_ENTRY_SIZE, MDBFileInfo, OptionalPart,
 };
 use crate::record_bytes;
 use crate::rows::{ROW_LIMIT, Row, write_row};

@@ -27,6 +27,7 @@
 pub(super) mod file_writer;
 pub(super) mod record_table;
 pub(super) mod row_order;
+pub(crate) mod unindexed;
 pub(crate) mod view_writer;
 pub(crate) mod writer;
 pub(crate) mod written;

@@ -18,13 +18,13 @@ use crate::shard_format::read::stored_section::StoredSection;
 use crate::shard_format::read::stored_shard::StoredShard;
 use crate::shard_format::write::writer::write_end;
 use crate::shard_format::write::written::{WrittenFiles, WrittenSection, WrittenXorbs};
-use crate::shard_format::{CHUNK_ROW_SIZE, EMPTY_SIZE, START_ROW_SIZE};
+use crate::shard_format::{CHUNK_ROW_SIZE, START_ROW_SIZE};
 use std::alloc::Global;
 use std::io::Write;
 use xet_base::error::{CoreError, Result};
 use xet_base::serialization_utils::write_bytes;
 use xet_records::record_reader::SectionRecord;
-use xet_records::rows::ROW_SIZE;
+use xet_records::rows::{EMPTY_SIZE, ROW_SIZE};
 
 impl LayoutOptions {
     /// The layout options of a shard with this header and footer. A table is in if the footer says

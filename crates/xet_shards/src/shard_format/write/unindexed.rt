@@ -1,7 +1,7 @@
 //! Shards in memory that are only written. They have no chunk lookup, which takes longer to make
 //! than all the rest.
 
-ghost use Rattle.std.specs.Prelude.{◌≡◌, ◌⊎◌, ◌≤◌, ◌↔◌, IsTrue, unwrap_or, option_map, OnOk, OnErr, IfSome, MatchResult};
+ghost use Rattle.std.specs.Prelude.{◌≡◌, ◌⊎◌, ◌<◌, ◌≤◌, ◌↔◌, IsTrue, unwrap_or, option_map, OnOk, OnErr, IfSome, MatchResult};
 ghost use Rattle.std.specs.FinMap as finite;
 ghost use Rattle.xet_base.specs.Errors.{Admits};
 ghost use Rattle.xet_records.specs.declared.record_reader.FormatVersion.{FormatVersion};
@@ -12,11 +12,10 @@ ghost use Rattle.xet_shards.specs.Write.Layout.{layout_in};
 ghost use Rattle.xet_shards.specs.Write.Section.{total_rows};
 ghost use Rattle.xet_shards.specs.Write.WrittenShard.{HasFilesIn};
 
-use super::xorb_store::is_well_formed;
-use super::{MDBInMemoryShard, within_limit};
 use crate::shard_format::ends::info::write_maps;
 use crate::shard_format::ends::options::LayoutOptions;
-use crate::shard_format::{CHUNK_ROW_SIZE, START_ROW_SIZE};
+use crate::shard_in_memory::MDBInMemoryShard;
+use crate::shard_in_memory::xorb_store::is_well_formed;
 use std::alloc::Global;
 use std::collections::BTreeMap;
 use std::marker::Model;
@@ -24,7 +23,7 @@ use xet_base::error::{CoreError, Result};
 use xet_base::merklehash::MerkleHash;
 use xet_records::file_structs::MDBFileInfo;
 use xet_records::record_reader::FormatVersion;
-use xet_records::rows::ROW_SIZE;
+use xet_records::rows::{CHUNK_ROW_SIZE, ROW_LIMIT, ROW_SIZE, START_ROW_SIZE};
 use xet_records::xorb_structs::MDBXorbInfo;
 
 /// A shard in memory without the chunk lookup, to be written. Contracts see its records.
@@ -39,7 +38,7 @@ pub struct UnindexedShard {
 
 impl Model for UnindexedShard {
     ghost use Rattle.xet_shards.specs.Content.Shard.{Shard, coded_shard};
-    ghost use Rattle.xet_shards.specs.ShardInMemory.Unindexed.{unindexed_inside, IsSoundUnindexed};
+    ghost use Rattle.xet_shards.specs.Write.Unindexed.{unindexed_inside, IsSoundUnindexed};
 
     ghost Value = { Shard };
 
@@ -183,4 +182,16 @@ fn xorb_row_count(xorb: Option<&MDBXorbInfo>) -> u64
         Some(xorb) => 1 + u64::from(xorb.metadata.num_entries),
         None => 0,
     }
+}
+
+// This number of rows, which fits `u32`, or `InvalidArguments`.
+fn within_limit(rows: u64) -> Result<u64>
+    ensures { MatchResult result
+        (λ n. (n ≡ rows) × (rows ≤ MAX_ROWS))
+        (λ e. (e ≡ CoreError.InvalidArguments) × (MAX_ROWS < rows)) }
+{
+    if rows > ROW_LIMIT {
+        return Err(CoreError::InvalidArguments);
+    }
+    Ok(rows)
 }

@@ -8,7 +8,7 @@ use Rattle.xet_records.specs.XorbRecord.{xorb_records, xorb_row_count, IsXorb}
 use Rattle.xet_shards.specs.Write.Section.{total_rows}
 use Rattle.xet_shards.specs.Content.Shard.{Shard, xorb_hash_of}
 use Rattle.xet_shards.proofs.Content.Maps.{finds_in_map, IfSome-lent, lent_map, sum-insert}
-use Rattle.xet_shards.proofs.shard_in_memory.unindexed.UnindexedShard.rows_with_xorb.Goals as goal
+use Rattle.xet_shards.proofs.shard_format.write.unindexed.UnindexedShard.rows_with_xorb.Goals as goal
 
 pub xorb_row_count-replaced-requires : goal.xorb_row_count-replaced-requires
 xorb_row_count-replaced-requires c = IfSome-lent IsXorb c.get.result _ c.get.ensures.value (All-lookup IsXorb _ _ c.self.invariant.xorbs.well_formed)

@@ -4,7 +4,7 @@ use Rattle.std.specs.FinMap.{from_sorted, is_sorted, values}
 use Rattle.xet_base.specs.Hash.{hash_cmp}
 use Rattle.xet_records.specs.Limits.{MAX_ROWS}
 use Rattle.xet_records.specs.XorbRecord.{xorb_records}
-use Rattle.xet_shards.specs.declared.shard_in_memory.unindexed.UnindexedShard.TheInside.{Inside}
+use Rattle.xet_shards.specs.declared.shard_format.write.unindexed.UnindexedShard.TheInside.{Inside}
 use Rattle.xet_shards.specs.Content.Shard.{Shard, AreXorbs}
 use Rattle.xet_shards.specs.Write.Section.{total_rows}
 

@@ -9,7 +9,7 @@ use Rattle.xet_records.specs.XorbRecord.{xorb_records, IsXorb}
 use Rattle.xet_shards.specs.Write.Section.{total_rows}
 use Rattle.xet_shards.specs.Content.Shard.{AreXorbs, Shard, XorbMap, xorb_hash_of}
 use Rattle.xet_shards.proofs.Content.Maps.{from_sorted-insert_entry, sorted-insert_entry, All-insert_entry}
-use Rattle.xet_shards.proofs.shard_in_memory.unindexed.UnindexedShard.add_xorb_block.Goals as goal
+use Rattle.xet_shards.proofs.shard_format.write.unindexed.UnindexedShard.add_xorb_block.Goals as goal
 
 -- the xorbs after the insertion
 xorbs_after_insertion : (es fs : List (DataHash × MDBXorbInfo)) (m : XorbMap) (xorb : MDBXorbInfo) → T (is_sorted hash_cmp es) → fs ≡ insert_entry hash_cmp es (xorb_hash_of xorb) xorb → from_sorted es ≡ m

@@ -10,7 +10,7 @@ use Rattle.xet_shards.specs.Content.Shard.{AreXorbs, XorbMap}
 use Rattle.xet_shards.specs.ShardInMemory.ChunkLookup.{ShardWithLookup}
 use Rattle.xet_shards.specs.Write.Section.{total_rows}
 use Rattle.xet_shards.proofs.Content.Maps.{from_sorted-nil, values-empty}
-use Rattle.xet_shards.proofs.shard_in_memory.unindexed.UnindexedShard.new.Goals as goal
+use Rattle.xet_shards.proofs.shard_format.write.unindexed.UnindexedShard.new.Goals as goal
 
 pub invariant_of-result : goal.invariant_of-result
 invariant_of-result c =

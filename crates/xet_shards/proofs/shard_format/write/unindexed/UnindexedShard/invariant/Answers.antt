@@ -2,7 +2,7 @@ use Rattle.std.proofs.Common.{sym, subst, arith}
 use Rattle.std.specs.FinMap.{entries-from_sorted}
 use Rattle.xet_base.specs.Hash.{hash_cmp}
 use Rattle.xet_shards.specs.Content.Shard.{AreXorbs, IsShard}
-use Rattle.xet_shards.proofs.shard_in_memory.unindexed.UnindexedShard.invariant.Goals as goal
+use Rattle.xet_shards.proofs.shard_format.write.unindexed.UnindexedShard.invariant.Goals as goal
 
 pub returns : goal.returns
 returns c =

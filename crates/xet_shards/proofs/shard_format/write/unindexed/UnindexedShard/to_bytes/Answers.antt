@@ -11,7 +11,7 @@ use Rattle.xet_shards.specs.Write.Layout.{LayoutOptions, layout_of}
 use Rattle.xet_shards.specs.Write.Section.{total_rows}
 use Rattle.xet_shards.proofs.ShardInMemory.Files.{well_formed_values}
 use Rattle.xet_shards.proofs.ShardInMemory.Xorbs.{xorb_values}
-use Rattle.xet_shards.proofs.shard_in_memory.unindexed.UnindexedShard.to_bytes.Goals as goal
+use Rattle.xet_shards.proofs.shard_format.write.unindexed.UnindexedShard.to_bytes.Goals as goal
 
 pub write_maps-requires-clause-files : goal.write_maps-requires-clause-files
 write_maps-requires-clause-files c = well_formed_values _ c.file_content.ensures.files
