@@ -7,7 +7,7 @@ TOP = os.path.dirname(os.path.dirname(os.path.dirname(os.path.realpath(__file__)
 BINDINGS = f"{TOP}/bindings"
 SOURCES = f"{TOP}/crates/xet_c/src"
 # It has a struct that calls take.
-BELOW = f"{TOP}/crates/xet_core_structures/src/set_operations/rows.rt"
+BELOW = f"{TOP}/crates/shard_merging/src/merging/rows.rt"
 # The numbers of the errors of the crates below.
 ERRORS = f"{TOP}/crates/xet_base/src/error.rt"
 # From nothing, `rt lib` proves the crate again.
