@@ -3,7 +3,7 @@
 ghost use Rattle.std.specs.Prelude.{◌*◌, List, MatchResult, IfOk, IfErr, IsTrue, if◌then◌else◌};
 ghost use Rattle.xet_records.specs.Rows.{ReadsRow, ReadsRows, ReadsOptional};
 
-use crate::rows::{ROW_SIZE, ROWS_AT_ONCE, Row, Rows};
+use crate::rows::{ROW_SIZE, Row, Rows};
 use std::alloc::Global;
 use std::io;
 use xet_base::error::Result;
@@ -31,9 +31,9 @@ pub fn read_rows<T: Row + Drop, M, I: ByteInput<M>>(
         (ReadsRows T.row_bytes T.Fits T.as_read (I.reads input.old input.new) count)
         (I.fails input.old input.new (48 * count)) }
 {
-    let mut rows = Rows::with_capacity(alloc, count.min(ROWS_AT_ONCE) as usize)?;
+    let mut rows = Rows::new(alloc);
     for _row in 0..count {
-        rows.push(read_input_row(input)?)?;
+        rows.push_within(read_input_row(input)?, count as usize)?;
     }
     Ok(rows)
 }

@@ -11,11 +11,15 @@ ghost use Rattle.xet_records.specs.Steps.ViewReading.{AddsRows, LacksMemory};
 ghost use Rattle.xet_records.specs.Limits.{MAX_ROWS};
 
 use crate::record_reader::{FormatVersion, SectionRecord, read_header};
-use crate::rows::{ROW_LIMIT, ROW_SIZE, ROWS_AT_ONCE, Row};
+use crate::rows::{ROW_LIMIT, ROW_SIZE, Row};
 use bytes::{Bytes, BytesMut};
 use std::alloc::Global;
 use xet_base::error::Result;
 use xet_base::input::ByteInput;
+
+// The most rows that are read at once. The first are at most 16, and then as many as were read:
+// memory is reserved for no more, however many the bytes announce.
+const ROWS_AT_ONCE: u64 = 1024;
 
 /// A view of a record of a section.
 pub trait RecordView<R: SectionRecord> {
@@ -68,13 +72,12 @@ fn read_row_bytes<M, I: ByteInput<M>>(
         (λ e. I.fails input.old input.new (48 * count) e
         ⊎ LacksMemory (I.reads input.old input.new) count e) }
 {
-    let most = u64::from(ROWS_AT_ONCE);
     buffer.clear();
-    buffer.reserve(ROW_SIZE + ROW_SIZE * count.min(most) as usize)?;
+    buffer.reserve(ROW_SIZE)?;
     buffer.extend_from_slice(first)?;
     let mut done = 0;
     while done < count {
-        let rows = (count - done).min(most);
+        let rows = (count - done).min(done.max(16)).min(ROWS_AT_ONCE);
         append_rows(buffer, input, rows)?;
         done += rows;
     }
