@@ -36,6 +36,15 @@ impl Mark {
             ended: false,
         }
     }
+
+    /// Whether the section has ended, or the last record is not before a hash.
+    pub fn reaches(&self, goal: &MerkleHash) -> bool {
+        match self.last {
+            _ if self.ended => true,
+            Some(last) => last >= *goal,
+            None => false,
+        }
+    }
 }
 
 /// The bytes of a shard up to a section, and then the rows of the section that were read.

@@ -400,10 +400,19 @@ fn next_parts<'a, R: Files + AllocGlobal>(
     let mut blocks = Vec::new(rt.alloc());
     // Each shard's share of the room, so that all would end in the same round.
     let rounds = share_of(bytes_left(cursors), room).saturating_add(1);
+    // Records are not spread evenly: of many shards some share ends early, and would be the limit of
+    // all. So each is read up to one hash, in up to as much room again.
+    let goal = goal_of(cursors, rounds);
+    let mut extra = room;
     let mut limit = None;
     for cursor in cursors.iter() {
         let size = share_of(cursor.bytes_left(), rounds);
-        let (block, mark) = cursor.read(rt, size.saturating_add(1).max(LEAST_READ))?;
+        let (block, mark) = cursor.read(
+            rt,
+            size.saturating_add(1).max(LEAST_READ),
+            &goal,
+            &mut extra,
+        )?;
         limit = lesser_limit(limit, &mark);
         blocks.push(block)?;
     }
@@ -412,6 +421,18 @@ fn next_parts<'a, R: Files + AllocGlobal>(
         parts.push(cursor.take(rt, block, limit)?)?;
     }
     Ok(parts)
+}
+
+// The hash up to which a round would read if the hashes were spread evenly over those to come.
+fn goal_of(cursors: &[Cursor<'_>], rounds: u64) -> MerkleHash {
+    let mut first: u64 = 0;
+    for cursor in cursors {
+        if let Some(last) = cursor.last() {
+            first = first.max(last[0]);
+        }
+    }
+    let word = first.saturating_add(share_of(u64::MAX - first, rounds));
+    MerkleHash::from([word, 0, 0, 0])
 }
 
 // The lesser of a hash and the last one of a block, unless no record comes after the block.

@@ -22,6 +22,9 @@ use xet_core_structures::shard_format::MDBShardInfo;
 /// How often more of a section is read because a record is longer than what was read of it.
 const DOUBLINGS: u32 = 40;
 
+/// The bytes that are read at first behind a share that ends before the goal of a round.
+const FIRST_STEP: u64 = 4096;
+
 /// A shard in a regular file.
 #[derive(Clone, Copy)]
 pub struct ShardFile<'a> {
@@ -150,10 +153,14 @@ impl<'a> Cursor<'a> {
     }
 
     /// The next records in `size` bytes, or one that is longer, and the mark behind the last whole one.
+    /// While they are before `goal` more are read, in at most `extra` bytes, of which what is read is
+    /// taken.
     pub fn read<R: Files + AllocGlobal>(
         &self,
         rt: &R,
         size: u64,
+        goal: &MerkleHash,
+        extra: &mut u64,
     ) -> Result<(Block, Mark), RoundFault<'a>> {
         let alloc = rt.alloc();
         let version = FormatVersion::of_header(self.shard.info.header.version);
@@ -171,6 +178,7 @@ impl<'a> Cursor<'a> {
         let mut block = Block::new(alloc, self.section, version, room)?;
         let mut file = self.shard.open_at(rt, self.offset)?;
         let mut more = size;
+        let mut step = FIRST_STEP;
         for _ in 0..DOUBLINGS {
             let read = match read_more(&mut file, more, &mut block.bytes) {
                 Ok(read) => read,
@@ -182,7 +190,17 @@ impl<'a> Cursor<'a> {
                 }
             };
             let mark = block.read(alloc, self.mark, None)?;
-            if mark.ended || mark.bytes > 0 {
+            if mark.bytes > 0 {
+                // What is cut short is an error of the next round, in which nothing is read.
+                if mark.reaches(goal) || read < more || step > *extra {
+                    return Ok((block, mark));
+                }
+                *extra = extra.saturating_sub(step);
+                more = step;
+                step = step.saturating_mul(2);
+                continue;
+            }
+            if mark.ended {
                 return Ok((block, mark));
             }
             if read < more {
@@ -193,6 +211,11 @@ impl<'a> Cursor<'a> {
             more = more.saturating_mul(2);
         }
         Err(RoundFault::Unreadable(CoreError::OutOfMemory))
+    }
+
+    /// The last hash that the cursor has passed.
+    pub fn last(&self) -> Option<MerkleHash> {
+        self.mark.last
     }
 
     /// The records of a block up to a hash, or all that are whole, as a shard. The cursor passes
