@@ -213,9 +213,10 @@ fn open_lock<R: Files>(rt: &R, path: &str) -> Result<(R::File, bool), LockFault>
     }
 }
 
-// Whether a file may be that of a lock: it has one name, and no more than a number.
+// Whether a file may be that of a lock: it has one name, or none if another run has just removed it,
+// and no more than a number.
 fn is_lock(there: &Metadata) -> bool {
-    there.is_file() && there.nlink() == 1 && there.len() <= NUMBER_SIZE
+    there.is_file() && there.nlink() <= 1 && there.len() <= NUMBER_SIZE
 }
 
 // Writes this run's number into the file of a lock.
