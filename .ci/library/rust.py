@@ -101,7 +101,9 @@ def names(room, libraries):
 
 def check_form(crate, room, libraries):
     """The crate is written as cargo's tools want it."""
-    for tool, words in (("fmt", ["--check"]), ("clippy", ["--quiet", "--all-targets", "--", "-D", "warnings"])):
+    # Two lints of Debian's clippy, of 1.63, which later ones no longer have by default.
+    lints = ["-D", "warnings", "-A", "clippy::derive-partial-eq-without-eq", "-A", "clippy::redundant-clone"]
+    for tool, words in (("fmt", ["--check"]), ("clippy", ["--quiet", "--all-targets", "--", *lints])):
         if cargo(crate, room, libraries, tool, "--version")[1]:
             raise Skip(f"cargo {tool} is not there, so the form of bindings/{crate} was not checked whole")
         why = cargo(crate, room, libraries, tool, *words)[1]

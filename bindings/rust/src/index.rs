@@ -20,7 +20,9 @@ struct Places {
 impl Places {
     fn add(&mut self, word: u64, place: Place) {
         match self.first.entry(word) {
-            Entry::Vacant(none) => drop(none.insert(place)),
+            Entry::Vacant(none) => {
+                none.insert(place);
+            }
             Entry::Occupied(_) => self.more.entry(word).or_default().push(place),
         }
     }
