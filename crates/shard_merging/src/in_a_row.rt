@@ -69,6 +69,9 @@ pub fn shards_in_a_row<W: Write>(
         → map bytes_of_part parts ≡ map (λ x. x.now) shards.now
         → All (λ part. AscendBoth part.files part.xorbs) parts
         → IfOk result (λ _. AscendBoth (files_in parts) (xorbs_in parts)) }
+    ensures rows { (key : DataHash) → (parts : List ShardPart) → All (IsPartUnder key) parts
+        → map bytes_of_part parts ≡ map (λ x. x.now) shards.now
+        → IfOk result (λ _. HaveFewRows (files_in parts) (xorbs_in parts)) }
     ensures info { (key : DataHash) → (parts : List ShardPart) → All (IsPartUnder key) parts
         → map bytes_of_part parts ≡ map (λ x. x.now) shards.now
         → IfOk result
