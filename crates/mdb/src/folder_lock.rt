@@ -145,8 +145,8 @@ impl<F: Read + Write + OpenFile + Drop> FolderLock<F> {
     }
 }
 
-/// Takes the locks of the folders that files are in, but for the one of which this run has the lock
-/// already, and adds them to those that it has, also if one fails.
+/// Takes the locks of the folders of some files, except that of `locked`, which this run has. Locks
+/// that were taken are added to `locks`, also if a later one fails.
 pub fn lock_folders<'a, R: Locks + AllocGlobal>(
     rt: &R,
     files: &'a [String],

@@ -111,8 +111,8 @@ pub fn failure_of_two_keys<'a>(first: &'a str, second: &'a str) -> Failure<'a> {
     }
 }
 
-// The failure of inputs that can all be read from their start: the first whose footer is wrong, so
-// that sections are looked for elsewhere, else what is wrong with the inputs together.
+// Why readable inputs were not combined: the first whose footer has wrong offsets, else a pair
+// without a union, else all.
 fn footer_failure<'a>(alloc: Global, files: &[&'a str], inputs: &[&[u8]]) -> Failure<'a> {
     for (file, bytes) in files.iter().zip(inputs) {
         match has_wrong_footer(alloc, bytes) {

@@ -332,9 +332,8 @@ pub fn has_wrong_footer(alloc: Global, bytes: &[u8]) -> Result<bool, Fault>
     }
 }
 
-/// The fault behind an error of an export: of one that is refused for its arguments, the key that
-/// the shard has, or else the expiry if it is too late, or else the auxiliary row of a file, which
-/// the version does not have.
+/// Why an export failed. If its arguments were refused: the shard has a key; else the expiry is too
+/// late; else the version lacks the auxiliary row of a file.
 pub fn export_fault(alloc: Global, bytes: &[u8], export: &Export, error: CoreError) -> Fault
     ensures { IsExportFault export.entry.now bytes.now error result }
 {

@@ -203,8 +203,8 @@ pub fn print_answer<W: Write>(
     Ok(Answer::Printed)
 }
 
-/// Prints what is to be said once all shards were asked: the total, if they were asked for a line
-/// each; and where answers have the names of shards, what was found in none of them.
+/// Prints the end of the answers: the total of `info --brief`, and of a lookup in several shards
+/// the hashes that none of them has.
 pub fn print_end<W: Write>(
     alloc: Global,
     inquiry: &Inquiry,

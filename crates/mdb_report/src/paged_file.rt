@@ -168,8 +168,8 @@ impl<F: Read + Seek + Drop> PagedFile<F> {
         }
     }
 
-    // Reads pages from one on that a call lacked: one in each of the first rounds, and later twice
-    // as many as in the round before, so that few rounds suffice for a long record.
+    // Reads pages, from the one that a call lacked on: one in each of the first rounds, then twice
+    // as many in each round, so that a long record takes few rounds.
     fn read_from(&mut self, alloc: Global, first: usize, round: u32) -> Result<(), InquiryFault>
         ensures { IfErr result (λ fault. (e : DeviceError) × (fault ≡ InquiryFault.Input e)) }
     {

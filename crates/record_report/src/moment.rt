@@ -76,9 +76,8 @@ pub fn seconds_now<R: Clock>(rt: &R) -> Option<u64> {
     u64::try_from(now.as_second()).ok()
 }
 
-/// The seconds since the start of 1970 that a text says: their digits, before which a plus may
-/// stand, or a date and a time of RFC 3339, of which a fraction of a second is left out. None if it
-/// is neither, or before 1970.
+/// Parses a time: seconds since 1970 in digits, with an optional plus, or a date and time of RFC
+/// 3339, without its fraction of a second. `None` if the text is neither, or is before 1970.
 pub fn seconds_of(text: &str) -> Option<u64>
     ensures { IsNumeral 10 (without_leading_plus text.now)
         → digits_value 10 (without_leading_plus text.now) < 2 ^ 64

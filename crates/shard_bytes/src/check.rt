@@ -68,9 +68,9 @@ pub enum Finding {
     /// The hash of the record at this index, from 0 on, is not greater than that of the record
     /// before it. It is the first such record of the section.
     OutOfOrder(Section, usize),
-    /// The record at this index, from 0 on, is one that no shard may have. A file is one if it has
-    /// flags beside those of its optional parts, or a reserved word that is not zero, in its header
-    /// or in a row of such a part; a xorb, if its chunks have more than 4294967295 bytes together.
+    /// The record at this index, from 0 on, is malformed. A file is if it has an unknown flag, or a
+    /// reserved word that is not zero, in its header or in a row of an optional part; a xorb, if
+    /// its chunks have more than 4294967295 bytes together.
     Malformed(Section, usize),
     /// The part is not the one that the records give. In a section this is its bookend, since its
     /// records are those that were read.
@@ -98,12 +98,12 @@ impl Finding {
 
 /// All findings about the bytes of a shard. If they cannot be read, this is the only finding.
 ///
-/// There is none exactly if the bytes are, byte for byte, what the library would write of the
-/// records in them: records that a shard may have, with strictly ascending hashes, in the version
-/// of the bytes, with their key, their timestamps and the tables that the footer says have rows.
-/// There are only notes exactly if that is so but for the order of rows of the chunk table with the
-/// same first word. Then the bytes hold a well-formed shard. If such shards have one key and agree
-/// pairwise, each tree with a union over all of them gives the same bytes.
+/// There is none exactly if the library would write the same bytes for the records in them, with
+/// the same version, key, timestamps and tables, and if these records are well-formed and their
+/// hashes strictly ascend. A table is in if the footer says that it has rows. There are only notes
+/// exactly if that is so but for the order of rows of the chunk table with the same first word.
+/// Then the bytes hold a well-formed shard. If such shards have one key and agree pairwise, each
+/// tree with a union over all of them gives the same bytes.
 ///
 /// `OutOfMemory` if an allocation fails. No other error.
 pub fn check_bytes(alloc: Global, bytes: &[u8]) -> Result<Vec<Finding>>

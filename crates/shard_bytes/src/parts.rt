@@ -168,10 +168,11 @@ pub fn parts_are_enough()
         → RunAmong no_key (q ∷ qs) (finite.values s.xorbs) answer }
 {}
 
-/// Does nothing. Its contract says when a part of a table has all rows with a word: if it is the
-/// whole table (`whole`), or in a sorted one, as a shard's are (`sorted`), if a smaller word is
-/// first and a greater one last, unless the table begins or ends there (`around`). The rows that
-/// [`find_rows`] finds are those at which records start (`starts`).
+/// Does nothing. Its contract says when a part of a table has all rows with a word: always if it is
+/// the whole table (`whole`). In a sorted table it is enough that the part begins with a smaller
+/// word, or at the table's start, and ends with a greater one, or at its end (`around`). Tables of
+/// shards are sorted (`sorted`). The rows that [`find_rows`] finds are those at which records start
+/// (`starts`).
 pub fn parts_have_rows()
     ensures whole { (t : Table) → (part : List ℕ) → (word : ℕ) → t.start ≤ length t.bytes
         → IsCut t.bytes t.start ((8 + t.width) * t.rows) part → HasRowsWith t part word }

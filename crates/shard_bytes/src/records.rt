@@ -28,9 +28,9 @@ pub struct Records {
 /// without a key, with creation 0 and with an expiry in seconds or none. The records may be in any
 /// order; of two files, or two xorbs, with one hash the later one counts.
 ///
-/// `InvalidArguments` if a record is one that no shard may have, if at some record the rows of the
-/// files so far, or those of the xorbs, pass 4294967295, or if a file has an auxiliary row, and the
-/// version is 2, which has none. `OutOfMemory` if an allocation fails.
+/// `InvalidArguments` if a record is ill-formed, if after some record the rows of the files or of
+/// the xorbs pass 4294967295, or if the version is 2 and a file has an auxiliary row. `OutOfMemory`
+/// if an allocation fails.
 pub fn write_records(
     alloc: Global,
     files: Vec<MDBFileInfo>,

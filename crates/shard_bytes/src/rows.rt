@@ -27,9 +27,9 @@ use xet_core_structures::record_reader::FormatVersion;
 use xet_core_structures::rows::{ROW_LIMIT, ROW_SIZE};
 use xet_core_structures::shard_format::START_ROW_SIZE;
 
-/// Writes what [`merge_range_bytes_into`](crate::merge::merge_range_bytes_into) writes, but of the
-/// records in these rows of the shards alone: those from the rows in `starts` on and before the rows
-/// in `ends`, one of each list for each shard. The bytes are at most 344 and 8/3 of the shards'.
+/// As [`merge_range_bytes_into`](crate::merge::merge_range_bytes_into), but it reads only some rows
+/// of each shard: shard i from the rows `starts[i]` on and before the rows `ends[i]`. The bytes are
+/// at most 344 and 8/3 of the shards'.
 ///
 /// `InvalidArguments` if the list is empty. Else the errors are those of [`merge_rows_into`].
 #[tactic(auto, using(xet_core_structures::proofs::Trees::InVersions::refused_in_version))]
@@ -74,10 +74,10 @@ pub fn rows_cover_ranges()
         → AllZip (λ range out. MergesRange range shards out) (ranges_between None cuts None) outs }
 {}
 
-/// The rows before which the records of a range are, in each of some shards: by its lookup tables,
-/// those of the first file and of the first xorb whose hash has a first word that is not below that
-/// of the hash that ends the range. Where there is none, or the range has no end, it is the last row
-/// for which the section has room, where the bookend is.
+/// For each shard, the rows at which the records of a range end. They are found in its lookup
+/// tables: the first file and the first xorb whose first word is not below that of the range's end.
+/// Where there is none, or the range has no end, it is the last row for which the section has room,
+/// where the bookend is.
 ///
 /// Nothing is checked. The error is that of the first shard whose header and footer are not read, as
 /// of [`load_bytes`](crate::load::load_bytes), or `OutOfMemory`.

@@ -13,9 +13,9 @@ use xet_core_structures::shard_writer::{
     LayoutOptions, have_aux_rows, read_stored_shard, write_again,
 };
 
-/// The bytes of the same shard in version 2, from its bytes in either version: its records, in
-/// their order, under its key and with its timestamps, and the tables of which its footer says that
-/// they have rows. They are at most 344 and 4/3 of those.
+/// Rewrites a shard of either version in version 2, with the same records in the same order, key,
+/// timestamps and tables. A table is in if the footer says that it has rows. They are at most 344
+/// and 4/3 of those.
 ///
 /// `InvalidArguments` if a file has an auxiliary row, which version 2 does not have. Else the
 /// errors are those of [`MDBShardInfo::load_from_reader`], and of reading header and sections.

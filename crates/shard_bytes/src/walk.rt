@@ -49,10 +49,10 @@ pub fn xorb_at(alloc: Global, bytes: &[u8], row: u32) -> Result<Option<MDBXorbIn
     unless_bookend(info.read_xorb_info(alloc, &mut source, row))
 }
 
-/// Does nothing. Its contract says that a walk by [`file_at`], from row 0 on and to each next row
-/// until there is no record, meets exactly the records of the section to which the footer leads, in
-/// their order. If the bytes hold a shard, these are the shard's files by ascending hash. The same
-/// is said of [`xorb_at`].
+/// Does nothing. Its contract says that [`file_at`], called at row 0 and then at each next row
+/// until it gives no record, gives exactly the records of the file section, in their order. If the
+/// bytes hold a shard, these are the shard's files by ascending hash. The same is said of
+/// [`xorb_at`].
 pub fn walks_meet_all_records()
     ensures files { (bytes : List ℕ) → (info : MDBShardInfo) → (found : List MDBFileInfo)
         → HasHeaderAndFooter bytes info

@@ -123,8 +123,8 @@ pub fn is_worth_reading(alloc: Global, ends: &[u8]) -> bool {
     }
 }
 
-/// A file that can be sought, and its size; `None` if what is at the path is no regular file, or
-/// has no size, as files of the system that are made as they are read.
+/// Opens a regular file, and gives its size. `None` if the path is not a regular file, or its size
+/// is 0, as of files in /proc.
 pub fn open_sized<R: Files>(rt: &R, path: &str) -> io::Result<Option<(R::File, u64)>> {
     if path == STANDARD_STREAM || !fs::metadata(rt, path)?.is_file() {
         return Ok(None);

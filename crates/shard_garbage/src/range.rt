@@ -6,7 +6,7 @@ ghost use Rattle.shard_garbage.specs.Ranges.{in_range, InRange};
 
 use xet_base::merklehash::MerkleHash;
 
-/// The hashes from one on, up to another, which is excluded; without one there is no such limit.
+/// The hashes from `from` on and below `to`. A limit that is `None` does not apply.
 #[derive(Clone, Copy)]
 pub struct HashRange {
     pub from: Option<MerkleHash>,

@@ -159,10 +159,9 @@ impl Probe {
         Ok(run)
     }
 
-    /// Runs a command with each call of a device failing in turn, by `each_failure COMMAND ..` or
-    /// `each_failure_again COMMAND ..`, and prints what these runs print, `as below` if it is that
-    /// of the run without failure, and then what this prints. `false` if the words are no such
-    /// command.
+    /// Runs `each_failure COMMAND ..` or `each_failure_again COMMAND ..`: the command once for each
+    /// call of a device, which fails, and at last without a failure. Prints the output of each run,
+    /// or `as below` if it is that of the last. `false` if the words are no such command.
     pub fn run_each_failure(&self, words: &[&str], out: &mut Vec<u8>) -> Result<bool, Stop> {
         let (words, runs_again) = match words {
             ["each_failure", words @ ..] => (words, false),

@@ -11,14 +11,13 @@ use shard_bytes::format::Format;
 use std::alloc::Global;
 use xet_core_structures::error::{CoreError, Result};
 
-/// What is wrong, as a number, of which part, and a number that belongs to it; what a kind does not
-/// have is 0. Kinds are 1, the first 32 bytes are no tag; 2, the header has this version; 3, the
-/// last 200 bytes are no footer; 4, there are too few bytes for both; 5, a section is truncated; 6,
-/// a section has a header that the version does not have, or too many rows; 7, the hash of the
-/// record at this index does not ascend; 8, a part is not the one that the records give; 9, the
-/// size is not this one, which the records give; 10, the record at this index is one that no shard
-/// may have; 11, rows of the chunk table with one first word stand in another order, which is a
-/// note. Parts are 1 to 7 in the order of the bytes, the header first.
+/// A finding: its kind, the part that it is about, and a number. A part or a number that the kind
+/// does not have is 0. Parts are 1 to 7 in the order of the bytes, the header first. Kinds: 1, no
+/// tag; 2, an unknown version, `number`; 3, no footer; 4, too few bytes for header and footer; 5, a
+/// section ends before its bookend; 6, a section has a header that the version does not have, or
+/// too many rows; 7, the hash of record `number` does not ascend; 8, the part differs from what the
+/// records give; 9, the size should be `number`; 10, record `number` is malformed; 11, a note:
+/// chunk table rows with one first word are in another order.
 #[repr(C)]
 #[derive(Clone, Copy, Drop)]
 pub struct XetFinding {

@@ -2,9 +2,9 @@
 //! or its text, and writes to memory of the caller: nothing is kept between calls, so there is no
 //! handle and nothing to free. `bindings/c/xet.h` declares them.
 //!
-//! A function returns 0, or the number of an error: 1 to 18 are the variants of `CoreError` in
-//! their order, 19 means that the output does not fit the memory that was given, 20 that shards that
-//! have to agree do not, and 21 that a shard that has to be well-formed is not.
+//! A function returns 0, or the number of an error. 1 to 18 are the variants of `CoreError` in
+//! their order; 19: the output is larger than the memory given; 20: two shards disagree; 21: a
+//! shard is malformed.
 #![tactic(auto)]
 
 mod agree;

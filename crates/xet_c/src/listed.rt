@@ -18,8 +18,8 @@ use xet_core_structures::xorb_structs::{
     MDBXorbInfo, XorbChunkSequenceEntry, XorbChunkSequenceHeader,
 };
 
-/// A file of a list: its hash, its SHA-256 and its auxiliary hash, or zeros if it has none, its
-/// flags, which say what it has, and how many of the list of segments are its own.
+/// A file of a list: its hash, its SHA-256 and its auxiliary hash, its flags, and the number of its
+/// segments. The flags say which of the two hashes it has; the other is zeros.
 #[repr(C)]
 #[derive(Clone, Copy, Drop)]
 pub struct XetListedFile {

@@ -204,10 +204,9 @@ pub fn errors_are_equal_by_variant()
 
 /// A union, a difference and a tree with at least one union write bytes of a shard under a key,
 /// whether their inputs agree or not. From such bytes `load_from_reader` reads the header and the
-/// footer that were returned, and a file lookup finds what the shard has, within bounds. The xorbs
-/// of a union are well-formed, as queries for chunks require, if those of both inputs are; those of
-/// a difference, if the second's are; and those of a tree, if those of the inputs at its leaves
-/// are.
+/// footer that were returned, and a file lookup finds what the shard has, within bounds. Queries
+/// for chunks require well-formed xorbs. A union has such xorbs if both inputs do, a difference if
+/// the second does, and a tree if all inputs at its leaves do.
 pub fn lookups_on_results()
     ensures trees { (inputs : List (List ℕ)) → (plan : MergePlan) → (bytes : List ℕ) → HasUnion plan
         → TreeWrites inputs plan bytes
@@ -248,15 +247,15 @@ pub fn lookups_on_trees()
         → LooksUpFile info hash loaded new found → FindsInShard join hash loaded new found }
 {}
 
-/// A union reads the key and the sections of its inputs, and nothing else: so any bytes that hold
-/// shards that agree pairwise, under one key, merge by any tree with a union to the layout of their
-/// join under this key, whatever tables, timestamps and sums they have (`bytes`). It refuses only
-/// if an allocation fails or the join has too many rows (`refusals`). Such bytes are those of a
-/// shard in either version (`written`), its layout with any options whose version has its files
-/// (`any_options`), and its exports under the key, in either version, with any tables and
-/// timestamps (`exports`); and what a tree writes is such again (`again`). So two trees with a
-/// union, each over its own inputs, write the same bytes if their leaves hold the same shards, in
-/// whatever order and however often, under one key, and these agree pairwise (`same`).
+/// A union reads the key and the sections of its inputs, and nothing else. So if bytes hold shards
+/// under one key that agree pairwise, any tree with a union merges them to the layout of their join
+/// under this key, whatever tables, timestamps and sums the inputs have (`bytes`). It refuses only
+/// if an allocation fails or the join has too many rows (`refusals`). Bytes that hold a shard are,
+/// for example: its bytes in either version (`written`), its layout with any options whose version
+/// has its files (`any_options`), its exports under the key (`exports`), and the result of a tree
+/// (`again`). So two trees with a union, each over its own inputs, write the same bytes if their
+/// leaves hold the same shards, in whatever order and however often, under one key, and these agree
+/// pairwise (`same`).
 pub fn trees_of_held_shards()
     ensures written { (s : Shard) → (bytes : List ℕ) → IsBytesOf s bytes
         → HoldsShard no_key s bytes }
@@ -286,11 +285,11 @@ pub fn trees_of_held_shards()
         → TreeWrites inputs plan x → TreeWrites others other y → x ≡ y }
 {}
 
-/// A reader of a section finds one thing in bytes: a list of records with a bookend after them, or
-/// an end before that, or a header that is refused, of a record with too many rows or, in version
-/// 2, with an auxiliary row. So bytes hold at most one shard (`holds`), and a set operation does
-/// not refuse its sections (`whole`). In bytes that it refuses, an early end or something invalid
-/// comes first, and not the other too (`first`).
+/// A reader finds exactly one of three things in the bytes of a section: records and then a
+/// bookend; an end before the bookend; or a header that is refused, since its record has too many
+/// rows or, in version 2, an auxiliary row. So bytes hold at most one shard (`holds`), and a set
+/// operation does not refuse its sections (`whole`). In bytes that it refuses, an early end or
+/// something invalid comes first, and not the other too (`first`).
 pub fn sections_are_read_in_one_way()
     ensures files { (version : FormatVersion) → (bytes : List ℕ)
         → IsReadInOneWay (file_records_in version) bytes }
@@ -336,9 +335,9 @@ pub fn unions_of_bytes()
         → x ≡ keyed_layout a key }
 {}
 
-/// If two shards agree, and each file of both has in the first every optional part that it has in
-/// the second, then the union of bytes of the first with bytes of their difference is the union of
-/// the bytes of both, of any bytes that hold these shards under one key.
+/// Let shards a and b agree, and let each file of both have in a every optional part that it has in
+/// b. Then the union of a with the difference of a and b is the union of a and b, for any bytes
+/// that hold these shards under one key.
 pub fn unions_with_differences()
     ensures { (key : DataHash) → (a b d : Shard) → (a_1 a_2 b_1 d_1 x y : List ℕ)
         → ShardsAgree a b → HasPartsOf a b → IsDifference a b d → HoldsShard key a a_1

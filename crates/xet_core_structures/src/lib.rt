@@ -1,5 +1,5 @@
-//! Metadata shards of Xet storage: unions and differences of their bytes, laws, and the public
-//! modules of the crates below, but for those that only these use.
+//! Metadata shards of Xet storage: unions and differences of their bytes, laws, and those modules
+//! of the crates below that callers need.
 #![tactic(auto)]
 
 pub mod laws;

@@ -28,9 +28,10 @@ use xet_shards::shard_format::MDBShardInfo;
 /// written as it is read, and only the rows of the lookup tables are held. So the output may be
 /// begun when the call fails.
 ///
-/// Of two files with one hash it takes the record whose flags have all bits of the other's, the
-/// first's if both have the same; else the first's segments with each optional part from the first
-/// where it has it, else from the second. Of two xorbs with one hash it takes the first's.
+/// If both have a file with one hash, it takes the record whose flags include the other's, the
+/// first if the flags are equal. If neither includes the other, it takes the first's segments, and
+/// each optional part from the first if it has it, else from the second. Of two xorbs with one hash
+/// it takes the first's.
 ///
 /// `InvalidArguments` if the keys differ, before anything is read or written. `UnexpectedEof` if a
 /// section ends before its bookend, `InvalidShard` if its version does not have the header of a

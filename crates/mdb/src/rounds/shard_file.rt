@@ -19,7 +19,7 @@ use xet_core_structures::merklehash::{HMACKey, MerkleHash};
 use xet_core_structures::record_reader::FormatVersion;
 use xet_core_structures::shard_format::MDBShardInfo;
 
-/// How often more of a section is read because a record is longer than what was read of it.
+/// How often a block is enlarged to hold a record that is longer than it.
 const DOUBLINGS: u32 = 40;
 
 /// The bytes that are read at first behind a share that ends before the goal of a round.

@@ -1,7 +1,7 @@
-//! Records that no shard may have, though they can be read: a file with flags beside those of its
-//! optional parts, or with a reserved word that is not zero, in its header or in a row of such a
-//! part; and a xorb whose chunks have more than 4294967295 bytes together. They are judged where
-//! they lie: a list of records would need memory for the rows of each.
+//! Malformed records: they can be read, but no shard may have them. A file is malformed if it has
+//! an unknown flag, or a reserved word that is not zero, in its header or in a row of an optional
+//! part; a xorb, if its chunks have more than 4294967295 bytes together. They are judged where they
+//! lie: a list of records would need memory for the rows of each.
 
 ghost use Rattle.std.specs.Prelude.{◌≡◌, ◌+◌, ◌↔◌, ◌≤◌, [], ◌∷◌, ◌++◌, List, length, flat_map, All, IsTrue, OnOk, IfErr};
 ghost use Rattle.xet_core_structures.specs.declared.error.CoreError.{CoreError};

@@ -63,9 +63,8 @@ pub struct Disagreement {
     pub second: usize,
 }
 
-/// A record that no shard may have: a file whose header has flags beside those of its optional
-/// parts, or a reserved word that is not zero, or a xorb whose chunks have more than 4294967295
-/// bytes together.
+/// A malformed record: a file whose header has an unknown flag or a reserved word that is not zero,
+/// or a xorb whose chunks have more than 4294967295 bytes together.
 #[derive(Clone, Copy)]
 pub struct MalformedRecord {
     /// The hash of the record, and whether it is of a file or of a xorb.
@@ -74,9 +73,9 @@ pub struct MalformedRecord {
     pub input: usize,
 }
 
-/// For each hash under which two of the shards that the inputs hold have records that do not agree,
-/// two such inputs: first of files, then of xorbs, and each in ascending order of the hashes. There
-/// is none exactly if each two of the shards agree.
+/// The hashes under which two of the shards disagree, each with two inputs that hold such records:
+/// files first, then xorbs, each in ascending order. There is none exactly if each two of the
+/// shards agree.
 ///
 /// The error is that of the first input that cannot be read, as a union would refuse it, or
 /// `OutOfMemory` if an allocation fails.

@@ -2,12 +2,11 @@
 //!
 //! A tree of unions is written once, from inputs in memory. `place_records` reads a section as a
 //! list of `PlacedRecord`s, each a header and the bytes from its rows on, and `unite_placed` unites
-//! two lists. What a tree gives is a `TreePart`, an input or two such lists under a key, and the
-//! contract of `place_tree` says which bytes it stands for (`IsPart`): those that the tree writes.
-//! So all that is said of trees is about bytes. Inputs that are opened once (`inputs`), an
-//! `OpenShard` each, are leaves of `place_tree_of`. A mix of two files lies in neither input:
-//! `mixed_rows` writes its rows as `mix` does, and `place_mix` puts them into an arena that lasts
-//! as long as the tree.
+//! two lists. The result of a tree is a `TreePart`: an input, or two lists of records under a key.
+//! The contract of `place_tree` says which bytes it stands for (`IsPart`). So all that is said of
+//! trees is about bytes. Inputs that are opened once (`inputs`), an `OpenShard` each, are leaves of
+//! `place_tree_of`. A mix of two files lies in neither input: `mixed_rows` writes its rows as `mix`
+//! does, and `place_mix` puts them into an arena that lasts as long as the tree.
 //!
 //! The bytes go to a slice: a new `Vec`, or the caller's own memory (`shard_union_tree_into`),
 //! which stays as it is if the call fails. So all that may fail comes before the first byte.

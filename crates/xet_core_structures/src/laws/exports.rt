@@ -105,9 +105,9 @@ pub fn exports_merge_to_the_export_of_the_join()
 
 /// The bytes that a tree writes for shards that agree have the runs of chunks of these shards, and
 /// no others. In those of their exports under a key a run is at least as long, and the shards under
-/// the key have such a join again. An export of the bytes, with any layout options, writes the
-/// layout of the join under the options' key, without files where they are not asked for
-/// (`exported_bytes`), and in that a run is at least as long as in the join (`exported_runs`).
+/// the key have such a join again. An export of the bytes writes the layout of the join under the
+/// options' key, with files if they are asked for (`exported`). A run in it is at least as long as
+/// in the join (`exported_runs`).
 pub fn merges_keep_runs()
     ensures kept { (inputs : List (List ℕ)) → (plan : MergePlan) → (shards : List Shard)
         → (join s : Shard) → (out : List ℕ) → (q : DataHash) → (index : ℕ)

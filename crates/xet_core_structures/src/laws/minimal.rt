@@ -13,11 +13,11 @@ ghost use Rattle.xet_shards.specs.StreamingShard.MinimalShard.{MinimalShard, is_
 
 use xet_records::xorb_structs::MDBXorbInfoView;
 
-/// Of a shard that was read, a subset of the xorbs that is written without files, with any expiry
-/// or none, and read again, has the same eligible chunks as these xorbs in the shard, where a chunk
-/// at which any file of the shard starts is eligible. So `global_dedup_eligible_chunks` of what
-/// `from_reader` reads (`read`), and `filter_cas_chunks_for_global_dedup` on a source that has
-/// these bytes left (`source`), return the chunks that the shard has in these xorbs.
+/// Write some xorbs of a shard without files, with any expiry or none, and read them again: they
+/// have the same eligible chunks as in the shard, where a chunk at which a file starts is eligible.
+/// So `global_dedup_eligible_chunks` of what `from_reader` reads (`read`), and
+/// `filter_cas_chunks_for_global_dedup` on a source that has these bytes left (`source`), return
+/// the chunks that the shard has in these xorbs.
 pub fn subsets_keep_eligible_chunks<F: Fn(&MDBXorbInfoView) -> bool>()
     ensures read { (filter : F) → (m n : MinimalShard) → (now size : ℕ) → (expiry : Option ℕ)
         → (first rest left : Option (List ℕ)) → (bytes : List ℕ)

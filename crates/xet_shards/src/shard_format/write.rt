@@ -18,11 +18,11 @@
 //! the table is the keys of a map, and has as many as there are rows, so no two rows tie.
 //!
 //! Header, sections and end are `layout_of` the records with these options (`whole_layout` in
-//! `proofs/Write/Written.antt`), and so `layout` where the options are plain. A writer that has no
-//! maps adds one record after another to `WrittenFiles` and `WrittenXorbs`, and then calls
-//! `write_end`: so do the keyed export and `MDBMinimalShard`, and union and difference of bytes, which
-//! call `WrittenSection::copy`: it writes the rows of a record as they are read, so that no record
-//! is held. Of records that lie in memory, `collect_records` collects what the tables need.
+//! `proofs/Write/Written.antt`), and so `layout` where the options are plain. Writers without maps
+//! (keyed export, `MDBMinimalShard`, union and difference of bytes) add one record after another to
+//! `WrittenFiles` and `WrittenXorbs`, and then call `write_end`. Union and difference use
+//! `WrittenSection::copy`, which writes each row as it is read and holds no record. Of records that
+//! lie in memory, `collect_records` collects what the tables need.
 
 pub(super) mod file_writer;
 pub(super) mod record_table;

@@ -124,8 +124,8 @@ fn differ_in_run<R: Agreement + Drop>(
     Ok(None)
 }
 
-// Compares the record at a place with those that are kept, unless it has the bytes of that at the
-// first place, which is one of these.
+// Compares the record at a place with the kept ones, unless it is a copy of the record at the first
+// place, which is kept.
 fn compare_place<R: Agreement + Drop>(
     alloc: Global,
     opened: &[OpenShard<'_>],

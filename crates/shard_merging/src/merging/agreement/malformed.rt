@@ -1,7 +1,7 @@
-//! Records that no shard may have, though they can be read: a file whose header has flags beside
-//! those of its optional parts, or a reserved word that is not zero, and a xorb whose chunks have
-//! more than 4294967295 bytes together. A union takes flags and reserved words from one of its
-//! inputs, so with such files the bytes of a merge depend on the order of its inputs.
+//! Malformed records: they can be read, but no shard may have them. A file is malformed if its
+//! header has an unknown flag, or a reserved word that is not zero; a xorb, if its chunks have more
+//! than 4294967295 bytes together. A union takes flags and reserved words from one of its inputs,
+//! so with such files the bytes of a merge depend on the order of its inputs.
 
 ghost use Rattle.std.specs.Prelude.{◌≡◌, ◌↔◌, IsTrue};
 ghost use Rattle.shard_merging.specs.Steps.Agreement.{IsPlainFile, HasFewBytes, FindsMalformed};

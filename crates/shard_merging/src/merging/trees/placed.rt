@@ -187,8 +187,8 @@ impl PlacedUnion<MDBXorbInfo> for OfUnion {
     ghost makes_second = { λ r. refl };
 }
 
-/// What comes next of the union of two lists: the end; a record, and the places in both lists from
-/// which on they are left; or nothing, since two records have no union.
+/// The next step of the union of two lists: the end; a record, and how far both lists are read
+/// after it; or no union of two records.
 #[derive(Clone, Copy)]
 pub enum MergeStep<'a, H> {
     End,

@@ -140,8 +140,8 @@ fn walk_rows<'a, R: SectionRecord>(
 }
 
 // The record at the front of some bytes, and the bytes after it. Its rows are counted down from
-// `rows_left`. The error is `OutOfMemory`, or any other if there is no whole record of so many rows
-// at most, whose hash is greater than that of the header before it and in the range.
+// `rows_left`. Any error but `OutOfMemory` means that no whole record follows, that it has more
+// than `rows_left` rows, that its hash does not ascend, or that its hash is out of the range.
 fn place_next<'a, R: SectionRecord>(
     alloc: Global,
     bytes: &'a [u8],

@@ -102,10 +102,9 @@ impl MDBShardInfo {
     /// they are compared under it. `None` if no hash is given, there is no chunk table, or none of
     /// the locations has the hash. Does not allocate.
     ///
-    /// `InvalidShard` if the table's end or a row's offset does not fit `u64`, there is a bookend
-    /// at the row of a location, the xorb there has no chunk at the location's index, or the bytes
-    /// of the run do not fit `u32`; `UnexpectedEof` if the source ends before the end of a row that
-    /// has to be read. Any other error is the source's.
+    /// `InvalidShard` if an offset does not fit `u64`, if a location leads to a bookend or past the
+    /// chunks of its xorb, or if the bytes of the run do not fit `u32`. `UnexpectedEof` if the
+    /// source ends within a row that is read. Any other error is the source's.
     pub fn chunk_hash_dedup_query<S: ShardSource>(
         &self,
         alloc: Global,
