@@ -4,7 +4,7 @@
 //! ends, so the file that a killed run left keeps nobody out. What others may have put there under
 //! that name is not written to: a link, or a file that has another name or more than a number.
 
-use crate::inputs::path_in;
+use mdb_base::outputs::path_in;
 use record_report::shown::ShownText;
 use shard_files::beside::folder_and_name;
 use shard_files::stamp::FileId;

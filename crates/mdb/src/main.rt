@@ -2,36 +2,13 @@
 //! this crate reads arguments and files, and prints or writes the results.
 #![tactic(auto)]
 
-mod arguments;
-mod by_key;
-mod compaction;
-mod expiry;
-mod failure;
 mod folder_lock;
-mod gc;
-mod hash_list;
-mod infos;
-mod input_failure;
-mod input_removal;
-mod inputs;
-mod inspect;
-mod make;
-mod merge;
-mod ordering;
-mod progress;
-mod record_lines;
-mod record_removal;
-mod report;
-mod request;
-mod rounds;
 mod run;
-mod terminals;
-mod words;
 
+use mdb_base::terminals::Terminals;
 use std::fs;
 use std::io::IsTerminal;
 use std::process::ExitCode;
-use terminals::Terminals;
 
 /// What is opened in place of a standard stream that is closed.
 const NOTHING: &str = "/dev/null";

@@ -1,66 +1,27 @@
 //! A run of the program: its words, its command, its exit status.
 
-ghost use Rattle.std.specs.Prelude.{◌≡◌, ◌≤◌};
-ghost use Rattle.mdb.specs.Status.{number_of, after_finding};
+ghost use Rattle.std.specs.Prelude.{◌≤◌};
 
-use crate::arguments::request_of;
-use crate::failure::Failure;
 use crate::folder_lock::{FolderLock, LockFailure, Locks, lock_folders};
-use crate::gc::collect_garbage;
-use crate::hash_list::add_listed;
-use crate::inputs::inputs_of;
-use crate::inspect::inspect;
-use crate::make::make;
-use crate::merge::merge_files;
-use crate::ordering::inputs_in_order;
-use crate::report::report;
-use crate::request::{Merge, Request, Sources};
-use crate::terminals::Terminals;
-use crate::words::{Words, is_among, read_words};
+use mdb_arguments::arguments::request_of;
+use mdb_base::failure::Failure;
+use mdb_base::request::{Merge, Request, Sources};
+use mdb_base::status::{Status, report_failure};
+use mdb_base::terminals::Terminals;
+use mdb_base::words::{Words, is_among, read_words};
+use mdb_inquiries::gc::collect_garbage;
+use mdb_inquiries::hash_list::add_listed;
+use mdb_inquiries::inputs::inputs_of;
+use mdb_inquiries::inspect::inspect;
+use mdb_inquiries::ordering::inputs_in_order;
+use mdb_inquiries::report::report;
+use mdb_making::make::make;
+use mdb_merging::merge::merge_files;
 use mdb_report::fault::Fault;
 use record_report::moment::seconds_now;
 use std::alloc::AllocError;
 use std::random::RandomSource;
 use std::rt::{Clock, Env, Files};
-
-/// The exit status of a run.
-#[derive(Clone, Copy)]
-pub enum Status {
-    /// All was done, and a check found nothing.
-    Done,
-    /// A file or an output failed.
-    Failed,
-    /// Lookups found nothing, and nothing failed.
-    Nothing,
-    /// The words are no command.
-    Misused,
-    /// A check found something, or shards that have to agree do not.
-    Found,
-}
-
-impl Status {
-    /// The status after a check found something, beside what came before.
-    pub fn and_found(self) -> Status
-        ensures { result ≡ after_finding self }
-    {
-        match self {
-            Status::Done => Status::Found,
-            status => status,
-        }
-    }
-
-    /// The number that the process ends with.
-    pub fn number(self) -> u8
-        ensures { result ≡ number_of self }
-    {
-        match self {
-            Status::Done => 0,
-            Status::Failed | Status::Nothing => 1,
-            Status::Misused => 2,
-            Status::Found => 3,
-        }
-    }
-}
 
 /// Runs the program on its words; which streams are terminals is given.
 pub fn run<
@@ -227,12 +188,4 @@ fn status_of_making<R: Eprint>(rt: &R, made: Result<(), Failure<'_>>) -> Status 
         }
         Err(failure) => report_failure(rt, &failure),
     }
-}
-
-/// Reports a failure on standard error.
-pub fn report_failure<R: Eprint>(rt: &R, failure: &Failure<'_>) -> Status
-    ensures { result ≡ Status.Failed }
-{
-    let _ = rt.eprintln(failure);
-    Status::Failed
 }

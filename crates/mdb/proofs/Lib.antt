@@ -1,3 +1,0 @@
-pub mod Earliest
-pub mod Keys
-pub mod Zipped

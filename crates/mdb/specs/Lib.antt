@@ -1,6 +1,0 @@
-pub mod Expiries
-pub mod Keys
-pub mod Merging
-pub mod Removal
-pub mod Status
-pub mod Writing

@@ -1,0 +1,5 @@
+pub mod Expiries
+pub mod Keys
+pub mod Merging
+pub mod Status
+pub mod Writing

@@ -1,0 +1,276 @@
+//! Why inputs cannot be combined, and which of them is at fault.
+
+ghost use Rattle.std.specs.Prelude.{◌≡◌, [], map, slice_get, IsTrue, MatchOption, MatchResult};
+ghost use Rattle.shard_merging.specs.Agreement.Agreement.{HasAllDisagreements, InputsRefusal};
+ghost use Rattle.mdb_base.specs.Merging.{SaysDisagree, SaysCause};
+
+use crate::failure::{Failure, Subject};
+use crate::request::Target;
+use mdb_report::fault::{Fault, first_blocking_finding, has_wrong_footer};
+use shard_bytes::check::{Finding, Part};
+use shard_bytes::combine::{Operation, combine_bytes};
+use shard_bytes::load::load_bytes;
+use shard_files::files::read_shard;
+use shard_merging::{Disagreement, MalformedRecord, find_disagreements};
+use std::alloc::Global;
+use std::rt::Files;
+use xet_core_structures::error::CoreError;
+use xet_core_structures::merklehash::MerkleHash;
+use xet_core_structures::record_reader::FormatVersion;
+
+/// Why a union or a difference failed: the first input that cannot be read, else what is wrong with
+/// the inputs together.
+pub fn combine_failure<'a>(
+    alloc: Global,
+    files: &[&'a str],
+    inputs: &[&[u8]],
+    error: CoreError,
+) -> Failure<'a>
+    ensures { error ≡ CoreError.OutOfMemory → result.fault ≡ Fault.OutOfMemory }
+{
+    if error == CoreError::OutOfMemory {
+        return failure_on_all(files, Fault::OutOfMemory);
+    }
+    for (file, bytes) in files.iter().zip(inputs) {
+        match first_blocking_finding(alloc, bytes) {
+            Ok(Some(finding)) => return Failure::on_file(file, Fault::Bytes(finding)),
+            Ok(None) => {}
+            Err(fault) => return Failure::on_file(file, fault),
+        }
+    }
+    if error == CoreError::InvalidArguments {
+        return key_failure(alloc, files, inputs);
+    }
+    footer_failure(alloc, files, inputs)
+}
+
+/// Why a union or a difference in the version of a target failed: the version lacks a file, or else as
+/// [`combine_failure`] says.
+pub fn combine_failure_in<'a>(
+    alloc: Global,
+    files: &[&'a str],
+    inputs: &[&[u8]],
+    target: Target<'a>,
+    error: CoreError,
+) -> Failure<'a>
+    ensures { error ≡ CoreError.OutOfMemory → result.fault ≡ Fault.OutOfMemory }
+{
+    if lacks_files(alloc, inputs, target.version, &error) {
+        return Failure::on_target(target.path, Fault::HasAuxRow);
+    }
+    combine_failure(alloc, files, inputs, error)
+}
+
+/// Whether a union or a difference in a version failed since the version lacks a file. The same
+/// error is that of inputs under different keys.
+pub fn lacks_files(
+    alloc: Global,
+    inputs: &[&[u8]],
+    version: FormatVersion,
+    error: &CoreError,
+) -> bool
+    ensures version { IsTrue result → version ≡ FormatVersion.V2 }
+    ensures error { IsTrue result → error.now ≡ CoreError.InvalidArguments }
+{
+    version == FormatVersion::V2
+        && matches!(error, CoreError::InvalidArguments)
+        && other_key(alloc, inputs).is_none()
+}
+
+// The failure of inputs under different keys: that of the first two, whose shards are under
+// different ones.
+fn key_failure<'a>(alloc: Global, files: &[&'a str], inputs: &[&[u8]]) -> Failure<'a> {
+    if let (Some(first), Some(at)) = (files.first(), other_key(alloc, inputs))
+        && let Some(other) = files.get(at)
+    {
+        return failure_of_two_keys(first, other);
+    }
+    failure_on_all(files, Fault::KeysDiffer)
+}
+
+// The place of the first input whose shard is under another key than that of the first input. The
+// inputs before it can be loaded.
+fn other_key(alloc: Global, inputs: &[&[u8]]) -> Option<usize> {
+    let mut first: Option<MerkleHash> = None;
+    for (at, bytes) in inputs.iter().enumerate() {
+        let key = load_bytes(alloc, bytes).ok()?.metadata.chunk_hash_hmac_key;
+        match first {
+            None => first = Some(key),
+            Some(its) if its == key => {}
+            Some(_) => return Some(at),
+        }
+    }
+    None
+}
+
+/// The failure of two files whose shards are under different keys.
+pub fn failure_of_two_keys<'a>(first: &'a str, second: &'a str) -> Failure<'a> {
+    Failure {
+        subject: Subject::Pair(first, second),
+        fault: Fault::KeysDiffer,
+    }
+}
+
+// Why readable inputs were not combined: the first whose footer has wrong offsets, else a pair
+// without a union, else all.
+fn footer_failure<'a>(alloc: Global, files: &[&'a str], inputs: &[&[u8]]) -> Failure<'a> {
+    for (file, bytes) in files.iter().zip(inputs) {
+        match has_wrong_footer(alloc, bytes) {
+            Ok(true) => {
+                return Failure::on_file(file, Fault::Bytes(Finding::Differs(Part::Footer)));
+            }
+            Ok(false) => {}
+            Err(fault) => return Failure::on_file(file, fault),
+        }
+    }
+    union_failure(alloc, files, inputs)
+}
+
+/// The failure of inputs that have no union together: that of the first two with different records
+/// under one hash that have none, else of all.
+pub fn union_failure<'a>(alloc: Global, files: &[&'a str], inputs: &[&[u8]]) -> Failure<'a> {
+    let Ok(found) = find_disagreements(alloc, inputs) else {
+        return failure_on_all(files, Fault::NoUnion);
+    };
+    // The pair that was tried last.
+    let mut tried = (0, 0);
+    for disagreement in &found {
+        let pair = (disagreement.first, disagreement.second);
+        if pair == tried {
+            continue;
+        }
+        tried = pair;
+        if let (Some(one), Some(other)) = (inputs.get(pair.0), inputs.get(pair.1))
+            && combine_bytes(alloc, Operation::Union, one, other).is_err()
+        {
+            return Failure {
+                subject: subject_of(files, disagreement),
+                fault: Fault::NoUnion,
+            };
+        }
+    }
+    failure_on_all(files, Fault::NoUnion)
+}
+
+/// A failure on all inputs together.
+pub fn failure_on_all<'a>(files: &[&'a str], fault: Fault) -> Failure<'a>
+    ensures { result.fault ≡ fault }
+{
+    let subject = match files {
+        [first, second] => Subject::Pair(first, second),
+        [first, ..] => Subject::Files(first, files.len()),
+        [] => Subject::StandardOutput,
+    };
+    Failure { subject, fault }
+}
+
+/// What was made of all inputs, unless memory was lacking.
+pub fn in_memory<'a, T, E: Drop>(files: &[&'a str], made: Result<T, E>) -> Result<T, Failure<'a>> {
+    match made {
+        Ok(made) => Ok(made),
+        Err(_) => Err(failure_on_all(files, Fault::OutOfMemory)),
+    }
+}
+
+/// What differs in the records of the inputs, or `None` if they agree.
+pub fn disagreement_failure<'a>(
+    alloc: Global,
+    files: &[&'a str],
+    inputs: &[&[u8]],
+) -> Result<Option<Failure<'a>>, Failure<'a>>
+    ensures { MatchResult result
+        (λ found. MatchOption found (HasAllDisagreements (map (λ x. x.now) inputs.now) [])
+        (SaysDisagree (map (λ x. x.now) inputs.now)))
+        (SaysCause (InputsRefusal (map (λ x. x.now) inputs.now))) }
+{
+    let found = match find_disagreements(alloc, inputs) {
+        Ok(found) => found,
+        Err(error) => return Err(combine_failure(alloc, files, inputs, error)),
+    };
+    let Some(first) = found.as_slice().first() else {
+        return Ok(None);
+    };
+    Ok(Some(disagreement_under(files, first, found.len())))
+}
+
+/// What differs in the records of files: that under the first of so many hashes.
+pub fn disagreement_under<'a>(files: &[&'a str], first: &Disagreement, count: usize) -> Failure<'a>
+    ensures { result.fault ≡ Fault.Disagree count first.now.record_hash }
+{
+    Failure {
+        subject: subject_of(files, first),
+        fault: Fault::Disagree(count, first.record_hash),
+    }
+}
+
+/// The file that has a record which no shard may have, and the record.
+pub fn failure_on_malformed<'a>(files: &[&'a str], malformed: &MalformedRecord) -> Failure<'a>
+    ensures fault { result.fault ≡ Fault.Malformed malformed.now.record_hash }
+    ensures subject { MatchOption (slice_get files.now malformed.now.input)
+        (result.subject ≡ Subject.StandardOutput) (λ file. result.subject ≡ Subject.File file) }
+{
+    let subject = match files.get(malformed.input) {
+        Some(file) => Subject::File(file),
+        None => Subject::StandardOutput,
+    };
+    Failure {
+        subject,
+        fault: Fault::Malformed(malformed.record_hash),
+    }
+}
+
+/// The first of the files that keeps shards from being merged: it can't be read, or else its footer
+/// is wrong. `None` if there is none. One file is in memory at a time.
+pub fn failure_in_files<'a, R: Files + Input + AllocGlobal>(
+    rt: &R,
+    files: &[&'a str],
+) -> Option<Failure<'a>> {
+    if let Some(failure) = unreadable_file(rt, files) {
+        return Some(failure);
+    }
+    for file in files {
+        let wrong = match read_shard(rt, file) {
+            Ok(contents) => has_wrong_footer(rt.alloc(), contents.bytes.as_slice()),
+            Err(error) => Err(Fault::from(error)),
+        };
+        match wrong {
+            Ok(true) => {
+                let finding = Finding::Differs(Part::Footer);
+                return Some(Failure::on_file(file, Fault::Bytes(finding)));
+            }
+            Ok(false) => {}
+            Err(fault) => return Some(Failure::on_file(file, fault)),
+        }
+    }
+    None
+}
+
+/// The first of the files that can't be read. `None` if there is none. One file is in memory at a
+/// time.
+pub fn unreadable_file<'a, R: Files + Input + AllocGlobal>(
+    rt: &R,
+    files: &[&'a str],
+) -> Option<Failure<'a>> {
+    for file in files {
+        let outcome = match read_shard(rt, file) {
+            Ok(contents) => first_blocking_finding(rt.alloc(), contents.bytes.as_slice()),
+            Err(error) => Err(Fault::from(error)),
+        };
+        match outcome {
+            Ok(Some(finding)) => return Some(Failure::on_file(file, Fault::Bytes(finding))),
+            Ok(None) => {}
+            Err(fault) => return Some(Failure::on_file(file, fault)),
+        }
+    }
+    None
+}
+
+fn subject_of<'a>(files: &[&'a str], disagreement: &Disagreement) -> Subject<'a> {
+    match (
+        files.get(disagreement.first),
+        files.get(disagreement.second),
+    ) {
+        (Some(first), Some(second)) => Subject::Pair(first, second),
+        _ => Subject::StandardOutput,
+    }
+}

@@ -1,0 +1,14 @@
+//! What the commands of `mdb` share: requests, failures, progress, and shards in files.
+#![tactic(auto)]
+
+pub mod expiry;
+pub mod failure;
+pub mod infos;
+pub mod input_failure;
+pub mod outputs;
+pub mod progress;
+pub mod request;
+pub mod shard_file;
+pub mod status;
+pub mod terminals;
+pub mod words;

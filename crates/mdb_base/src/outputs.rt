@@ -1,0 +1,78 @@
+//! What commands read of files whole, and write to paths.
+
+use crate::failure::Failure;
+use mdb_report::fault::Fault;
+use record_report::shown::ShownText;
+use shard_files::beside::leftovers;
+use shard_files::files::{Contents, STANDARD_STREAM, read_shard, write};
+use std::alloc::{AllocError, Global};
+use std::fs;
+use std::random::RandomSource;
+use std::rt::Files;
+
+/// Writes bytes to a path, or to standard output, and reports what is left there.
+pub fn put<'a, R: Files + Print + Eprint + RandomSource + AllocGlobal + Clone + Drop>(
+    rt: &R,
+    output: &'a str,
+    bytes: &[u8],
+) -> Result<(), Failure<'a>> {
+    let written = write(rt, rt.alloc(), output, bytes);
+    if output != STANDARD_STREAM {
+        report_leftovers(rt, output);
+    }
+    match written {
+        Ok(()) => Ok(()),
+        Err(error) => Err(Failure::on_target(output, Fault::from(error))),
+    }
+}
+
+/// Names the new files that runs that were ended have left beside a target, or beside the file that
+/// it leads to.
+pub fn report_leftovers<R: Files + Eprint + AllocGlobal + Clone + Drop>(rt: &R, target: &str) {
+    let found = match fs::canonicalize(rt, target) {
+        Ok(file) => leftovers(rt, file.as_str()),
+        Err(_) => leftovers(rt, target),
+    };
+    let Ok(names) = found else {
+        return;
+    };
+    for name in &names {
+        report_leftover(rt, name.as_str(), target);
+    }
+}
+
+fn report_leftover<R: Eprint>(rt: &R, name: &str, target: &str) {
+    let name = ShownText(name);
+    let target = ShownText(target);
+    let _ = rt.eprintln(format_args!(
+        "{name}: left beside {target} by a run that was ended, or that still writes"
+    ));
+}
+
+/// What is read of the shard in a file, or in standard input if it is `-`.
+pub fn contents_of<'a, R: Files + Input + AllocGlobal>(
+    rt: &R,
+    file: &'a str,
+) -> Result<Contents, Failure<'a>> {
+    match read_shard(rt, file) {
+        Ok(contents) => Ok(contents),
+        Err(error) => Err(Failure::on_file(file, Fault::from(error))),
+    }
+}
+
+/// The bytes of it.
+pub fn bytes_in_file<'a, R: Files + Input + AllocGlobal>(
+    rt: &R,
+    file: &'a str,
+) -> Result<Vec<u8>, Failure<'a>> {
+    Ok(contents_of(rt, file)?.bytes)
+}
+
+/// The path of a name in a folder.
+pub fn path_in(alloc: Global, folder: &str, name: &str) -> Result<String, AllocError> {
+    if folder.ends_with('/') {
+        format!(in alloc; "{folder}{name}")
+    } else {
+        format!(in alloc; "{folder}/{name}")
+    }
+}

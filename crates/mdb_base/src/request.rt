@@ -1,0 +1,201 @@
+//! Requests: the commands as values, with all that their arguments say.
+
+use mdb_report::inquiry::Inquiry;
+use record_report::line::Style;
+use shard_bytes::combine::Operation;
+use shard_bytes::export::Export;
+use shard_bytes::minimal::Subset;
+use shard_files::files::STANDARD_STREAM;
+use xet_core_structures::file_structs::KeptParts;
+use xet_core_structures::merklehash::{HMACKey, MerkleHash};
+use xet_core_structures::record_reader::FormatVersion;
+
+/// The memory that is taken if none is given, in bytes.
+pub const DEFAULT_MEMORY: u64 = 256 << 20;
+
+/// What is asked for.
+#[derive(Drop)]
+pub enum Request<'a> {
+    /// Print answers about shards.
+    Inspect(Sources<'a>, Inquiry, PrintOptions),
+    /// Print what does not fit together in shards.
+    Collect(Sources<'a>, Collection),
+    /// Write an overview of shards as a page.
+    Report(Sources<'a>, OverviewOptions<'a>),
+    /// Write a shard.
+    Make(MakeCommand<'a>, Target<'a>),
+    /// Write a merge of shards.
+    Merge(Sources<'a>, Merge<'a>),
+}
+
+/// How answers about shards are printed.
+#[derive(Clone, Copy)]
+pub struct PrintOptions {
+    pub style: Style,
+    /// The order of the shards; `None` if it is that in which they are named.
+    pub sort: Option<Sort>,
+    /// The time, in seconds, by which it is judged whether a shard has expired, if it is known.
+    pub now: Option<u64>,
+    /// Whether nothing is said of how far the command has come.
+    pub quiet: bool,
+}
+
+/// What shards are sorted by, in ascending order.
+#[derive(Clone, Copy)]
+pub enum Sort {
+    Name,
+    /// The number of bytes.
+    Size,
+    /// The expiry, those without one last.
+    Expiry,
+}
+
+/// How what does not fit together in shards is found and printed.
+#[derive(Clone, Copy)]
+pub struct Collection {
+    pub style: Style,
+    /// About how many bytes of memory are taken.
+    pub memory: u64,
+    /// Whether nothing is said of how far the command has come.
+    pub quiet: bool,
+}
+
+/// How an overview of shards is made.
+#[derive(Clone, Copy)]
+pub struct OverviewOptions<'a> {
+    /// The path to write to, or `-` for standard output.
+    pub output: &'a str,
+    /// About how many bytes of memory are taken.
+    pub memory: u64,
+    /// The time, in seconds, by which shards have expired, if it is known.
+    pub now: Option<u64>,
+    /// Whether nothing is said of how far the command has come.
+    pub quiet: bool,
+}
+
+/// Where a shard is written, and in which version of the format.
+#[derive(Clone, Copy)]
+pub struct Target<'a> {
+    /// A path, or `-` for standard output; of a merge by keys a folder.
+    pub path: &'a str,
+    pub version: FormatVersion,
+}
+
+/// The words that name the shards to read.
+#[derive(Drop)]
+pub struct Sources<'a> {
+    /// Paths of shards and of folders.
+    pub words: Vec<&'a str>,
+    /// The path of a file that lists more of them.
+    pub list: Option<&'a str>,
+    /// The list of more hashes to look up.
+    pub hashes: Option<HashList<'a>>,
+    /// The byte that ends a path in the list.
+    pub end: u8,
+}
+
+impl Sources<'_> {
+    /// Whether a list is read from standard input.
+    pub fn reads_input_as_list(&self) -> bool {
+        if let Some(hashes) = self.hashes
+            && hashes.path == STANDARD_STREAM
+        {
+            return true;
+        }
+        self.list == Some(STANDARD_STREAM)
+    }
+}
+
+/// A file that lists hashes.
+#[derive(Clone, Copy)]
+pub struct HashList<'a> {
+    pub path: &'a str,
+    /// The byte that ends each hash.
+    pub end: u8,
+}
+
+/// A command that writes a shard.
+#[derive(Drop)]
+pub enum MakeCommand<'a> {
+    Combine(Operation, &'a str, &'a str),
+    Export(&'a str, Export),
+    Minimal(&'a str, u64, KeptParts),
+    /// The xorbs to keep may be listed besides.
+    Subset(&'a str, Subset, Option<HashList<'a>>, NewExpiry),
+    Drop(Removal<'a>),
+    /// The shard of the records in a file, one a line, with an expiry in seconds or none.
+    Records(&'a str, Option<u64>),
+}
+
+/// Which records are taken out of a shard.
+#[derive(Drop)]
+pub struct Removal<'a> {
+    pub file: &'a str,
+    pub hashes: Vec<MerkleHash>,
+    /// The list of more hashes.
+    pub list: Option<HashList<'a>>,
+    pub expiry: NewExpiry,
+}
+
+/// The expiry of what is written.
+#[derive(Clone, Copy)]
+pub enum NewExpiry {
+    /// There is none.
+    Unset,
+    /// This time, in seconds.
+    At(u64),
+    /// The earliest of those that the inputs have.
+    Earliest,
+}
+
+/// How shards are merged.
+#[derive(Clone, Copy)]
+pub struct Merge<'a> {
+    pub target: Target<'a>,
+    pub strictness: Strictness,
+    /// Whether each file is reported as it is read.
+    pub verbose: bool,
+    /// Whether nothing is said of how far the merge has come.
+    pub quiet: bool,
+    /// Whether the shards under each key are merged by themselves, into a folder.
+    pub by_key: bool,
+    pub expiry: NewExpiry,
+    /// About how many bytes of memory a merge in rounds takes; `None` if all shards are in memory.
+    pub memory: Option<u64>,
+    /// The time, in seconds, by which shards have expired, if it is known.
+    pub now: Option<u64>,
+    /// Whether expired shards are left out.
+    pub drops_expired: bool,
+    /// How shards are merged in groups, each to a file in a folder; `None` if all are merged as one.
+    pub compaction: Option<Compaction>,
+}
+
+impl Merge<'_> {
+    /// Whether the shards are removed once they are merged.
+    pub fn removes_inputs(&self) -> bool {
+        match self.compaction {
+            Some(compaction) => compaction.remove_inputs,
+            None => false,
+        }
+    }
+}
+
+/// How shards are merged in groups.
+#[derive(Clone, Copy)]
+pub struct Compaction {
+    /// The most bytes that the shards of a group have together.
+    pub max_size: u64,
+    /// The key of the hashes by which merges are named.
+    pub hash_key: HMACKey,
+    /// Whether the shards are removed once the device has their merges.
+    pub remove_inputs: bool,
+}
+
+/// What is done where shards that are to be merged do not agree.
+#[derive(Clone, Copy)]
+pub enum Strictness {
+    /// One record is kept, and the difference is reported.
+    Lenient,
+    /// They are not merged.
+    Strict,
+}

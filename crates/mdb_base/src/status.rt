@@ -1,0 +1,53 @@
+//! Exit statuses.
+
+ghost use Rattle.std.specs.Prelude.{◌≡◌};
+ghost use Rattle.mdb_base.specs.Status.{number_of, after_finding};
+
+use crate::failure::Failure;
+
+/// The exit status of a run.
+#[derive(Clone, Copy)]
+pub enum Status {
+    /// All was done, and a check found nothing.
+    Done,
+    /// A file or an output failed.
+    Failed,
+    /// Lookups found nothing, and nothing failed.
+    Nothing,
+    /// The words are no command.
+    Misused,
+    /// A check found something, or shards that have to agree do not.
+    Found,
+}
+
+impl Status {
+    /// The status after a check found something, beside what came before.
+    pub fn and_found(self) -> Status
+        ensures { result ≡ after_finding self }
+    {
+        match self {
+            Status::Done => Status::Found,
+            status => status,
+        }
+    }
+
+    /// The number that the process ends with.
+    pub fn number(self) -> u8
+        ensures { result ≡ number_of self }
+    {
+        match self {
+            Status::Done => 0,
+            Status::Failed | Status::Nothing => 1,
+            Status::Misused => 2,
+            Status::Found => 3,
+        }
+    }
+}
+
+/// Reports a failure on standard error.
+pub fn report_failure<R: Eprint>(rt: &R, failure: &Failure<'_>) -> Status
+    ensures { result ≡ Status.Failed }
+{
+    let _ = rt.eprintln(failure);
+    Status::Failed
+}

@@ -1,0 +1,227 @@
+//! Running the commands that print what each of some shards answers.
+
+use crate::inputs::Inputs;
+use mdb_base::expiry::report_expired_in;
+use mdb_base::failure::Failure;
+use mdb_base::outputs::contents_of;
+use mdb_base::progress::{Progress, Stage};
+use mdb_base::request::PrintOptions;
+use mdb_base::status::{Status, report_failure};
+use mdb_base::terminals::Terminals;
+use mdb_report::fault::{Fault, fault_of, section_fault};
+use mdb_report::inquiry::{Answer, Checks, Inquiry, InquiryFault, print_answer, print_end};
+use mdb_report::paged_inquiry::print_paged_answer;
+use mdb_report::tally::Tally;
+use record_report::line::{Layout, Origin};
+use shard_bytes::load::load_bytes;
+use shard_files::files::{Contents, open_sized, read_ends, read_shard};
+use std::alloc::Global;
+use std::io;
+use std::io::{BufWriter, ErrorKind, Write};
+use std::rt::{Clock, Files};
+use xet_core_structures::error::CoreError;
+
+/// Prints what each of some shards answers, and reports on standard error what fails. If that is a
+/// terminal, it says there how far it has come.
+pub fn inspect<R: Files + Input + Clock + Print + Eprint + AllocGlobal>(
+    rt: &R,
+    inputs: &Inputs,
+    inquiry: &Inquiry,
+    printing: PrintOptions,
+    terminals: Terminals,
+) -> Status {
+    let mut output = match BufWriter::new(rt.alloc(), io::writer(rt)) {
+        Ok(output) => output,
+        Err(error) => return report_failure(rt, &Failure::on_output(Fault::from(error))),
+    };
+    let mut tally = Tally::new(rt.alloc());
+    let mut progress = Progress::new(rt, terminals.error && !printing.quiet);
+    let asked = inspect_all(
+        rt,
+        inputs,
+        inquiry,
+        printing,
+        &mut tally,
+        &mut progress,
+        &mut output,
+    );
+    progress.clear(rt);
+    let status = match asked {
+        Ok(status) => status,
+        Err(status) => return status,
+    };
+    let end = print_end(
+        rt.alloc(),
+        inquiry,
+        printing.style,
+        inputs.named,
+        &tally,
+        &mut output,
+    );
+    match end.and_then(|()| output.flush()) {
+        Ok(()) => status,
+        Err(error) if error.kind() == ErrorKind::BrokenPipe => status,
+        Err(error) => report_failure(rt, &Failure::on_output(Fault::from(error))),
+    }
+}
+
+// The status with which the run ends after totals are printed, or, as an error, ends at once.
+fn inspect_all<R: Files + Input + Clock + Eprint + AllocGlobal, W: Write>(
+    rt: &R,
+    inputs: &Inputs,
+    inquiry: &Inquiry,
+    printing: PrintOptions,
+    tally: &mut Tally,
+    progress: &mut Progress,
+    output: &mut W,
+) -> Result<Status, Status> {
+    let mut status = match inputs.failed {
+        true => Status::Failed,
+        false => Status::Done,
+    };
+    // Whether all lookups so far found nothing.
+    let mut nothing = !inputs.failed && inquiry.looks_up();
+    for (asked, file) in inputs.paths.iter().enumerate() {
+        let all = inputs.paths.len();
+        progress.show_after_pause(rt, Stage::Asking { asked, all });
+        let file = file.as_str();
+        let layout = Layout {
+            style: printing.style,
+            origin: match inputs.named {
+                true => Origin::OneOf(file),
+                false => Origin::Only(file),
+            },
+        };
+        let now = match inquiry.looks_up() {
+            true => printing.now,
+            false => None,
+        };
+        match inspect_file(rt, file, inquiry, layout, now, tally, progress, output) {
+            Ok(Answer::FoundNothing) => continue,
+            Ok(Answer::Printed) => {}
+            Ok(Answer::HasFindings) => status = status.and_found(),
+            // The reader of the output has closed it.
+            Err(failure) if failure.is_closed_pipe() => return Err(status),
+            Err(failure) if failure.is_on_output() => {
+                return Err(report_failure(rt, &failure));
+            }
+            Err(failure) => status = report_failure(rt, &failure),
+        }
+        nothing = false;
+    }
+    match nothing {
+        true => Ok(Status::Nothing),
+        false => Ok(status),
+    }
+}
+
+// Reads of a file only what the answer needs, if it can be sought. Says whether its shard has
+// expired by a time, if one is given.
+fn inspect_file<'a, R: Files + Input + Eprint + AllocGlobal, W: Write>(
+    rt: &R,
+    file: &'a str,
+    inquiry: &Inquiry,
+    layout: Layout<'_>,
+    now: Option<u64>,
+    tally: &mut Tally,
+    progress: &mut Progress,
+    output: &mut W,
+) -> Result<Answer, Failure<'a>> {
+    let alloc = rt.alloc();
+    let (opened, size) = match open_sized(rt, file) {
+        Ok(Some(opened)) => opened,
+        Ok(None) => {
+            let contents = contents_of(rt, file)?;
+            report_expired_in(rt, file, contents.bytes.as_slice(), now, progress);
+            return inspect_contents(alloc, file, &contents, inquiry, layout, tally, output);
+        }
+        Err(error) => return Err(Failure::on_file(file, Fault::from(error))),
+    };
+    if now.is_some()
+        && let Ok(ends) = read_ends(rt, file)
+    {
+        report_expired_in(rt, file, ends.as_slice(), now, progress);
+    }
+    match print_paged_answer(alloc, inquiry, file, opened, size, layout, tally, output) {
+        Ok(Some(answer)) => Ok(answer),
+        Ok(None) => {
+            let contents = contents_of(rt, file)?;
+            inspect_contents(alloc, file, &contents, inquiry, layout, tally, output)
+        }
+        Err(InquiryFault::Ends(error)) => Err(failure_of_error(
+            alloc,
+            file,
+            read_ends(rt, file),
+            error,
+        )),
+        Err(InquiryFault::Shard(error)) => {
+            let bytes = read_shard(rt, file).map(|contents| contents.bytes);
+            Err(failure_of_error(alloc, file, bytes, error))
+        }
+        Err(inquiry_fault) => Err(failure_of(alloc, file, &[], inquiry_fault)),
+    }
+}
+
+// Answers from what was read of a file. What is no shard has no name by its hash, and its bytes are
+// not hashed.
+fn inspect_contents<'a, W: Write>(
+    alloc: Global,
+    file: &'a str,
+    contents: &Contents,
+    inquiry: &Inquiry,
+    layout: Layout<'_>,
+    tally: &mut Tally,
+    output: &mut W,
+) -> Result<Answer, Failure<'a>> {
+    let bytes = contents.bytes.as_slice();
+    if let Inquiry::Name { .. } = inquiry
+        && let Err(error) = load_bytes(alloc, bytes)
+    {
+        return Err(Failure::on_file(file, fault_of(alloc, bytes, error)));
+    }
+    let unhashed = match inquiry {
+        Inquiry::Check(checks) if !contents.whole => {
+            Some(Inquiry::Check(Checks {
+                key: None,
+                ..*checks
+            }))
+        }
+        _ => None,
+    };
+    let inquiry = unhashed.as_ref().unwrap_or(inquiry);
+    match print_answer(alloc, inquiry, file, bytes, layout, tally, output) {
+        Ok(answer) => Ok(answer),
+        Err(inquiry_fault) => Err(failure_of(alloc, file, bytes, inquiry_fault)),
+    }
+}
+
+// The failure behind an error, from what was read of the file to explain it.
+fn failure_of_error<'a>(
+    alloc: Global,
+    file: &'a str,
+    bytes: io::Result<Vec<u8>>,
+    error: CoreError,
+) -> Failure<'a> {
+    match bytes {
+        Ok(bytes) => Failure::on_file(file, fault_of(alloc, bytes.as_slice(), error)),
+        Err(error) => Failure::on_file(file, Fault::from(error)),
+    }
+}
+
+// The failure behind a fault of an inquiry about a file of these bytes.
+fn failure_of<'a>(
+    alloc: Global,
+    file: &'a str,
+    bytes: &[u8],
+    inquiry_fault: InquiryFault,
+) -> Failure<'a> {
+    let fault = match inquiry_fault {
+        InquiryFault::Shard(error) | InquiryFault::Ends(error) => fault_of(alloc, bytes, error),
+        InquiryFault::Section(section, error) => section_fault(section, error),
+        InquiryFault::NoTable(table) => Fault::NoTable(table),
+        InquiryFault::Input(error) => Fault::from(error),
+        InquiryFault::TooManyRounds => Fault::TooManyRounds,
+        InquiryFault::Output(error) => return Failure::on_output(Fault::from(error)),
+    };
+    Failure::on_file(file, fault)
+}

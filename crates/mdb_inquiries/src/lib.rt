@@ -1,0 +1,9 @@
+//! The commands of `mdb` that look into shards and print.
+#![tactic(auto)]
+
+pub mod gc;
+pub mod hash_list;
+pub mod inputs;
+pub mod inspect;
+pub mod ordering;
+pub mod report;

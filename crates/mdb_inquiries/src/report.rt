@@ -1,0 +1,247 @@
+//! The command that writes an overview of shards as a page.
+
+use crate::gc::section_at;
+use crate::inputs::Inputs;
+use mdb_base::failure::Failure;
+use mdb_base::outputs::put;
+use mdb_base::progress::{Progress, Stage};
+use mdb_base::request::OverviewOptions;
+use mdb_base::shard_file::ShardFile;
+use mdb_base::status::{Status, report_failure};
+use mdb_base::terminals::Terminals;
+use mdb_overview::overview::Overview;
+use mdb_overview::page::page_of;
+use mdb_overview::sharing::ChunkHashes;
+use mdb_report::brief::Brief;
+use mdb_report::fault::{Fault, section_fault};
+use shard_bytes::check::Section;
+use std::alloc::AllocError;
+use std::random::RandomSource;
+use std::rt::{Clock, Files};
+use xet_core_structures::merklehash::MerkleHash;
+use xet_core_structures::record_reader::FormatVersion;
+use xet_core_structures::rows::ROW_SIZE;
+use xet_core_structures::xorb_structs::MDBXorbInfo;
+
+/// About the memory for what is kept of a chunk, in bytes.
+const ITEM_SIZE: u64 = 192;
+
+/// A shard that was opened, and its brief.
+#[derive(Drop)]
+struct BriefShard<'a> {
+    file: ShardFile<'a>,
+    brief: Brief<'a>,
+}
+
+/// What was read of the xorbs of a shard.
+#[derive(Drop)]
+struct Xorbs {
+    xorbs: u64,
+    chunks: u64,
+    /// The hashes of the chunks of a part.
+    hashes: Vec<MerkleHash>,
+}
+
+/// A part of all hashes: those that leave this rest.
+#[derive(Clone, Copy)]
+struct HashPart {
+    rest: u64,
+    parts: u64,
+}
+
+/// Writes an overview of shards. What cannot be read is reported on standard error, and in the page.
+/// If standard error is a terminal, it says there how far it has come.
+pub fn report<'a, R: Files + Clock + Print + Eprint + RandomSource + AllocGlobal + Clone + Drop>(
+    rt: &R,
+    inputs: &'a Inputs,
+    sources: &[&'a str],
+    reporting: OverviewOptions<'a>,
+    terminals: Terminals,
+) -> Status {
+    let mut progress = Progress::new(rt, terminals.error && !reporting.quiet);
+    let written = write_page(rt, inputs, sources, reporting, &mut progress);
+    progress.clear(rt);
+    match written {
+        Ok(status) => status,
+        // Nobody reads the page.
+        Err(failure) if failure.is_closed_pipe() => Status::Failed,
+        Err(failure) => report_failure(rt, &failure),
+    }
+}
+
+fn write_page<'a, R: Files + Clock + Print + Eprint + RandomSource + AllocGlobal + Clone + Drop>(
+    rt: &R,
+    inputs: &'a Inputs,
+    sources: &[&'a str],
+    reporting: OverviewOptions<'a>,
+    progress: &mut Progress,
+) -> Result<Status, Failure<'a>> {
+    let alloc = rt.alloc();
+    let sources = unless_out_of_memory(Vec::from_slice(alloc, sources))?;
+    let mut overview = Overview::new(alloc, sources, reporting.now);
+    for failure in &inputs.failures {
+        unless_out_of_memory(overview.add_failure(alloc, failure))?;
+    }
+    let opened = open_all(rt, inputs, &mut overview)?;
+    let parts = parts_of(opened.as_slice(), reporting.memory);
+    let files = read_all(rt, opened, &mut overview, parts, progress)?;
+    for rest in 1..parts {
+        let part = HashPart { rest, parts };
+        read_part(rt, files.as_slice(), &mut overview, part, progress)?;
+    }
+    unless_out_of_memory(overview.sort())?;
+    let page = unless_out_of_memory(page_of(alloc, &overview))?;
+    put(rt, reporting.output, page.as_bytes())?;
+    if overview.failures.is_empty() {
+        Ok(Status::Done)
+    } else {
+        Ok(Status::Failed)
+    }
+}
+
+// What was done, unless memory was lacking.
+fn unless_out_of_memory<'a, T, E: Drop>(done: Result<T, E>) -> Result<T, Failure<'a>> {
+    match done {
+        Ok(value) => Ok(value),
+        Err(_) => Err(Failure::on_words(Fault::OutOfMemory)),
+    }
+}
+
+// Reports that a shard cannot be read.
+fn leave_out<'a, R: Eprint + AllocGlobal>(
+    rt: &R,
+    overview: &mut Overview<'a>,
+    failure: Failure<'a>,
+) -> Result<(), Failure<'a>> {
+    let _ = report_failure(rt, &failure);
+    unless_out_of_memory(overview.add_failure(rt.alloc(), &failure))
+}
+
+fn open_all<'a, R: Files + Eprint + AllocGlobal>(
+    rt: &R,
+    inputs: &'a Inputs,
+    overview: &mut Overview<'a>,
+) -> Result<Vec<BriefShard<'a>>, Failure<'a>> {
+    let mut opened = Vec::new(rt.alloc());
+    for path in &inputs.paths {
+        match open_shard(rt, path.as_str()) {
+            Ok(shard) => unless_out_of_memory(opened.push(shard))?,
+            Err(failure) => leave_out(rt, overview, failure)?,
+        }
+    }
+    Ok(opened)
+}
+
+fn open_shard<'a, R: Files + AllocGlobal>(
+    rt: &R,
+    path: &'a str,
+) -> Result<BriefShard<'a>, Failure<'a>> {
+    let file = ShardFile::open(rt, path)?;
+    let brief = unless_out_of_memory(Brief::of_info(rt.alloc(), path, &file.info, file.size()))?;
+    Ok(BriefShard { file, brief })
+}
+
+// How many parts of the hashes are kept one after another, so that each takes about so much memory.
+fn parts_of(opened: &[BriefShard<'_>], memory: u64) -> u64 {
+    let mut bytes: u64 = 0;
+    for shard in opened {
+        bytes = bytes.saturating_add(shard.brief.bytes);
+    }
+    let chunks = bytes / ROW_SIZE as u64;
+    chunks
+        .checked_div(memory / ITEM_SIZE)
+        .unwrap_or(chunks)
+        .saturating_add(1)
+}
+
+// Reads the xorbs of all shards, and counts the hashes of the first part. Those that can be read are
+// left.
+fn read_all<'a, R: Files + Clock + Eprint + AllocGlobal>(
+    rt: &R,
+    opened: Vec<BriefShard<'a>>,
+    overview: &mut Overview<'a>,
+    parts: u64,
+    progress: &mut Progress,
+) -> Result<Vec<ShardFile<'a>>, Failure<'a>> {
+    let alloc = rt.alloc();
+    let mut files = Vec::new(alloc);
+    let mut hashes = ChunkHashes::new(alloc);
+    let all = opened.len();
+    for (read, shard) in opened.into_iter().enumerate() {
+        progress.show_after_pause(rt, Stage::Reading { read, all });
+        let BriefShard { file, mut brief } = shard;
+        match xorbs_of(rt, &file, HashPart { rest: 0, parts }) {
+            Ok(found) => {
+                brief.xorbs = Some(found.xorbs);
+                brief.chunks = Some(found.chunks);
+                unless_out_of_memory(hashes.add_shard(alloc, found.hashes.as_slice()))?;
+                unless_out_of_memory(overview.shards.push(brief))?;
+                unless_out_of_memory(files.push(file))?;
+            }
+            Err(failure) => {
+                progress.clear(rt);
+                leave_out(rt, overview, failure)?;
+            }
+        }
+    }
+    unless_out_of_memory(hashes.count(&mut overview.sharing))?;
+    Ok(files)
+}
+
+// Counts the hashes of a further part.
+fn read_part<'a, R: Files + Clock + Eprint + AllocGlobal>(
+    rt: &R,
+    files: &[ShardFile<'a>],
+    overview: &mut Overview<'a>,
+    part: HashPart,
+    progress: &mut Progress,
+) -> Result<(), Failure<'a>> {
+    let alloc = rt.alloc();
+    let mut hashes = ChunkHashes::new(alloc);
+    let all = files.len();
+    for (read, file) in files.iter().enumerate() {
+        progress.show_after_pause(rt, Stage::Reading { read, all });
+        let found = xorbs_of(rt, file, part)?;
+        unless_out_of_memory(hashes.add_shard(alloc, found.hashes.as_slice()))?;
+    }
+    unless_out_of_memory(hashes.count(&mut overview.sharing))
+}
+
+fn xorbs_of<'a, R: Files + AllocGlobal>(
+    rt: &R,
+    file: &ShardFile<'a>,
+    part: HashPart,
+) -> Result<Xorbs, Failure<'a>> {
+    let alloc = rt.alloc();
+    let offset = file.info.metadata.xorb_info_offset;
+    let mut section = section_at(rt, file, offset, FormatVersion::V3)?;
+    let mut found = Xorbs {
+        xorbs: 0,
+        chunks: 0,
+        hashes: Vec::new(alloc),
+    };
+    for _ in 0..u64::MAX {
+        match section.next_xorb(alloc) {
+            Ok(Some(xorb)) => unless_out_of_memory(found.add(&xorb, part))?,
+            Ok(None) => break,
+            Err(error) => {
+                return Err(Failure::on_file(file.path, section_fault(Section::Xorbs, error)));
+            }
+        }
+    }
+    Ok(found)
+}
+
+impl Xorbs {
+    fn add(&mut self, xorb: &MDBXorbInfo, part: HashPart) -> Result<(), AllocError> {
+        let chunks = xorb.chunks.as_slice();
+        self.xorbs = self.xorbs.saturating_add(1);
+        self.chunks = self.chunks.saturating_add(chunks.len() as u64);
+        for chunk in chunks {
+            if chunk.chunk_hash[0].checked_rem(part.parts) == Some(part.rest) {
+                self.hashes.push(chunk.chunk_hash)?;
+            }
+        }
+        Ok(())
+    }
+}

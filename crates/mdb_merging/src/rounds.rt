@@ -1,0 +1,213 @@
+//! Merging shards of which only parts are in memory at once.
+//!
+//! The merge is made in rounds, first of the files and then of the xorbs. A round reads the next
+//! records of each shard, as many as there is room for. The least of their last hashes is a limit:
+//! each shard's records up to it are in memory, so their union is the next part of the merge. Its
+//! rows are written at once. The rows of the tables wait in a second file, which is removed from its
+//! folder as soon as it is made.
+
+ghost use Rattle.std.specs.Prelude.{◌≡◌, map, IfOk};
+
+mod findings;
+mod parts;
+
+use crate::by_key::{distinct_keys, path_under, values_under};
+use crate::merge::report_size;
+use mdb_base::expiry::report_expired;
+use mdb_base::failure::Failure;
+use mdb_base::input_failure::{failure_in_files, in_memory};
+use mdb_base::outputs::report_leftovers;
+use mdb_base::progress::{Progress, Stage};
+use mdb_base::request::Merge;
+use mdb_base::shard_file::{RoundFault, ShardFile, ends_of};
+use mdb_report::fault::{Fault, fault_of};
+use parts::merge_parts;
+use shard_assembly::assembly::Assembly;
+use shard_bytes::load::load_bytes;
+use shard_files::beside::{NewFile, create_beside, create_private};
+use shard_files::files::{Place, STANDARD_STREAM, is_worth_reading, place_at, rename_over};
+use std::alloc::{AllocError, AllocFailed, Global};
+use std::fs::OpenFile;
+use std::random::RandomSource;
+use std::rt::{Clock, Files};
+use std::{fs, io};
+use xet_core_structures::error::CoreError;
+use xet_core_structures::merklehash::HMACKey;
+
+/// The least memory for a merge, in bytes.
+const LEAST_MEMORY: u64 = 1 << 20;
+
+/// Writes the merge of the shards in some files to a target, in about so many bytes of memory. With
+/// `by_key` it writes a merge of those under each key to the folder at the target's path.
+pub fn merge_in_rounds<
+    'a,
+    R: Files + Input + Clock + Print + Eprint + RandomSource + AllocGlobal + Clone + Drop,
+>(
+    rt: &R,
+    files: &[&'a str],
+    merge: Merge<'a>,
+    memory: u64,
+    progress: &mut Progress,
+) -> Result<(), Failure<'a>> {
+    let memory = memory.max(LEAST_MEMORY);
+    let shards = open_all(rt, files, merge, progress)?;
+    let shards = shards.as_slice();
+    if !merge.by_key {
+        return write_merge(rt, shards, merge, merge.target.path, memory, progress);
+    }
+    let alloc = rt.alloc();
+    let keys = in_memory(files, keys_of(alloc, shards))?;
+    let distinct = in_memory(files, distinct_keys(alloc, keys.as_slice()))?;
+    for key in &distinct {
+        write_under(rt, shards, keys.as_slice(), key, merge, memory, progress)?;
+    }
+    Ok(())
+}
+
+// Writes the merge of the shards under one key to a folder.
+fn write_under<
+    'a,
+    R: Files + Input + Clock + Print + Eprint + RandomSource + AllocGlobal + Clone + Drop,
+>(
+    rt: &R,
+    shards: &[ShardFile<'a>],
+    keys: &[HMACKey],
+    key: &HMACKey,
+    merge: Merge<'a>,
+    memory: u64,
+    progress: &mut Progress,
+) -> Result<(), Failure<'a>> {
+    let folder = merge.target.path;
+    let Ok(under) = values_under(rt.alloc(), shards, keys, key) else {
+        return Err(Failure::on_file(folder, Fault::OutOfMemory));
+    };
+    let Ok(path) = path_under(rt.alloc(), folder, key) else {
+        return Err(Failure::on_file(folder, Fault::OutOfMemory));
+    };
+    write_merge(rt, under.as_slice(), merge, path.as_str(), memory, progress)
+}
+
+fn keys_of(alloc: Global, shards: &[ShardFile<'_>]) -> Result<Vec<HMACKey>, AllocError>
+    ensures { IfOk result
+        (λ keys. keys.items ≡ map (λ s. s.info.metadata.chunk_hash_hmac_key) shards.now) }
+{
+    let mut keys = Vec::new(alloc);
+    for shard in shards {
+        keys.push(shard.key())?;
+    }
+    Ok(keys)
+}
+
+// Reads header and footer of each file.
+fn open_all<'a, R: Files + Input + Clock + Eprint + AllocGlobal>(
+    rt: &R,
+    files: &[&'a str],
+    merge: Merge<'a>,
+    progress: &mut Progress,
+) -> Result<Vec<ShardFile<'a>>, Failure<'a>> {
+    let alloc = rt.alloc();
+    let mut opened = Vec::new(alloc);
+    let mut first_failure = None;
+    for (read, file) in files.iter().enumerate() {
+        let all = files.len();
+        progress.show_after_pause(rt, Stage::Reading { read, all });
+        let (stamp, ends) = ends_of(rt, file)?;
+        if merge.verbose && is_worth_reading(alloc, ends.as_slice()) {
+            report_size(rt, file, stamp.size);
+        }
+        match load_bytes(alloc, ends.as_slice()) {
+            Ok(info) => {
+                report_expired(rt, file, &info, merge.now, progress);
+                in_memory(files, opened.push(ShardFile::new(file, info, stamp)))?;
+            }
+            Err(error) if first_failure.is_none() => {
+                let fault = fault_of(alloc, ends.as_slice(), error);
+                first_failure = Some(Failure::on_file(file, fault));
+            }
+            Err(_) => {}
+        }
+    }
+    match first_failure {
+        // A file before it may have a section that can't be read, which is reported first.
+        Some(first_failure) if !merge.by_key => Err(failure_in_files(rt, files).unwrap_or(
+            first_failure,
+        )),
+        Some(first_failure) => Err(first_failure),
+        None => Ok(opened),
+    }
+}
+
+// Writes the merge of shards to a path: to a new file beside it, which is renamed over it.
+fn write_merge<
+    'a,
+    R: Files + Input + Clock + Print + Eprint + RandomSource + AllocGlobal + Clone + Drop,
+>(
+    rt: &R,
+    shards: &[ShardFile<'a>],
+    merge: Merge<'a>,
+    path: &str,
+    memory: u64,
+    progress: &mut Progress,
+) -> Result<(), Failure<'a>> {
+    let alloc = rt.alloc();
+    let named = merge.target.path;
+    if path == STANDARD_STREAM {
+        return Err(Failure::on_target(named, Fault::NoPlace));
+    }
+    let (target, replaced) = match place_at(rt, alloc, path) {
+        Ok(Place::File { target, replaced }) => (target, replaced),
+        Ok(Place::Other) => return Err(Failure::on_target(named, Fault::NoPlace)),
+        Err(error) => return Err(Failure::on_target(named, Fault::from(error))),
+    };
+    let target = target.as_str();
+    let NewFile { file, path: beside } = match create_beside(rt, alloc, target, replaced.as_ref()) {
+        Ok(new) => new,
+        Err(error) => return Err(Failure::on_target(named, Fault::from(error))),
+    };
+    let made = fill(rt, shards, merge, target, file, memory, progress);
+    let done = match made {
+        Ok(()) => match rename_over(rt, beside.as_str(), target) {
+            Ok(()) => Ok(()),
+            Err(error) => Err(Failure::on_target(named, Fault::from(error))),
+        },
+        Err(failure) => {
+            let _ = fs::remove_file(rt, beside.as_str());
+            Err(failure)
+        }
+    };
+    report_leftovers(rt, path);
+    done
+}
+
+// Writes the merge of shards to a new file, and waits until the device has it.
+fn fill<'a, R: Files + Input + Clock + Eprint + RandomSource + AllocGlobal>(
+    rt: &R,
+    shards: &[ShardFile<'a>],
+    merge: Merge<'a>,
+    target: &str,
+    output: R::File,
+    memory: u64,
+    progress: &mut Progress,
+) -> Result<(), Failure<'a>> {
+    let named = merge.target.path;
+    let tables = match unlinked_file(rt, target) {
+        Ok(tables) => tables,
+        Err(error) => return Err(Failure::on_target(named, Fault::from(error))),
+    };
+    let assembly = Assembly::new(rt.alloc(), output, tables);
+    let written = merge_parts(rt, shards, merge, memory, assembly, progress)?;
+    match written.sync_all() {
+        Ok(()) => Ok(()),
+        Err(error) => Err(Failure::on_target(named, Fault::from(error))),
+    }
+}
+
+// A new file in the folder of a target, whose name is removed at once, so that nothing is left of it.
+fn unlinked_file<R: Files + RandomSource + AllocGlobal>(
+    rt: &R,
+    target: &str,
+) -> io::Result<R::File> {
+    let NewFile { file, path } = create_private(rt, rt.alloc(), target)?;
+    fs::remove_file(rt, path.as_str())?;
+    Ok(file)
+}
