@@ -1,12 +1,10 @@
-"""Checks of the words of pages: how many there are, and that no two pages have the same sentence."""
+"""Checks of the words of pages: that no two pages have the same sentence."""
 import glob
 import os
 import re
 
 from .common import TOP, read
 
-# All pages together, and the lines of README.md.
-MOST_WORDS, MOST_LINES = 28000, 100
 # So many words in a row stand in two pages only if both say the same.
 SHARED = 10
 
@@ -34,15 +32,6 @@ def repeated(texts):
             runs = [" ".join(words[at : at + SHARED]) for at in range(len(words) - SHARED + 1)]
             found += [(it, known[it], name) for it in runs if known.setdefault(it, name) != name][:1]
     return found
-
-
-def check_words():
-    """The pages have no more words, and README.md no more lines, than a reader has time for."""
-    texts = pages()
-    words, lines = sum(len(it.split()) for it in texts.values()), len(texts["README.md"].splitlines())
-    if words > MOST_WORDS or lines > MOST_LINES:
-        return f"the pages have {words} words, README.md {lines} lines; there may be {MOST_WORDS} and {MOST_LINES}"
-    return None
 
 
 def check_repeated():
