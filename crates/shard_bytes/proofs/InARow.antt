@@ -1,12 +1,11 @@
--- The bytes that shards in a row append to an empty vector are the concatenation.
-use Rattle.std.proofs.Common.{◌≡◌, ◌⊎◌, inl, inr, ℕ, ◌≤◌, ◌<◌, Bor, true, false, List, [], ◌++◌, length, map, take, drop, None, Some, refl, sym, ap, ◌∙◌, subst, append-nil, true≢false, arith}
+-- Concatenation in a version, by what shards in a row give.
+use Rattle.std.proofs.Common.{◌≡◌, ◌⊎◌, inl, inr, ℕ, ◌≤◌, ◌<◌, Bor, true, false, List, ◌++◌, length, map, take, drop, None, refl, sym, ap, ◌∙◌, subst, append-nil, true≢false, arith}
 use Rattle.std.specs.Prelude.{⊤, All}
 use Rattle.std.specs.List.{AllZip}
 use Rattle.std.specs.FinMap.{values}
 use Rattle.std.proofs.Math.Seq.{take-append_seam}
 use Rattle.std.proofs.lemmas.List.{drop_all, length-map}
 use Rattle.xet_base.specs.KeyedHash.{no_key}
-use Rattle.std.specs.Io.KnownBytes.{Appends}
 use Rattle.xet_core_structures.specs.declared.error.CoreError.{CoreError}
 use Rattle.xet_core_structures.specs.declared.error.CoreError.TheVariants.{InvalidArguments, OutOfMemory}
 use Rattle.xet_core_structures.specs.declared.file_structs.MDBFileInfo.{MDBFileInfo}
@@ -15,7 +14,7 @@ use Rattle.xet_core_structures.specs.declared.xorb_structs.MDBXorbInfo.{MDBXorbI
 use Rattle.xet_core_structures.specs.declared.record_reader.FormatVersion.{FormatVersion}
 use Rattle.xet_core_structures.specs.declared.record_reader.FormatVersion.TheVariants.{V2, V3}
 use Rattle.xet_core_structures.specs.Errors.{IsWriteError}
-use Rattle.shard_merging.specs.InARow.{ShardPart, bytes_of_part, IsPartUnder, files_in, xorbs_in, options_under, AscendBoth, ArePartsInARow, AreBytesOf, AreInARow, AppendsShardsInARow, IsConcatenation, RefusesShardsInARow}
+use Rattle.shard_merging.specs.InARow.{ShardPart, bytes_of_part, IsPartUnder, files_in, xorbs_in, options_under, AscendBoth, ArePartsInARow, AreBytesOf, AreInARow, IsConcatenation, RefusesShardsInARow}
 use Rattle.xet_core_structures.specs.Layout.{layout_of, plain_options}
 use Rattle.shard_merging.specs.Records.Ranges.{IsPartOf, is_within, ranges_between, AreCuts}
 use Rattle.xet_core_structures.specs.Shard.{Shard, IsShard}
@@ -29,18 +28,6 @@ use Rattle.shard_bytes.specs.InARow.{IsLayoutIn, FailsIn, IsConcatenationIn, Con
 use Rattle.shard_bytes.specs.Outcomes.{InMemory}
 use Rattle.shard_bytes.specs.Steps.Versions.{IsNumberedIn}
 use Rattle.shard_bytes.specs.Versions.{have_aux_rows, has_new_files}
-
--- after bytes were appended to nothing, they are all that is there
-pub appended_is : (items old now : List ℕ) → old ≡ [] → Appends (Some old) (Some now) items → now ≡ items
-appended_is items old now none wrote = wrote ∙ ap (λ xs. xs ++ items) none
-
-pub row_is : (shards : List Shard) (old now : List ℕ) → old ≡ [] → AppendsShardsInARow shards (Some old) (Some now) → IsConcatenation shards now
-row_is shards old now none wrote = record { all = wrote.all; row = wrote.row; is_bytes = record { shard = wrote.is_shard; bytes_are = appended_is _ old now none wrote.appended } }
-
--- an error of the writer is one of memory
-pub lacks_memory : (e r : CoreError) → ((r ≡ OutOfMemory) × IsWriteError e) ⊎ ((r ≡ e) × (¬ IsWriteError e)) → IsWriteError e → r ≡ OutOfMemory
-lacks_memory e r (inl (is, write)) wrote = is
-lacks_memory e r (inr (is, none)) wrote = absurd (none wrote)
 
 -- a failed allocation stays one
 pub lacks_still : (e r : CoreError) → ((r ≡ OutOfMemory) × IsWriteError e) ⊎ ((r ≡ e) × (¬ IsWriteError e)) → e ≡ OutOfMemory → r ≡ OutOfMemory

@@ -11,9 +11,7 @@ ghost use Rattle.xet_core_structures.specs.WrittenShard.{IsBytesWithoutExpiry};
 ghost use Rattle.shard_bytes.specs.Merging.{IsBalanced, IsPlanOfBoth, IsMergePlan, MergesBytes, RefusesMerge, IsMergeOfList, MergesRange, RefusesRange, IsRangeMergeOfList};
 ghost use Rattle.shard_bytes.specs.Sizes.{IsResultSize};
 
-use shard_merging::{
-    HashRange, merge_range, merge_range_into, shard_union_tree_in, shard_union_tree_into,
-};
+use shard_merging::{HashRange, merge_range_into, shard_union_tree_in, shard_union_tree_into};
 use std::alloc::Global;
 use xet_core_structures::error::{CoreError, Result};
 use xet_core_structures::record_reader::FormatVersion;
@@ -72,40 +70,13 @@ pub fn merge_into(
     shard_union_tree_into(alloc, &plan, shards, version, out)
 }
 
-/// The bytes of a shard with the records in a range of the union that [`merge_bytes`] makes, files
-/// and xorbs each by their own hash. Well-formed shards under one key that agree pairwise give, in
-/// any order, the records of their join in the range. The bytes are at most 344 and 8/3 of the
-/// inputs'.
+/// Writes the bytes of a shard with the records in a range of the union that [`merge_bytes`] makes,
+/// files and xorbs each by their own hash, to the front of a slice, if they fit, and returns their
+/// number. If they don't, or if the call fails, the slice stays as it is. Well-formed shards under
+/// one key that agree pairwise give, in any order, the records of their join in the range. The bytes
+/// are at most 344 and 8/3 of the inputs'.
 ///
-/// `InvalidArguments` if the list is empty. Else the errors are those of [`merge_range`].
-#[tactic(auto, using(xet_core_structures::proofs::Trees::InVersions::refused_in_version))]
-pub fn merge_range_bytes(
-    alloc: Global,
-    shards: &[&[u8]],
-    range: &HashRange,
-    version: FormatVersion,
-) -> Result<Vec<u8>>
-    ensures any_bytes { MatchResult result
-        (λ bytes. MadeIn version (MergesRange range.now (map (λ x. x.now) shards.now)) bytes.items)
-        (RefusedIn version (MergesRange range.now (map (λ x. x.now) shards.now))
-        (RefusesRange range.now (map (λ x. x.now) shards.now))) }
-    ensures one_byte_string { (key : DataHash) → (all : List Shard) → (join part : Shard)
-        → IsRangeMergeOfList range.now key (map (λ x. x.now) shards.now) all join part
-        → MatchResult result (λ bytes. MadeIn version (IsHeldLayout key part) bytes.items)
-        (RefusedIn version (IsHeldLayout key part) (MergeRefused part)) }
-    ensures size { IfOk result
-        (λ bytes. IsResultSize (map (λ x. x.now) shards.now) (length bytes.items)) }
-{
-    if shards.is_empty() {
-        return Err(CoreError::InvalidArguments);
-    }
-    let plan = merge_plan(alloc, shards.len())?;
-    merge_range(alloc, &plan, shards, range, version)
-}
-
-/// Writes the bytes that [`merge_range_bytes`] makes to the front of a slice, if they fit, and
-/// returns their number. If they don't, or if the call fails, the slice stays as it is. The errors
-/// are the same.
+/// `InvalidArguments` if the list is empty. Else the errors are those of [`merge_range_into`].
 #[tactic(auto, using(xet_core_structures::proofs::Trees::InVersions::refused_in_version))]
 pub fn merge_range_bytes_into(
     alloc: Global,

@@ -9,12 +9,10 @@ mod merging;
 pub mod well_formed;
 
 pub use in_a_row::filling::shards_in_a_row_into;
-pub use in_a_row::shards_in_a_row;
 pub use merging::agreement::{
-    AgreeingFill, AgreeingMerge, Disagreement, MalformedRecord, MergeOutcome, RecordHash,
-    find_disagreement, find_disagreements, find_malformed, merge_agreeing, merge_or_disagreements,
-    merge_or_disagreements_into,
+    AgreeingFill, AgreeingMerge, Disagreement, MalformedRecord, RecordHash, find_disagreements,
+    find_malformed, merge_or_disagreements, merge_or_disagreements_into,
 };
-pub use merging::ranges::{HashRange, merge_range, merge_range_into};
+pub use merging::ranges::{HashRange, merge_range_into};
 pub use merging::rows::{SectionRows, merge_rows_into};
 pub use merging::trees::{put_number, shard_union_tree_in, shard_union_tree_into};

@@ -5,10 +5,9 @@ use crate::stop::Stop;
 use script_lines::show::show_line;
 use script_lines::words::parse_u64;
 use shard_bytes::check::check_bytes;
-use shard_merging::{
-    MergeOutcome, find_disagreement, find_disagreements, find_malformed, merge_agreeing,
-};
+use shard_merging::{AgreeingMerge, find_disagreements, find_malformed, merge_or_disagreements};
 use std::alloc::Global;
+use xet_core_structures::record_reader::FormatVersion;
 use xet_core_structures::set_operations::{MergePlan, shard_union_tree};
 
 impl Probe {
@@ -18,7 +17,6 @@ impl Probe {
             ["set_tree", name, words @ ..] => self.unite(name, words),
             ["set_agreeing", name, words @ ..] => self.unite_agreeing(name, words, out),
             ["disagreements", names @ ..] => self.show_disagreements(names, out),
-            ["disagreement", names @ ..] => self.show_disagreement(names, out),
             ["malformed", names @ ..] => self.show_malformed(names, out),
             ["check", name] => self.show_findings(name, out),
             _ => return Ok(false),
@@ -41,11 +39,16 @@ impl Probe {
     ) -> Result<(), Stop> {
         let (tree, names) = split_at_with(words)?;
         let tree = parse_tree(self.alloc, tree)?;
-        let merged = merge_agreeing(self.alloc, &tree, self.buffers(names)?.as_slice())?;
+        let merged = merge_or_disagreements(
+            self.alloc,
+            &tree,
+            self.buffers(names)?.as_slice(),
+            FormatVersion::V3,
+        )?;
         match merged {
-            MergeOutcome::Bytes(bytes) => self.put_buffer(name, bytes),
-            MergeOutcome::Disagreement(found) => Ok(show_line(&found, out)?),
-            MergeOutcome::Malformed(found) => Ok(show_line(&found, out)?),
+            AgreeingMerge::Bytes(bytes) => self.put_buffer(name, bytes),
+            AgreeingMerge::Disagreements(found) => Ok(show_line(&found, out)?),
+            AgreeingMerge::Malformed(found) => Ok(show_line(&found, out)?),
         }
     }
 
@@ -61,11 +64,6 @@ impl Probe {
 
     fn show_findings(&self, name: &str, out: &mut Vec<u8>) -> Result<(), Stop> {
         let found = check_bytes(self.alloc, self.buffer(name)?)?;
-        Ok(show_line(&found, out)?)
-    }
-
-    fn show_disagreement(&self, names: &[&str], out: &mut Vec<u8>) -> Result<(), Stop> {
-        let found = find_disagreement(self.alloc, self.buffers(names)?.as_slice())?;
         Ok(show_line(&found, out)?)
     }
 }

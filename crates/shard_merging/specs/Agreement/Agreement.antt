@@ -1,5 +1,5 @@
 -- Whether shards in memory agree, and where they do not.
-use Rattle.std.specs.Prelude.{◌≡◌, ◌⊎◌, ℕ, ◌<◌, List, ◌∷◌, ◌++◌, length, map, Contains, Some, slice_get}
+use Rattle.std.specs.Prelude.{◌≡◌, ◌⊎◌, ℕ, ◌<◌, List, ◌++◌, length, map, Contains, Some, slice_get}
 use Rattle.std.specs.FinMap.{get}
 use Rattle.std.specs.List.Sorted.{IsStrictlySortedBy}
 use Rattle.xet_base.specs.declared.error.CoreError.{CoreError}
@@ -26,13 +26,11 @@ use Rattle.shard_merging.specs.declared.merging.agreement.AgreeingMerge.{Agreein
 use Rattle.shard_merging.specs.declared.merging.agreement.AgreeingMerge.TheVariants.{Bytes as MergedBytes, Disagreements, Malformed as FoundMalformed}
 use Rattle.shard_merging.specs.declared.merging.agreement.AgreeingFill.{AgreeingFill}
 use Rattle.shard_merging.specs.declared.merging.agreement.AgreeingFill.TheVariants.{Bytes as FilledBytes, Disagreements as Disagreeing, Malformed as Misformed}
-use Rattle.shard_merging.specs.declared.merging.agreement.MergeOutcome.{MergeOutcome}
-use Rattle.shard_merging.specs.declared.merging.agreement.MergeOutcome.TheVariants.{Bytes, Disagreement as Disagreed, Malformed}
 use Rattle.xet_core_structures.specs.TwoShards.ByteResults.{key_of}
 use Rattle.xet_core_structures.specs.Records.ShardContents.{HasShard}
 use Rattle.shard_merging.specs.Trees.Filling.{Fills}
 use Rattle.shard_merging.specs.Trees.InVersions.{TreeWritesIn, TreeRefusalIn}
-use Rattle.xet_core_structures.specs.Trees.MergeTrees.{leaves, TreeWrites, InputIs}
+use Rattle.xet_core_structures.specs.Trees.MergeTrees.{leaves, InputIs}
 use Rattle.shard_merging.specs.Trees.Parts.{ShardRefusal}
 
 -- a property holds of each number below n
@@ -159,18 +157,9 @@ AgreeingRefusal version inputs plan e =
     WellFormedRefusal inputs e
     ⊎ (HoldShards inputs × InputsAgree inputs × TreeRefusalIn version inputs plan e)
 
--- what a merge of inputs that have to agree gives: the bytes that the tree writes, if the inputs
--- hold well-formed shards and these agree; else the first of all that do not agree, or a record
--- that no shard may have
-abbrev pub IsMerged : List (List ℕ) → MergePlan → MergeOutcome → Type 0
-IsMerged inputs plan (Bytes bytes) =
-    HoldShards inputs × InputsAgree inputs × TreeWrites inputs plan bytes.items
-IsMerged inputs plan (Disagreed d) =
-    HoldShards inputs
-    × ((others : List Disagreement) × HasAllDisagreements inputs (d ∷ others))
-IsMerged inputs plan (Malformed m) = IsFirstMalformed inputs m
-
--- the same in a version, with all that do not agree, of which there is one at least
+-- what a merge of inputs that have to agree gives in a version: the bytes that the tree writes, if the
+-- inputs hold well-formed shards and these agree; else all that do not agree, of which there is one at
+-- least, or a record that no shard may have
 abbrev pub MergesOrFinds : FormatVersion → List (List ℕ) → MergePlan → AgreeingMerge → Type 0
 MergesOrFinds version inputs plan (MergedBytes bytes) =
     HoldShards inputs × InputsAgree inputs × TreeWritesIn version inputs plan bytes.items

@@ -27,19 +27,6 @@ pub struct SectionPart<'a> {
     pub table: &'a [u8],
 }
 
-/// Writes the rows of all sections, one after another. The error is the writer's.
-pub fn write_rows<W: Write>(writer: &mut W, sections: &[SectionPart<'_>]) -> Result<()>
-    ensures bytes { OnOk result
-        (Appends (W.contents writer.old) (W.contents writer.new)
-        (flat_map (λ s. s.rows.now) sections.now)) }
-    ensures causes { IfErr result IsWriteError }
-{
-    for section in sections {
-        write_bytes(writer, section.rows)?;
-    }
-    Ok(())
-}
-
 /// Writes the table of the records of all sections, whose rows follow one another. `InvalidShard`
 /// if a row number passes `u32`; else the error is the writer's.
 pub fn write_tables<R: SectionRecord, W: Write>(

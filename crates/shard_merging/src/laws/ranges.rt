@@ -72,10 +72,10 @@ pub fn ranges_have_all_records()
         (flat_map (λ s. values s.xorbs) parts) (keyed_options key) }
 {}
 
-/// In version 3 `merge_range` makes parts in a row of ranges that follow one another and leave no
-/// hash out. So `shards_in_a_row` writes the layout of the join from them, as the one merge does, or
-/// fails for lack of memory (`parts`). Without a key, `serialize_from` writes this layout of the join
-/// without expiry (`no_key`).
+/// In version 3 `merge_range_into` makes parts in a row of ranges that follow one another and leave
+/// no hash out. So `shards_in_a_row_into` writes the layout of the join from them, as the one merge
+/// does, or fails for lack of memory (`parts`). Without a key, `serialize_from` writes this layout of
+/// the join without expiry (`no_key`).
 pub fn ranges_concatenate()
     ensures parts { (key : DataHash) → (cuts : List DataHash) → (join : Shard) → (parts : List Shard)
         → (bytes : List (List ℕ)) → AreCuts None cuts None

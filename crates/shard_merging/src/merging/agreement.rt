@@ -17,10 +17,9 @@
 
 ghost use Rattle.std.specs.Prelude.{◌≡◌, ◌++◌, ℕ, List, map, MatchOption, MatchResult, OnOk, IfOk, IfErr, IfSome};
 ghost use Rattle.xet_base.specs.declared.error.CoreError.TheVariants.{OutOfMemory};
-ghost use Rattle.shard_merging.specs.Agreement.Agreement.{InputsAgree, InputsDisagree, HasAllDisagreements, InputsRefusal, WellFormedRefusal, AgreeingRefusal, HoldShards, IsFirstMalformed, IsMerged, MergesOrFinds, FillsOrFinds, disagreement_of};
+ghost use Rattle.shard_merging.specs.Agreement.Agreement.{HasAllDisagreements, InputsRefusal, WellFormedRefusal, AgreeingRefusal, HoldShards, IsFirstMalformed, MergesOrFinds, FillsOrFinds, disagreement_of};
 ghost use Rattle.shard_merging.specs.Steps.Agreement.{FindsMalformedIn, IsAgreed, IsAgreedPart, AgreedRefusal, IsWellFormedOr};
 ghost use Rattle.shard_merging.specs.Steps.Parts.{AreOpened, IsPlacedOf};
-ghost use Rattle.xet_records.specs.declared.record_reader.FormatVersion.TheVariants.{V3};
 
 mod differing;
 mod kinds;
@@ -116,22 +115,6 @@ fn add_all<R: Agreement>(found: &mut Vec<Disagreement>, differing: &[Differing])
         })?;
     }
     Ok(())
-}
-
-/// Two inputs that hold records with one hash that do not agree, or `None` if each two of the
-/// shards that the inputs hold agree.
-pub fn find_disagreement(alloc: Global, inputs: &[&[u8]]) -> Result<Option<Disagreement>>
-    ensures { MatchResult result
-        (λ found. MatchOption found (InputsAgree (map (λ x. x.now) inputs.now))
-        (InputsDisagree (map (λ x. x.now) inputs.now)))
-        (InputsRefusal (map (λ x. x.now) inputs.now)) }
-{
-    let found = find_disagreements(alloc, inputs)?;
-    let found = found.as_slice();
-    if found.is_empty() {
-        return Ok(None);
-    }
-    Ok(Some(found[0]))
 }
 
 /// A record that no shard may have, of the first input that holds one, or `None` if each input holds
@@ -414,29 +397,4 @@ fn compared_tree<'a>(
     }
     let part = place_tree_of(alloc, arena, plan, opened)?;
     Ok(AgreedPart::Agreed(part))
-}
-
-/// What a merge of inputs that have to agree gives, with one disagreement.
-#[derive(Drop)]
-pub enum MergeOutcome {
-    /// The bytes of the union: each two inputs agree.
-    Bytes(Vec<u8>),
-    /// Two inputs that do not agree.
-    Disagreement(Disagreement),
-    /// A record that no shard may have, of the first input that holds one.
-    Malformed(MalformedRecord),
-}
-
-/// As [`merge_or_disagreements`], in version 3 and with the first disagreement alone.
-pub fn merge_agreeing(alloc: Global, plan: &MergePlan, inputs: &[&[u8]]) -> Result<MergeOutcome>
-    ensures { MatchResult result
-        (IsMerged (map (λ x. x.now) inputs.now) plan.now)
-        (AgreeingRefusal V3 (map (λ x. x.now) inputs.now) plan.now) }
-{
-    let merged = merge_or_disagreements(alloc, plan, inputs, FormatVersion::V3)?;
-    match merged {
-        AgreeingMerge::Bytes(bytes) => Ok(MergeOutcome::Bytes(bytes)),
-        AgreeingMerge::Disagreements(found) => Ok(MergeOutcome::Disagreement(found[0])),
-        AgreeingMerge::Malformed(found) => Ok(MergeOutcome::Malformed(found)),
-    }
 }

@@ -18,7 +18,7 @@ ghost use Rattle.shard_merging.specs.Trees.RangeTrees.{IsRangeOf, RangeWrites, R
 use crate::merging::trees::inputs::open_input;
 use crate::merging::trees::parts::{PlacedShard, TreePart, unite_parts};
 use crate::merging::trees::placed::copy_of;
-use crate::merging::trees::versions::{fill_with_part_in, part_bytes_in};
+use crate::merging::trees::versions::fill_with_part_in;
 use bumpalo::Bump;
 use std::alloc::Global;
 use std::cmp::Ordering;
@@ -71,7 +71,9 @@ fn is_before(to: &Option<MerkleHash>, hash: &MerkleHash) -> bool
 /// Unites the records in a range of the inputs at the leaves of a tree, as
 /// [`shard_union_tree`](xet_core_structures::set_operations::shard_union_tree) unites all records. Files and xorbs are each taken
 /// by their own hash. The result has this version, all tables, creation 0, no expiry and the key
-/// that the inputs at the leaves have; a tree of one leaf is written so too, and not copied.
+/// that the inputs at the leaves have; a tree of one leaf is written so too, and not copied. Its
+/// bytes are written to the front of a slice, if they fit, and their number is returned. If they
+/// don't fit, or if the call fails, the slice stays as it is.
 ///
 /// If the inputs hold well-formed shards under one key that agree pairwise, the result holds, under
 /// this key, the records of their join in the range, and may be merged again. So ranges that follow
@@ -83,29 +85,6 @@ fn is_before(to: &Option<MerkleHash>, hash: &MerkleHash) -> bool
 /// and of a union of the records in it, are those of [`shard_set_union`](xet_core_structures::set_operations::shard_set_union).
 /// `InvalidArguments` too if the result has an auxiliary row, and the version is 2, which has none.
 /// `OutOfMemory` if an allocation fails.
-pub fn merge_range(
-    alloc: Global,
-    plan: &MergePlan,
-    inputs: &[&[u8]],
-    range: &HashRange,
-    version: FormatVersion,
-) -> Result<Vec<u8>>
-    ensures any_bytes { MatchResult result
-        (λ bytes. MadeIn version
-        (RangeWrites range.now (map (λ x. x.now) inputs.now) plan.now) bytes.items)
-        (RefusedIn version (RangeWrites range.now (map (λ x. x.now) inputs.now) plan.now)
-        (RangeRefusal range.now (map (λ x. x.now) inputs.now) plan.now)) }
-    ensures one_byte_string { (key : DataHash) → (shards : List Shard) → (join part : Shard)
-        → IsRangeMerge range.now key (map (λ x. x.now) inputs.now) plan.now shards join part
-        → MatchResult result (λ bytes. MadeIn version (IsHeldLayout key part) bytes.items)
-        (RefusedIn version (IsHeldLayout key part) (MergeRefused part)) }
-{
-    merge(alloc, plan, inputs, range, version)
-}
-
-/// Writes the bytes that [`merge_range`] makes to the front of a slice, if they fit, and returns
-/// their number. If they don't, or if the call fails, the slice stays as it is. The errors are the
-/// same.
 pub fn merge_range_into(
     alloc: Global,
     plan: &MergePlan,
@@ -124,25 +103,6 @@ pub fn merge_range_into(
         (RefusedIn version (IsHeldLayout key part) (MergeRefused part)) out.old out.new result }
 {
     merge_into(alloc, plan, inputs, range, version, out)
-}
-
-// `merge_range` without its clause on inputs that agree.
-fn merge<'a>(
-    alloc: Global,
-    plan: &MergePlan,
-    inputs: &'a [&'a [u8]],
-    range: &HashRange,
-    version: FormatVersion,
-) -> Result<Vec<u8>>
-    ensures { MatchResult result
-        (λ bytes. MadeIn version
-        (RangeWrites range.now (map (λ x. x.now) inputs.now) plan.now) bytes.items)
-        (RefusedIn version (RangeWrites range.now (map (λ x. x.now) inputs.now) plan.now)
-        (RangeRefusal range.now (map (λ x. x.now) inputs.now) plan.now)) }
-{
-    let arena = Bump::new(alloc);
-    let part = place_range(alloc, &arena, plan, inputs, *range)?;
-    part_bytes_in(alloc, part, version)
 }
 
 // `merge_range_into` without its clause on inputs that agree.
