@@ -137,6 +137,7 @@ impl Run<'_> {
         let shard = minimal_shard(self.alloc, &mut self.first, parts)?;
         match command {
             "minimal_sums" => Ok(show_sums(&shard, out)?),
+            "dropmin_sizes" => Ok(show_sizes_without_aux(&shard, out)?),
             "minimal_records" => show_records(&shard.try_clone(self.alloc)?, self.alloc, out),
             _ => {
                 let hashes = shard.global_dedup_eligible_chunks(self.alloc)?;
@@ -181,6 +182,12 @@ fn show_sums(shard: &MDBMinimalShard, out: &mut Vec<u8>) -> io::Result<()> {
     )?;
     let with = shard.serialized_size(true);
     let without = shard.serialized_size(false);
+    writeln!(out, "bytes {with} {without}")
+}
+
+fn show_sizes_without_aux(shard: &MDBMinimalShard, out: &mut Vec<u8>) -> io::Result<()> {
+    let with = shard.serialized_size_without_aux(true);
+    let without = shard.serialized_size_without_aux(false);
     writeln!(out, "bytes {with} {without}")
 }
 

@@ -46,7 +46,7 @@ impl Run<'_> {
             }
             ["search", _, numbers @ ..] => self.search(numbers, out),
             [
-                "minimal_sums" | "minimal_records" | "minimal_eligible",
+                "minimal_sums" | "dropmin_sizes" | "minimal_records" | "minimal_eligible",
                 _,
                 parts,
             ] => { self.show_minimal(words[0], parts, out) }
@@ -96,6 +96,14 @@ impl Run<'_> {
         }
         match (command, arguments) {
             ("ranges", []) => Ok(show_ranges(info, out)?),
+            ("num_bytes", []) => {
+                let count = info.num_bytes(alloc)?;
+                Ok(writeln!(out, "{count}")?)
+            }
+            ("num_chunks", []) => {
+                let count = info.total_num_chunks();
+                Ok(writeln!(out, "{count}")?)
+            }
             ("read_files", []) => show!(read_all_file_info_sections),
             ("read_xorbs", []) => show!(read_all_xorb_blocks_full),
             ("read_xorb_headers", []) => show!(read_all_xorb_blocks),

@@ -66,7 +66,9 @@ fn kind_of(words: &[&str]) -> Kind {
         "copy_minimal" | "copy_dropmin" | "copy_subset" => Kind::WritingMinimal,
         "append" | "write" | "write2" => Kind::Writing,
         "read" => Kind::ReadingValue,
-        "minimal_sums" | "minimal_records" | "minimal_eligible" => Kind::ReadingOn,
+        "minimal_sums" | "dropmin_sizes" | "minimal_records" | "minimal_eligible" => {
+            Kind::ReadingOn
+        }
         "copy_eligible" | "eligible_chunks" => Kind::ReadingOn,
         _ => Kind::Reading,
     }

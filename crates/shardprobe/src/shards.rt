@@ -11,7 +11,8 @@ use std::io::Write;
 use xet_core_structures::merklehash::MerkleHash;
 
 impl Probe {
-    /// Runs a command that makes a shard of others. `false` if the words are no such command.
+    /// Runs a command that makes a shard of others, or counts the size of one. `false` if the words
+    /// are no such command.
     pub fn run_on_shards(&mut self, words: &[&str]) -> Result<bool, Stop> {
         match words {
             ["union_in_memory", first, second, name] => self.put_union(first, second, name),
@@ -19,6 +20,10 @@ impl Probe {
                 self.put_difference(first, second, name)
             }
             ["copy", from, name] => self.put_copy(from, name),
+            ["recount", name] => {
+                self.shard_mut(name)?.recalculate_shard_size();
+                Ok(())
+            }
             _ => return Ok(false),
         }?;
         Ok(true)

@@ -16,7 +16,7 @@ use std::io::{self, ErrorKind, Write};
 use xet_core_structures::error::CoreError;
 use xet_core_structures::file_structs::FileDataSequenceHeader;
 use xet_core_structures::merklehash::{MerkleHash, keyed_hash};
-use xet_core_structures::utils::{parse_shard_filename, shard_file_name};
+use xet_core_structures::utils::{parse_shard_filename, shard_expiry_time, shard_file_name};
 use xet_core_structures::xorb_structs::XorbChunkSequenceEntry;
 
 impl Probe {
@@ -31,7 +31,12 @@ impl Probe {
             ["hash_bytes", key, count] => show_hash_bytes(alloc, key, count, out),
             ["name", hash] => show_name(alloc, hash, out),
             ["parse_name", text] => Ok(show_line(&parse_shard_filename(text), out)?),
+            ["expiry", now, valid_seconds] => show_expiry(now, valid_seconds, out),
             ["error", kind, text @ ..] => show_error(alloc, kind, text, out),
+            ["error_of", "other", text] => Err(Stop::Refused(CoreError::other(alloc, text))),
+            ["error_of", "invalid_shard", text] => {
+                Err(Stop::Refused(CoreError::invalid_shard(alloc, text)))
+            }
             _ => return Ok(false),
         }?;
         Ok(true)
@@ -50,6 +55,7 @@ impl Probe {
         let alloc = self.alloc;
         match words {
             ["flags", first, second] => show_compared(first, second, out),
+            ["rows_after", record @ ..] => show_rows_after(alloc, record, out),
             ["merge_files", records @ ..] => show_merged(alloc, records, out),
             ["clone_file", record @ ..] => show_cloned_file(alloc, record, out),
             ["clone_xorb", record @ ..] => show_cloned_xorb(alloc, record, out),
@@ -136,6 +142,11 @@ fn show_name(alloc: Global, hash: &str, out: &mut Vec<u8>) -> Result<(), Stop> {
     Ok(writeln!(out, "{name}")?)
 }
 
+fn show_expiry(now: &str, valid_seconds: &str, out: &mut Vec<u8>) -> Result<(), Stop> {
+    let expiry = shard_expiry_time(parse_u64(now)?, parse_u64(valid_seconds)?)?;
+    Ok(writeln!(out, "{expiry}")?)
+}
+
 // Prints the four words of a hash in decimal.
 fn show_words(hash: MerkleHash, out: &mut Vec<u8>) -> io::Result<()> {
     show_joined("", &[hash[0], hash[1], hash[2], hash[3]], " ", out)?;
@@ -154,6 +165,16 @@ fn header_with(file_flags: u32) -> FileDataSequenceHeader {
         file_flags,
         ..FileDataSequenceHeader::default()
     }
+}
+
+// `Unreadable` if the rows are more than 32 bits count: then the call may not be made.
+fn show_rows_after(alloc: Global, record: &[&str], out: &mut Vec<u8>) -> Result<(), Stop> {
+    let file = parse_file(alloc, record, Form::Full)?;
+    if file.metadata.rows_after() > u64::from(u32::MAX) {
+        return Err(Stop::Unreadable);
+    }
+    let rows = file.metadata.num_info_entry_following();
+    Ok(writeln!(out, "{rows}")?)
 }
 
 // Prints the first of two records after the other is merged into it. `Unreadable` if they are not of

@@ -66,6 +66,8 @@ fn show_file_view(
     match call {
         [] => show_answer(Ok(*view.header()), out),
         ["bytes"] => show_data(view, alloc, out),
+        ["size", "with"] => show_size(view, true, out),
+        ["size", "without"] => show_size(view, false, out),
         ["serialize", "with"] => show_serialized(view, alloc, true, out),
         ["serialize", "without"] => show_serialized(view, alloc, false, out),
         ["to_info"] => show_answer(view.to_info(alloc), out),
@@ -76,6 +78,11 @@ fn show_file_view(
 
 fn show_data(view: &MDBFileInfoView, alloc: Global, out: &mut Vec<u8>) -> Result<(), Stop> {
     Ok(show_bytes(alloc, view.bytes()?.as_slice(), out)?)
+}
+
+fn show_size(view: &MDBFileInfoView, verification: bool, out: &mut Vec<u8>) -> Result<(), Stop> {
+    let size = view.byte_size(verification);
+    Ok(writeln!(out, "{size}")?)
 }
 
 fn show_serialized(
