@@ -13,7 +13,8 @@ use Rattle.std.specs.FinMap.{values}
 use Rattle.xet_shards.specs.Content.Shard.{Shard, IsShard}
 use Rattle.xet_shards.specs.Write.WrittenShard.{IsBytesOf, IsBytesWithoutExpiry}
 use Rattle.xet_shards.specs.Ends.Ends.{FitsFooter, FormatCase, IsUnsupported, IsTooShort}
-use Rattle.xet_shards.specs.Write.Layout.{LayoutOptions, plain_options, footer_value, layout_of, layout}
+use Rattle.xet_shards.specs.declared.shard_format.ends.options.LayoutOptions.{LayoutOptions}
+use Rattle.xet_shards.specs.Write.Layout.{plain_options, footer_value, layout_of, layout}
 use Rattle.xet_records.specs.Limits.{MAX_ROWS}
 use Rattle.xet_shards.specs.Write.Section.{total_rows}
 use Rattle.xet_base.specs.declared.error.CoreError.TheVariants.{InvalidArguments}

@@ -31,7 +31,8 @@ use Rattle.xet_shards.specs.Write.Ranges.{chunk_row_later}
 use Rattle.xet_shards.specs.Write.Section.{total_rows, with_fronts}
 use Rattle.std.specs.List.{enumerate_from}
 use Rattle.xet_records.specs.declared.xorb_structs.XorbChunkSequenceEntry.{XorbChunkSequenceEntry}
-use Rattle.xet_shards.specs.Write.Tables.{ChunkTableRow, starts, table_bytes, chunk_table, chunk_table_rows_from, chunk_table_rows, chunk_table_bytes}
+use Rattle.xet_shards.specs.declared.shard_format.write.xorb_writer.ChunkTableRow.{ChunkTableRow}
+use Rattle.xet_shards.specs.Write.Tables.{starts, table_bytes, chunk_table, chunk_table_rows_from, chunk_table_rows, chunk_table_bytes}
 use Rattle.xet_shards.proofs.ShardInMemory.Walks.{flat_map-push}
 use Rattle.shard_merging.proofs.InARow.Permutations.{sum_through}
 use Rattle.shard_merging.proofs.InARow.SectionParts.{map-push}

@@ -30,7 +30,8 @@ use Rattle.xet_shards.specs.Ends.Ends.{FitsFooter}
 use Rattle.xet_shards.specs.Write.Section.{section_bytes, total_rows}
 use Rattle.xet_records.specs.Limits.{MAX_ROWS}
 use Rattle.shard_merging.proofs.InARow.RowShard.{row_of}
-use Rattle.xet_shards.specs.Write.Tables.{ChunkTableRow, table_bytes, chunk_table_rows, chunk_table_bytes, chunk_table_row_bytes}
+use Rattle.xet_shards.specs.declared.shard_format.write.xorb_writer.ChunkTableRow.{ChunkTableRow}
+use Rattle.xet_shards.specs.Write.Tables.{table_bytes, chunk_table_rows, chunk_table_bytes, chunk_table_row_bytes}
 use Rattle.xet_shards.proofs.Write.ChunkSorting.{sorted_is_table}
 use Rattle.xet_shards.proofs.Write.XorbLayouts.{xorb_rows-chunks, length-chunk_table, length-with_options, length-chunk_table_rows}
 use Rattle.xet_shards.proofs.Write.Sections.{fits_ever, files_fit_in, xorbs_fit}

@@ -16,7 +16,8 @@ use Rattle.shard_merging.specs.declared.in_a_row.part_split.SplitShard.{SplitSha
 use Rattle.xet_shards.specs.Ends.Ends.{HasHeaderAndFooter}
 use Rattle.shard_merging.specs.InARow.{ShardPart, options_in, bytes_of_part, IsPartUnder}
 use Rattle.shard_merging.specs.Steps.InARow.{HasRanges, IsSplit, IsSplitOf}
-use Rattle.xet_shards.specs.Write.Layout.{LayoutOptions, footer_value, header_value, info_of, shard_header_bytes, shard_footer_bytes, layout_of}
+use Rattle.xet_shards.specs.declared.shard_format.ends.options.LayoutOptions.{LayoutOptions}
+use Rattle.xet_shards.specs.Write.Layout.{footer_value, header_value, info_of, shard_header_bytes, shard_footer_bytes, layout_of}
 use Rattle.xet_shards.specs.Write.Section.{total_rows, section_bytes}
 use Rattle.xet_shards.specs.Write.Tables.{table_bytes, chunk_table_bytes}
 use Rattle.xet_shards.proofs.Ends.EndsUnique.{only_info, ends_of_layout}

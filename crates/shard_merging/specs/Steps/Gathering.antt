@@ -14,7 +14,8 @@ use Rattle.shard_merging.specs.InARow.{ShardPart, files_in, xorbs_in}
 use Rattle.shard_merging.specs.Steps.InARow.{HoldSections}
 use Rattle.shard_merging.specs.Steps.ChunkMerging.{HoldsRows, rows_held}
 use Rattle.xet_shards.specs.Write.Section.{total_rows}
-use Rattle.xet_shards.specs.Write.Tables.{ChunkTableRow, chunk_table_rows}
+use Rattle.xet_shards.specs.declared.shard_format.write.xorb_writer.ChunkTableRow.{ChunkTableRow}
+use Rattle.xet_shards.specs.Write.Tables.{chunk_table_rows}
 
 -- the new sums are the old ones and the numbers of one part more
 pub record AddsPart (old : Totals) (split : SplitShard) (new : Totals) : Type 0 where

@@ -7,7 +7,7 @@ use Rattle.shard_merging.specs.declared.in_a_row.table_merge.TableMerge.{TableMe
 use Rattle.shard_merging.specs.declared.in_a_row.table_merge.TableMerge.TheVariants.{Few, Many}
 use Rattle.shard_merging.specs.Steps.ChunkMerging.{HoldsRows, rows_held, HoldFew, HaveLeft}
 use Rattle.xet_shards.specs.Write.Layout.{shard_header_bytes, shard_footer_bytes}
-use Rattle.xet_shards.specs.Write.Tables.{ChunkTableRow}
+use Rattle.xet_shards.specs.declared.shard_format.write.xorb_writer.ChunkTableRow.{ChunkTableRow}
 
 -- bytes were put at an offset, up to another, behind what stands before it
 abbrev pub Puts : (old new : List ℕ) (at end : ℕ) → List ℕ → Type 0
