@@ -136,7 +136,8 @@ def test_files_that_are_no_shards():
     ):
         with file_of(content) as path:
             error = refused(name, xet_shards.open, path)
-            assert str(error) == str(refused(name, xet_shards.load, content))
+            assert str(error) == f"{os.fspath(path)}: {refused(name, xet_shards.load, content)}"
+            assert error.path == os.fspath(path)
             assert os.fspath(path) not in pathlib.Path("/proc/self/maps").read_text()
     with tempfile.TemporaryDirectory() as folder:
         raises(IsADirectoryError, xet_shards.open, folder)

@@ -14,6 +14,7 @@ _IO = 1
 _INTERNAL_ERROR = 2
 _INVALID_SHARD = 11
 _INVALID_ARGUMENTS = 13
+_OUT_OF_MEMORY = 18
 _SHORT = 19
 _DISAGREE = 20
 _MALFORMED = 21
@@ -42,27 +43,33 @@ class XetError(Exception):
 
     `index` is the place, in the list of a merge, of the first shard that is the cause by itself, or whose key is not
     that of the first; it is None where several are the cause together, and of other calls. `reason` says why the call
-    does not admit its arguments, if the error is `InvalidArguments`.
+    does not admit its arguments, if the error is `InvalidArguments`. `path` is that of the file of the shard, if the
+    call was given one.
 
     As text it is a sentence, with the name at its end.
     """
 
     __module__ = __package__
 
-    def __init__(self, number: int, index: Optional[int] = None, reason: Optional[str] = None) -> None:
+    def __init__(
+        self, number: int, index: Optional[int] = None, reason: Optional[str] = None, path: Optional[str] = None
+    ) -> None:
         self.number = number
         self.index = index
+        self.path = path
         self.reason = reason if number == _INVALID_ARGUMENTS else None
         self.name = _NAMES[number - 1] if 1 <= number <= len(_NAMES) else "Unknown"
-        super().__init__(number, index, self.reason)
+        super().__init__(number, index, self.reason, path)
 
     def __str__(self) -> str:
         place = "" if self.index is None else f"the shard at {self.index}: "
+        if self.path is not None:
+            place = f"{self.path}: "
         sentence = self.reason or _SENTENCES.get(self.name, f"the library returns {self.number}")
         return f"{place}{sentence} ({self.name})"
 
     def __reduce__(self) -> Tuple[Any, ...]:
-        return XetError, (self.number, self.index, self.reason)
+        return XetError, (self.number, self.index, self.reason, self.path)
 
 
 @dataclass(frozen=True)
@@ -81,21 +88,27 @@ class Disagreement:
 
 
 class DisagreementError(XetError):
-    """Shards that have to agree do not: `disagreement` is the first that `find_disagreements` lists."""
+    """Shards that have to agree do not: `disagreement` is the first that `find_disagreements` lists.
+
+    `paths` are those of the two shards, if the call was given paths.
+    """
 
     __module__ = __package__
 
-    def __init__(self, disagreement: Disagreement) -> None:
+    def __init__(self, disagreement: Disagreement, paths: Optional[Tuple[str, str]] = None) -> None:
         super().__init__(_DISAGREE)
         self.disagreement = disagreement
+        self.paths = paths
 
     def __str__(self) -> str:
         it = self.disagreement
+        if self.paths:
+            return f"{self.paths[0]} and {self.paths[1]} do not agree on {it.kind} {it.hash} ({self.name})"
         count = f", one of {it.count} hashes that find_disagreements lists" if it.count > 1 else ""
         return f"the shards at {it.first} and {it.second} do not agree on {it.kind} {it.hash}{count} ({self.name})"
 
     def __reduce__(self) -> Tuple[Any, ...]:
-        return DisagreementError, (self.disagreement,)
+        return DisagreementError, (self.disagreement, self.paths)
 
 
 @dataclass(frozen=True)
@@ -116,16 +129,17 @@ class MalformedError(XetError):
 
     __module__ = __package__
 
-    def __init__(self, record: MalformedRecord) -> None:
-        super().__init__(_MALFORMED, record.index)
+    def __init__(self, record: MalformedRecord, path: Optional[str] = None) -> None:
+        super().__init__(_MALFORMED, record.index, path=path)
         self.record = record
 
     def __str__(self) -> str:
         it = self.record
-        return f"the shard at {it.index} has a record that no shard may have, of {it.kind} {it.hash} ({self.name})"
+        shard = f"the shard at {it.index}" if self.path is None else self.path
+        return f"{shard} has a record that no shard may have, of {it.kind} {it.hash} ({self.name})"
 
     def __reduce__(self) -> Tuple[Any, ...]:
-        return MalformedError, (self.record,)
+        return MalformedError, (self.record, self.path)
 
 
 def _reason_of(version: int) -> str:

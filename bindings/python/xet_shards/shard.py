@@ -4,7 +4,7 @@ from __future__ import annotations
 import builtins
 import mmap
 import os
-from typing import Iterator, List, Optional, Sequence, Tuple, TypeVar, Union
+from typing import Any, Iterator, List, Optional, Sequence, Tuple, TypeVar, Union
 
 from ._checking import Finding, check
 from ._errors import _INTERNAL_ERROR, _IO, XetError
@@ -23,8 +23,8 @@ _Record = TypeVar("_Record")
 def open(path: Path) -> Shard:
     """Maps the file of a shard to memory, and reads its header and footer.
 
-    The errors are those of opening a file, and those of `load` of its bytes: `Io` also of an empty file. `check` says
-    more of bytes that are no shard.
+    The errors are those of opening a file, and those of `load` of its bytes, with the path: `Io` also of an empty file.
+    `check` says more of bytes that are no shard.
     """
     return Shard(path)
 
@@ -33,8 +33,9 @@ class Shard(_Mapped):
     """A shard in a file, which `open` maps to memory. It is a context manager, which closes it at its end.
 
     A method does what the function of its name does with the bytes. A shard can also be given to any function that
-    takes the bytes of one, as to `merge`, and be added to an `Index`. `find_xorb` has no such function: it is made of
-    `find_rows` and `xorb_at`, and no part of the library that is proved.
+    takes the bytes of one, as to `merge`, and be added to an `Index`. Pickled it is its path, which is opened where it
+    is unpickled. `find_xorb` has no such function: it is made of `find_rows` and `xorb_at`, and no part of the library
+    that is proved.
 
     When it is closed, all but `close`, `closed` and `path` is a `ValueError`, and so is going on with `files` and
     `xorbs`. If a call in another thread, such a walk, or a `memoryview` of `buffer` still has the bytes, they stay
@@ -43,13 +44,16 @@ class Shard(_Mapped):
 
     def __init__(self, path: Path) -> None:
         self.path = path
-        with builtins.open(path, "rb") as file:
-            if os.fstat(file.fileno()).st_size == 0:
-                # It can't be mapped, and this is the error of its bytes.
-                load(b"")
-            self._map: Optional[mmap.mmap] = mmap.mmap(file.fileno(), 0, access=mmap.ACCESS_READ)
+        self._map: Optional[mmap.mmap] = None
         try:
-            self._info = load(self._map)
+            with builtins.open(path, "rb") as file:
+                # An empty file can't be mapped, and its error is that of its bytes.
+                if os.fstat(file.fileno()).st_size:
+                    self._map = mmap.mmap(file.fileno(), 0, access=mmap.ACCESS_READ)
+            self._info = load(self._map or b"")
+        except XetError as error:
+            self.close()
+            raise XetError(error.number, path=os.fsdecode(path)) from None
         except BaseException:
             self.close()
             raise
@@ -68,6 +72,10 @@ class Shard(_Mapped):
     def closed(self) -> bool:
         """Whether it is closed."""
         return self._map is None
+
+    def __reduce__(self) -> Tuple[Any, ...]:
+        self._check_open()
+        return type(self), (self.path,)
 
     def __enter__(self) -> Shard:
         self._check_open()
