@@ -186,7 +186,7 @@ def check_replaced(tree):
 
 def check_python(tree, page, block):
     """A block of Python in a page runs."""
-    modules = sorted(set(re.findall(r"\b(?:numpy|pandas)\b", block)))
+    modules = sorted(set(re.findall(r"\b(?:distributed|numpy|pandas)\b", block)))
     why = f"no Python here has {' and '.join(modules)}, so a block of Python in {page} was not run"
     python = python_for(f"import {', '.join(['sys', *modules])}", why)
     return tree.run(page, python, "-c", PYTHON + block, PYTHONPATH="bindings/python")

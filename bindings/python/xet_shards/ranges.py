@@ -1,4 +1,4 @@
-"""Merges in threads: each thread merges a range of hashes."""
+"""Merges by ranges of hashes, as in threads: each thread merges a range."""
 from __future__ import annotations
 
 import ctypes
@@ -10,8 +10,8 @@ from typing import Any, Iterator, List, NamedTuple, Optional, Sequence, Tuple
 
 from ._arguments import _words
 from ._calls import _library
-from ._errors import XetError, _check
-from ._memory import Buffer, WritableBuffer, _Addresses, _advise_large_pages, _list, _output_apart
+from ._errors import _OUT_OF_MEMORY, XetError, _check
+from ._memory import Buffer, WritableBuffer, _Addresses, _advise_large_pages, _list, _made, _output_apart
 from ._merging import _merge_in_to, _range, find_disagreement, find_malformed
 from ._structs import _ROW, _Info, _Range, _Rows
 
@@ -108,6 +108,34 @@ def _range_ends(shards: Sequence[Buffer], asked: _Range) -> Any:
     return ends
 
 
+def merge_found_rows(shard: Buffer, start: Optional[str], stop: Optional[str]) -> Optional[bytes]:
+    """Returns the merge of one shard in a range, of the rows between its ends as the tables of the shard tell them.
+
+    It is None if the rows hold anything but whole records of the range, or if another error comes. If it is not None
+    for each of some ranges that follow one another, the first without `start` and the last without `stop`, then all are
+    what merges of the ranges are: rows that one lacks another would have, and refuse.
+    """
+    low, high = (None if it is None else tuple(_words(it)) for it in (start, stop))
+    asked, none, rows = _range(low, high), (_Rows * 1)(), 2
+    try:
+        starts = none if low is None else _range_ends([shard], _range(None, low))
+        ends = _range_ends([shard], asked)
+        for it in ("file", "xorb"):
+            rows += max(getattr(ends[0], it) - getattr(starts[0], it), 0)
+        with _Addresses(shard) as data:
+            # As in xet_union_room of xet.h, for these rows and two bookends, of which a shard has no more than bytes.
+            return _made(
+                min(_ROW * rows, data[0][1]) // 3 * 8,
+                lambda out, size, written: _library.xet_merge_rows(
+                    _list(data), 1, starts, 1, ends, 1, byref(asked), out, size, byref(written)
+                ),
+            )
+    except XetError as error:
+        if error.number == _OUT_OF_MEMORY:
+            raise
+        return None
+
+
 def _range_merge(shards: Sequence[Buffer], call: Any, arguments: Sequence[Any], room: int) -> memoryview:
     # Pages that no one writes to cost nothing, and the system reserves no memory for them.
     out, written = mmap.mmap(-1, room, flags=mmap.MAP_PRIVATE | mmap.MAP_ANONYMOUS | _MAP_NORESERVE), c_size_t()
@@ -130,13 +158,16 @@ def cuts(
     return sorted({hashes[len(hashes) * at // ranges] for at in range(1, ranges)})
 
 
-def _sample(data: Sequence[Tuple[int, int]]) -> Iterator[Words]:
-    """Gives hashes of records of the shards. How often a record is among them is in proportion to its size."""
+def _sample(data: Sequence[Tuple[int, int]], samples: int = _SAMPLE, number: int = 0) -> Iterator[Words]:
+    """Gives so many hashes of records of the shards. How often a record is among them is in proportion to its size.
+
+    The number says how many were given of other shards, so that all are spread evenly.
+    """
     size = sum(length for _, length in data) or 1
-    before, number, info = 0, 0, _Info()
+    before, info = 0, _Info()
     for address, length in data:
         # How many of the points that are spread evenly over all bytes are in this shard.
-        count = (before + length) * _SAMPLE // size - before * _SAMPLE // size
+        count = (before + length) * samples // size - before * samples // size
         before += length
         if not count or _library.xet_load(address, length, byref(info)):
             continue
