@@ -23,7 +23,7 @@ use xet_core_structures::record_reader::FormatVersion;
 /// `InvalidArguments` if the list is empty, or the keys of shards that agree differ. Else the errors
 /// are those of [`find_disagreements`](shard_merging::find_disagreements) and
 /// [`merge_bytes`](crate::merge::merge_bytes).
-#[tactic(auto, using(xet_core_structures::proofs::Trees::InVersions::refused_in_version))]
+#[tactic(auto, using(shard_merging::proofs::Trees::InVersions::refused_in_version))]
 pub fn merge_agreeing_bytes(
     alloc: Global,
     shards: &[&[u8]],
@@ -45,7 +45,7 @@ pub fn merge_agreeing_bytes(
 /// Writes the bytes that [`merge_agreeing_bytes`] makes to the front of a slice, if they fit, and
 /// returns their number. If they don't, if it makes none, or if the call fails, the slice stays as
 /// it is. The errors are the same.
-#[tactic(auto, using(xet_core_structures::proofs::Trees::InVersions::refused_in_version))]
+#[tactic(auto, using(shard_merging::proofs::Trees::InVersions::refused_in_version))]
 pub fn merge_agreeing_bytes_into(
     alloc: Global,
     shards: &[&[u8]],

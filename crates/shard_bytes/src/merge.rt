@@ -23,7 +23,7 @@ use xet_core_structures::set_operations::MergePlan;
 /// and any other order give the same bytes. They are at most 344 and 8/3 of the inputs' bytes.
 ///
 /// `InvalidArguments` if the list is empty. Else the errors are those of [`shard_union_tree_in`].
-#[tactic(auto, using(xet_core_structures::proofs::Trees::InVersions::refused_in_version))]
+#[tactic(auto, using(shard_merging::proofs::Trees::InVersions::refused_in_version))]
 pub fn merge_bytes(alloc: Global, shards: &[&[u8]], version: FormatVersion) -> Result<Vec<u8>>
     ensures any_bytes { MatchResult result
         (λ bytes. MadeIn version (MergesBytes (map (λ x. x.now) shards.now)) bytes.items)
@@ -46,7 +46,7 @@ pub fn merge_bytes(alloc: Global, shards: &[&[u8]], version: FormatVersion) -> R
 /// Writes the bytes that [`merge_bytes`] makes to the front of a slice, if they fit, and returns
 /// their number. If they don't, or if the call fails, the slice stays as it is. The errors are the
 /// same.
-#[tactic(auto, using(xet_core_structures::proofs::Trees::InVersions::refused_in_version))]
+#[tactic(auto, using(shard_merging::proofs::Trees::InVersions::refused_in_version))]
 pub fn merge_into(
     alloc: Global,
     shards: &[&[u8]],
@@ -77,7 +77,7 @@ pub fn merge_into(
 /// are at most 344 and 8/3 of the inputs'.
 ///
 /// `InvalidArguments` if the list is empty. Else the errors are those of [`merge_range_into`].
-#[tactic(auto, using(xet_core_structures::proofs::Trees::InVersions::refused_in_version))]
+#[tactic(auto, using(shard_merging::proofs::Trees::InVersions::refused_in_version))]
 pub fn merge_range_bytes_into(
     alloc: Global,
     shards: &[&[u8]],

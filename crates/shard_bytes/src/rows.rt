@@ -32,7 +32,7 @@ use xet_core_structures::shard_format::START_ROW_SIZE;
 /// at most 344 and 8/3 of the shards'.
 ///
 /// `InvalidArguments` if the list is empty. Else the errors are those of [`merge_rows_into`].
-#[tactic(auto, using(xet_core_structures::proofs::Trees::InVersions::refused_in_version))]
+#[tactic(auto, using(shard_merging::proofs::Trees::InVersions::refused_in_version))]
 pub fn merge_rows_bytes_into(
     alloc: Global,
     shards: &[&[u8]],
