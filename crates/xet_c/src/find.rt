@@ -60,6 +60,7 @@ pub extern "C" fn xet_find_file(
 }
 
 /// The segments of what was found, for C.
+#[inline(always)]
 pub fn segments_found(alloc: Global, found: &Option<MDBFileInfo>) -> Result<Vec<XetFileSegment>>
     ensures ok { IfOk result (λ list. list.items ≡ segments_in found.now) }
     ensures causes { IfErr result (λ e. e ≡ CoreError.OutOfMemory) }
@@ -75,6 +76,7 @@ pub fn segments_found(alloc: Global, found: &Option<MDBFileInfo>) -> Result<Vec<
 }
 
 /// What the record that was found has, for C.
+#[inline(always)]
 pub fn file_of(found: &Option<MDBFileInfo>) -> XetFile
     ensures { result ≡ c_file found.now }
 {

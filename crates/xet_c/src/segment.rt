@@ -28,6 +28,7 @@ pub struct XetFileSegment {
 }
 
 /// The segments of a file with these verification rows, for C.
+#[inline(always)]
 pub fn segments_of(
     alloc: Global,
     entries: &[FileDataSequenceEntry],

@@ -74,6 +74,7 @@ pub extern "C" fn xet_file_at(
 }
 
 /// Shows what was found at a row, unless an allocation fails.
+#[inline(always)]
 pub fn show_file(
     alloc: Global,
     row: u32,

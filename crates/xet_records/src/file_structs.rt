@@ -289,6 +289,7 @@ impl SectionRecord for MDBFileInfo {
     }
 
     #[tactic(auto, unfolding(crate::specs::FileRecord::file_rows_bytes))]
+    #[inline(always)]
     fn read_rows_after<M, I: ByteInput<M>>(
         alloc: Global,
         input: &mut I,

@@ -137,6 +137,7 @@ pub trait SectionRecord {
 ///
 /// `UnexpectedEof` if fewer than 48 bytes are left, `InvalidShard` if the version does not have
 /// such a header, or the record has more rows than `rows_left`.
+#[inline(always)]
 pub fn read_header<R: SectionRecord, M, I: ByteInput<M>>(
     alloc: Global,
     input: &mut I,
@@ -164,6 +165,7 @@ pub fn read_header<R: SectionRecord, M, I: ByteInput<M>>(
 }
 
 // Whether a reader of this version refuses the header.
+#[inline(always)]
 fn refuses<R: SectionRecord>(version: FormatVersion, header: &R::Header) -> bool
     ensures { result ≡ (in_version R.kind version).refuses header.now }
 {
@@ -178,6 +180,7 @@ fn refuses<R: SectionRecord>(version: FormatVersion, header: &R::Header) -> bool
 ///
 /// `UnexpectedEof` if too few bytes are left, `InvalidShard` if the version does not have such a
 /// header, or the record has more rows than `rows_left`. May fail with `OutOfMemory`.
+#[inline(always)]
 pub fn read_record<R: SectionRecord, M, I: ByteInput<M>>(
     alloc: Global,
     input: &mut I,
