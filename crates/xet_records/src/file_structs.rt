@@ -294,12 +294,14 @@ impl SectionRecord for MDBFileInfo {
         alloc: Global,
         input: &mut I,
         header: FileDataSequenceHeader,
+        before: u64,
     ) -> Result<MDBFileInfo> {
-        let segments = row_reader::read_rows(alloc, input, header.num_entries)?;
+        let segments = row_reader::read_rows(alloc, input, header.num_entries, before)?;
         let verification = row_reader::read_rows(
             alloc,
             input,
             header.part_rows(OptionalPart::Verification),
+            before.saturating_add(u64::from(header.num_entries)),
         )?;
         let metadata_ext = row_reader::read_optional(input, header.contains_metadata_ext())?;
         let aux_ext = row_reader::read_optional(input, header.contains_aux_ext())?;

@@ -14,8 +14,9 @@
 //! bytes read two inputs, which may have different versions, in one loop, with a version beside
 //! each source (`SectionAt` has it beside a section's offset), and write version 3.
 
-ghost use Rattle.std.specs.Prelude.{◌≡◌, ◌≤◌, ◌<◌, ◌*◌, ◌^◌, ◌↔◌, IsTrue, MatchResult, MatchOption};
+ghost use Rattle.std.specs.Prelude.{◌≡◌, ◌≤◌, ◌<◌, ◌*◌, ◌-◌, ◌^◌, ◌↔◌, IsTrue, MatchResult, MatchOption};
 ghost use Rattle.xet_base.specs.Hash.{all_ones};
+ghost use Rattle.xet_records.specs.Limits.{MAX_ROWS};
 ghost use Rattle.xet_records.specs.RecordKind.{RecordKind, in_version, KindLaws, IsHeaderRow};
 ghost use Rattle.xet_records.specs.Version.{number_of, IsVersion, version_of};
 ghost use Rattle.xet_records.specs.Reading.{ReadsRowsAfter, ReadsNextHeader, ReadsNextRecord, NextRecordNotRead, ReadsRecords, StopsAfter};
@@ -103,12 +104,14 @@ pub trait SectionRecord {
     fn is_new(header: &Self::Header) -> bool
         ensures { result ≡ kind.is_new header.now };
 
-    /// Reads the rows that the header announces. `UnexpectedEof` if fewer are left. May fail with
-    /// `OutOfMemory`.
+    /// Reads the rows that the header announces. Memory is first taken for as many as `before`,
+    /// which is how many rows were read of the section before the record, or for 16.
+    /// `UnexpectedEof` if fewer are left. May fail with `OutOfMemory`.
     fn read_rows_after<M, I: ByteInput<M>>(
         alloc: Global,
         input: &mut I,
         header: Self::Header,
+        before: u64,
     ) -> Result<Self>
         ensures { MatchResult result (ReadsRowsAfter kind header (I.reads input.old input.new))
             (I.fails input.old input.new (48 * kind.rows_after header)) };
@@ -194,10 +197,18 @@ pub fn read_record<R: SectionRecord, M, I: ByteInput<M>>(
         (NextRecordNotRead (in_version R.kind version) I.reads I.fails rows_left.old input.old input.new) }
 {
     R::laws();
+    let before = rows_before(*rows_left);
     let Some(header) = read_header::<R, M, I>(alloc, input, version, rows_left)? else {
         return Ok(None);
     };
-    Ok(Some(R::read_rows_after(alloc, input, header)?))
+    Ok(Some(R::read_rows_after(alloc, input, header, before)?))
+}
+
+// How many rows were read of a section that may still have so many; 0 of a record by itself.
+pub(crate) fn rows_before(rows_left: u64) -> u64
+    ensures { result ≡ MAX_ROWS - rows_left }
+{
+    ROW_LIMIT.saturating_sub(rows_left)
 }
 
 /// Reads the records of a section up to its bookend.

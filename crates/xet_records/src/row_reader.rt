@@ -3,7 +3,7 @@
 ghost use Rattle.std.specs.Prelude.{◌*◌, List, MatchResult, IfOk, IfErr, IsTrue, if◌then◌else◌};
 ghost use Rattle.xet_records.specs.Rows.{ReadsRow, ReadsRows, ReadsOptional};
 
-use crate::rows::{ROW_SIZE, Row, Rows};
+use crate::rows::{ROW_SIZE, ROWS_AT_FIRST, Row, Rows};
 use std::alloc::Global;
 use std::io;
 use xet_base::error::Result;
@@ -21,19 +21,23 @@ pub fn read_input_row<T: Row, M, I: ByteInput<M>>(input: &mut I) -> io::Result<T
     Ok(T::from_bytes(&bytes))
 }
 
-/// Reads `count` rows. `UnexpectedEof` if fewer are left. May fail with `OutOfMemory`.
+/// Reads `count` rows. Memory is first taken for as many as `before`, which is how many rows were
+/// read of the section before these, or for 16. `UnexpectedEof` if fewer are left. May fail with
+/// `OutOfMemory`.
 pub fn read_rows<T: Row + Drop, M, I: ByteInput<M>>(
     alloc: Global,
     input: &mut I,
     count: u32,
+    before: u64,
 ) -> Result<Rows<T>>
     ensures { MatchResult result
         (ReadsRows T.row_bytes T.Fits T.as_read (I.reads input.old input.new) count)
         (I.fails input.old input.new (48 * count)) }
 {
-    let mut rows = Rows::new(alloc);
+    let first = before.max(ROWS_AT_FIRST).min(u64::from(count));
+    let mut rows = Rows::with_capacity(alloc, first as usize)?;
     for _row in 0..count {
-        rows.push_within(read_input_row(input)?, count as usize)?;
+        rows.push(read_input_row(input)?)?;
     }
     Ok(rows)
 }

@@ -32,6 +32,10 @@ pub const EMPTY_SIZE: u64 = 344;
 /// The most rows that a section may have.
 pub const ROW_LIMIT: u64 = u32::MAX as u64;
 
+// The rows that memory is taken for before any is read. What the bytes announce takes no more:
+// lists grow by what was read.
+pub(crate) const ROWS_AT_FIRST: u64 = 16;
+
 /// A list of rows, which contracts see as a list. Converting from and into a `Vec` does not
 /// allocate.
 #[derive(Debug, Drop)]
@@ -79,6 +83,18 @@ impl<T> Rows<T> {
         }
     }
 
+    // The empty list, with memory for so many rows. An allocation fails only if there are any.
+    pub(crate) fn with_capacity(
+        alloc: Global,
+        rows: usize,
+    ) -> std::result::Result<Rows<T>, AllocError>
+        ensures empty { IfOk result (λ made. made ≡ []) }
+        ensures some { IfErr result (λ _. 0 < rows) }
+    {
+        let items = Vec::with_capacity(alloc, rows)?;
+        Ok(Rows { items })
+    }
+
     /// The number of rows.
     pub fn len(&self) -> usize
         ensures { result ≡ length self.now }
@@ -113,27 +129,6 @@ impl<T> Rows<T> {
         ensures err { OnErr result (self.new ≡ self.old) }
     {
         self.items.push(row)
-    }
-}
-
-impl<T: Drop> Rows<T> {
-    // Appends a row of a list that will have at most so many. A list that is full first gets room
-    // for three more a row that it has, and for 16 at least. If it is out of memory, the list is
-    // unchanged.
-    pub(crate) fn push_within(&mut self, row: T, most: usize) -> std::result::Result<(), AllocError>
-        ensures ok { OnOk result (self.new ≡ self.old ++ row ∷ []) }
-        ensures err { OnErr result (self.new ≡ self.old) }
-    {
-        let rows = self.items.len();
-        if rows == self.items.capacity() {
-            let room = rows.saturating_mul(3).max(16);
-            self.items
-                .reserve_exact(most.saturating_sub(rows).min(room))?;
-        }
-        match self.items.push(row) {
-            Ok(()) => Ok(()),
-            Err(_) => Err(AllocError),
-        }
     }
 }
 

@@ -10,15 +10,14 @@ ghost use Rattle.xet_records.specs.ViewReading.{ReadsNextView};
 ghost use Rattle.xet_records.specs.Steps.ViewReading.{AddsRows, LacksMemory};
 ghost use Rattle.xet_records.specs.Limits.{MAX_ROWS};
 
-use crate::record_reader::{FormatVersion, SectionRecord, read_header};
-use crate::rows::{ROW_LIMIT, ROW_SIZE, Row};
+use crate::record_reader::{FormatVersion, SectionRecord, read_header, rows_before};
+use crate::rows::{ROW_LIMIT, ROW_SIZE, ROWS_AT_FIRST, Row};
 use bytes::{Bytes, BytesMut};
 use std::alloc::Global;
 use xet_base::error::Result;
 use xet_base::input::ByteInput;
 
-// The most rows that are read at once. The first are at most 16, and then as many as were read:
-// memory is reserved for no more, however many the bytes announce.
+// The most rows that are read at once.
 const ROWS_AT_ONCE: u64 = 1024;
 
 /// A view of a record of a section.
@@ -53,19 +52,23 @@ pub fn read_view<R: SectionRecord, V: RecordView<R>, M, I: ByteInput<M>>(
         (NextRecordNotRead (in_version R.kind version) I.reads I.fails rows_left.old input.old input.new) }
 {
     R::laws();
+    let before = rows_before(*rows_left);
     let Some(header) = read_header::<R, M, I>(alloc, input, version, rows_left)? else {
         return Ok(None);
     };
-    let bytes = read_row_bytes(buffer, input, &header.to_bytes(), R::rows_after(&header))?;
+    let count = R::rows_after(&header);
+    let bytes = read_row_bytes(buffer, input, &header.to_bytes(), count, before)?;
     Ok(Some(V::of_bytes(header, bytes)))
 }
 
-// These 48 bytes, and those of `count` rows that are read after them.
+// These 48 bytes, and those of `count` rows that are read after them. Of these as many are read at
+// once, and have memory reserved, as `before` and the rows so far are, or 16.
 fn read_row_bytes<M, I: ByteInput<M>>(
     buffer: &mut BytesMut,
     input: &mut I,
     first: &[u8],
     count: u64,
+    before: u64,
 ) -> Result<Bytes>
     ensures { MatchResult result
         (λ bytes. AddsRows (I.reads input.old input.new) count first.now bytes)
@@ -77,7 +80,8 @@ fn read_row_bytes<M, I: ByteInput<M>>(
     buffer.extend_from_slice(first)?;
     let mut done = 0;
     while done < count {
-        let rows = (count - done).min(done.max(16)).min(ROWS_AT_ONCE);
+        let most = before.saturating_add(done).max(ROWS_AT_FIRST);
+        let rows = (count - done).min(most).min(ROWS_AT_ONCE);
         append_rows(buffer, input, rows)?;
         done += rows;
     }

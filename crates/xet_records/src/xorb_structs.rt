@@ -381,8 +381,9 @@ impl SectionRecord for MDBXorbInfo {
         alloc: Global,
         input: &mut I,
         header: XorbChunkSequenceHeader,
+        before: u64,
     ) -> Result<MDBXorbInfo> {
-        let chunks = row_reader::read_rows(alloc, input, header.num_entries)?;
+        let chunks = row_reader::read_rows(alloc, input, header.num_entries, before)?;
         Ok(MDBXorbInfo {
             metadata: header,
             chunks,

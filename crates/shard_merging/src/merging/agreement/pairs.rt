@@ -66,7 +66,13 @@ pub fn read_placed<R: SectionRecord + Drop>(
 {
     R::laws();
     let mut rows = MemorySource::new(placed.rows);
-    match R::read_rows_after::<OfSource, MemorySource<'_>>(alloc, &mut rows, placed.header) {
+    let before = (placed.rows.len() / ROW_SIZE) as u64;
+    match R::read_rows_after::<OfSource, MemorySource<'_>>(
+        alloc,
+        &mut rows,
+        placed.header,
+        before,
+    ) {
         Ok(record) => Ok(record),
         Err(_) => Err(CoreError::OutOfMemory),
     }
