@@ -1,4 +1,6 @@
 """Runs checks, and counts them."""
+import tempfile
+
 from .common import Skip
 
 
@@ -29,3 +31,14 @@ class Checks:
             print(f"{name}: {why}")
         print(f"{self.passed} passed, {len(self.faults)} failed")
         return 1 if self.faults else 0
+
+
+def main(name, run_all):
+    """Runs checks in a room of their own, and returns the status to end with."""
+    checks = Checks()
+    with tempfile.TemporaryDirectory() as room:
+        try:
+            run_all(room, checks)
+        except Exception as error:
+            checks.faults.append(f"{type(error).__name__}: {error}")
+    return checks.report(name)

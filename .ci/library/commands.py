@@ -10,7 +10,7 @@ import sys
 from contextlib import ExitStack
 
 from .c import CC, WARNINGS
-from .common import BINDINGS, TOP, Skip, ran, read
+from .common import BINDINGS, LEFT_OUT, TOP, Skip, ran, read
 from .python import SONAME, builder, python_for
 from .rust import names, write_program
 
@@ -88,10 +88,13 @@ def check_listed():
     return f"no page has these commands: {stale}" if stale else None
 
 
-def write_files(folder, shard):
+def write_files(folder):
     """Writes the files that commands name, as docs/FORMAT.md has their bytes."""
+    sys.path.insert(0, f"{BINDINGS}/python/examples")
+    from made_shards import Shard
+
     for name, lines in RECORDS.items():
-        made = shard()
+        made = Shard()
         for line in lines:
             kind, *words = line.split()
             (made.add_file if kind == "file" else made.add_xorb)(*words)
@@ -104,16 +107,13 @@ def write_files(folder, shard):
 class Tree:
     """A copy of the repository, with what the gate has built, in which commands are run."""
 
-    def __init__(self, room, shard):
+    def __init__(self, room):
         self.room, self.folder = room, f"{room}/tree"
-        left_out = shutil.ignore_patterns(".git", "out", "target", "libxet.so*", "__pycache__")
-        shutil.copytree(TOP, self.folder, ignore=left_out)
+        shutil.copytree(TOP, self.folder, ignore=shutil.ignore_patterns(*LEFT_OUT))
         for path in ("xet_c/out/libxet_c.a", "xet_c/out/libxet_c.a.of", MDB):
             os.makedirs(os.path.dirname(f"{self.folder}/crates/{path}"), exist_ok=True)
-            # .ci/bindings may run alone, where only the library is built.
-            if path != MDB or os.path.exists(f"{TOP}/crates/{MDB}"):
-                shutil.copy(f"{TOP}/crates/{path}", f"{self.folder}/crates/{path}")
-        write_files(self.folder, shard)
+            shutil.copy(f"{TOP}/crates/{path}", f"{self.folder}/crates/{path}")
+        write_files(self.folder)
         self.variables = {
             **names(room, ""), "HASH": HASH, "XET_LIBRARY": "", "PYTHONPATH": "",
             "PATH": f"{self.folder}/bin:{self.folder}/crates/mdb/out:{os.environ['PATH']}",
@@ -146,8 +146,6 @@ def check_command(tree, page, command):
     for tool in ("cargo", "pkg-config"):
         if re.search(rf"\b{tool}\b", command) and not shutil.which(tool):
             raise Skip(f"{tool} is not there, so this command of {page} was not run: {command}")
-    if re.search(r"\bmdb\b", command) and not os.path.exists(f"{tree.folder}/crates/{MDB}"):
-        raise Skip(f"crates/{MDB} is not there, so this command of {page} was not run: {command}")
     if command.startswith("pip "):
         tree.give_pip()
     return tree.run(page, "sh", "-ec", command)
@@ -214,11 +212,11 @@ def check_c():
     return None
 
 
-def run_pages(checks, room, shard):
+def run_pages(checks, room):
     """Runs the commands and blocks of the pages that need no release."""
     checks.run(check_listed)
     checks.run(check_c)
-    tree = Tree(room, shard)
+    tree = Tree(room)
     for page in PAGES:
         for command in commands(page):
             if command not in NOT_RUN and command not in OF_RELEASE:
@@ -234,14 +232,12 @@ def check_release(release):
     """The commands of README.md and of release/README.md that use a release end well."""
     if ran(sys.executable, "-c", "import ensurepip, venv")[1]:
         raise Skip("this Python has no venv, so the commands of pages on a release were not run")
-    from made_shards import Shard
-
     folder = f"{release.room}/pages"
     os.makedirs(folder)
     for name in os.listdir(release.folder):
         os.symlink(f"{release.folder}/{name}", f"{folder}/{name}")
     os.symlink(release.top, f"{folder}/TOP")
-    write_files(folder, Shard)
+    write_files(folder)
     why = release.ran(sys.executable, "-m", "venv", "environment", cwd=folder)[1]
     named = {"PATH": f"{folder}/environment/bin:{release.path}", "PIP_NO_INDEX": "1"}
     for script in (*OF_RELEASE, "\n".join(it for it in commands(RELEASE) if it not in NOT_RUN)):

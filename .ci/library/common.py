@@ -1,4 +1,4 @@
-"""What the checks of .ci/bindings share."""
+"""What the checks of .ci share."""
 import os
 import re
 import subprocess
@@ -12,6 +12,10 @@ BELOW = f"{TOP}/crates/shard_merging/src/merging/rows.rt"
 ERRORS = f"{TOP}/crates/xet_base/src/error.rt"
 # From nothing, `rt lib` proves the crate again.
 SECONDS = 3600
+
+
+# No part of the sources: what is built, and the history.
+LEFT_OUT = (".git", "out", "target", "libxet.so*", "__pycache__")
 
 
 class Skip(Exception):
