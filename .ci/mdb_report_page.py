@@ -10,7 +10,8 @@ import shutil
 import subprocess
 import sys
 
-from mdb_system import Absent, wants
+from library.common import Skip
+from mdb_system import wants
 
 BROWSERS = ("chromium", "chromium-browser", "google-chrome")
 # Elements that may load something, and attributes that do.
@@ -67,7 +68,7 @@ class Page(html.parser.HTMLParser):
 
 def page_is_shown(place):
     if not browser():
-        raise Absent
+        raise Skip("chromium is not there")
     os.mkdir(place.path("in"))
     names = ("both.mdb", "left.mdb", "keyed.mdb", "minimal.mdb", "one_of_each.mdb", "text.mdb")
     for name in names:

@@ -13,8 +13,7 @@ import tempfile
 import threading
 import time
 
-TOP = os.path.dirname(os.path.dirname(os.path.realpath(__file__)))
-SKIPPED = "skipped"
+from library.common import TOP, OutOfReach, Skip
 
 
 class Place:
@@ -54,13 +53,9 @@ def wants(said, holds):
         raise AssertionError(said)
 
 
-class Absent(Exception):
-    """A row needs what is not here."""
-
-
 def needs_root():
     if os.geteuid() != 0:
-        raise Absent
+        raise OutOfReach("it needs root")
 
 
 def new_file_has_the_mode_of_others(place):
@@ -589,9 +584,14 @@ def pages_have_all_commands(place):
         ["bash", "-c", f". {place.path('pages/mdb.bash')}; {words}"], capture_output=True, check=True, timeout=20
     )
     wants("a word is completed", run.stdout == b"--strict\n")
+
+
+def shells_read_their_pages(place):
+    subprocess.run([f"{TOP}/.ci/mdb_pages", place.program, place.path("pages")], check=True, timeout=60)
     for shell, page in (("zsh", "_mdb"), ("fish", "mdb.fish")):
-        if shutil.which(shell):
-            subprocess.run([shell, "-n", place.path(f"pages/{page}")], check=True, timeout=20)
+        if not shutil.which(shell):
+            raise Skip(f"{shell} is not there")
+        subprocess.run([shell, "-n", place.path(f"pages/{page}")], check=True, timeout=20)
 
 
 ROWS = (
@@ -606,12 +606,12 @@ ROWS = (
     closed_streams_get_no_file, folder_without_a_name_is_none,
     names_that_are_no_text_are_not_opened, input_is_read_once, controls_in_names_that_are_left_are_not_printed,
     file_is_replaced_in_any_folder, lists_may_end_with_zero_bytes, garbage_in_little_memory_is_the_same,
-    pages_have_all_commands,
+    pages_have_all_commands, shells_read_their_pages,
 )
 
 
 def check_rows(program, made, rows):
-    """Returns what is wrong with each row, None if nothing is, or SKIPPED if it needs what is not here."""
+    """Returns what is wrong with each row, None if nothing is, or the `Skip` of one that was not run."""
     answers = []
     for row in rows:
         with tempfile.TemporaryDirectory() as folder:
@@ -619,8 +619,8 @@ def check_rows(program, made, rows):
             try:
                 row(Place(program, folder, made))
                 answers.append((name, None))
-            except Absent:
-                answers.append((name, SKIPPED))
+            except Skip as why:
+                answers.append((name, why))
             except (AssertionError, ValueError, OSError, subprocess.TimeoutExpired) as why:
                 answers.append((name, f"{type(why).__name__}: {why}"))
     return answers

@@ -7,7 +7,8 @@ import shutil
 import subprocess
 import time
 
-from mdb_system import TOP, Absent, many_shards, needs_root, wants
+from library.common import TOP, OutOfReach, Skip
+from mdb_system import many_shards, needs_root, wants
 
 KEY = "0" * 63 + "7"
 # What .ci/kill_at.c ends with.
@@ -46,10 +47,10 @@ def tracer(place):
     """Returns the program of .ci/kill_at.c, made in a folder of its own."""
     made = place.path("kill_at")
     if not shutil.which("cc"):
-        raise Absent
+        raise Skip("cc is not there")
     subprocess.run(["cc", "-O1", "-o", made, f"{TOP}/.ci/kill_at.c"], check=True, timeout=60)
     if subprocess.run([made, "1", "/bin/true"], check=False, timeout=20).returncode == UNTRACED:
-        raise Absent
+        raise OutOfReach("the system lets no process trace another")
     return made
 
 

@@ -30,13 +30,13 @@ def check_errors():
 
 
 def check_header():
-    """The header is C99, and C++ where there is a compiler of it."""
+    """The header is C99 and C++."""
     strict = ["-pedantic-errors", *WARNINGS[1:], "-fsyntax-only"]
     program = f'#include "{BINDINGS}/c/xet.h"\nint main() {{ return xet_error_name(1) == 0; }}\n'
     why = ran(CC, "-std=c99", *strict, "-xc", "-", input=program)[1]
-    if why or not shutil.which("c++"):
-        return why
-    return ran("c++", "-std=c++11", *strict, "-xc++", "-", input=program)[1]
+    if not why and not shutil.which("c++"):
+        raise Skip("c++ is not there, so xet.h was not read as C++")
+    return why or ran("c++", "-std=c++11", *strict, "-xc++", "-", input=program)[1]
 
 
 def check_calls(library):
@@ -86,14 +86,14 @@ def check_installed(room, wanted):
         return None if file.read() == wanted else "example.c with the shared object writes other bytes"
 
 
-def sanitizers(room):
+def sanitizers(room, checks):
     """Returns the flags of the sanitizers if a program runs with them."""
     with open(f"{room}/nothing.c", "w", encoding="ascii") as file:
         file.write("int main(void) { return 0; }\n")
     program = f"{room}/nothing"
     why = ran(CC, *SANITIZERS, f"{room}/nothing.c", "-o", program)[1] or ran(program)[1]
     if why:
-        print("bindings: a program with sanitizers can't be built or run here, so the C programs run without them")
+        checks.skip(Skip(f"{CC} has no sanitizers here, so the C programs ran without them"))
     return [] if why else SANITIZERS
 
 

@@ -1,21 +1,31 @@
 """Runs checks, and counts them."""
+import os
 import tempfile
 
-from .common import Skip
+from .common import OutOfReach, Skip
+
+
+def fails(skip):
+    """Whether a check that was not run counts as failed."""
+    return os.environ.get("CI") == "true" and not isinstance(skip, OutOfReach)
 
 
 class Checks:
     """Counts checks that passed, and keeps what is wrong with the others."""
 
     def __init__(self):
-        self.passed, self.faults, self.skipped = 0, [], []
+        self.passed, self.faults, self.skipped = 0, [], {}
+
+    def skip(self, why):
+        """Notes that something was not run."""
+        self.skipped[str(why)] = why
 
     def run(self, check, *arguments):
         """Runs a check, which returns what is wrong, or None; or how many passed, and what is wrong with others."""
         try:
             found = check(*arguments)
         except Skip as why:
-            self.skipped.append(str(why))
+            self.skip(why)
             return
         except Exception as error:
             found = f"{check.__module__}.{check.__name__}: {type(error).__name__}: {error}"
@@ -24,13 +34,14 @@ class Checks:
         self.faults += faults
 
     def report(self, name):
-        """Prints skipped checks, faults and the counts, and returns the status to end with."""
-        for why in sorted(set(self.skipped)):
-            print(f"{name}: skipped: {why}")
+        """Prints what was not run, faults and the counts, and returns the status to end with."""
+        for why in sorted(self.skipped):
+            print(f"{name}: not run: {why}")
         for why in self.faults:
             print(f"{name}: {why}")
-        print(f"{self.passed} passed, {len(self.faults)} failed")
-        return 1 if self.faults else 0
+        failed = len(self.faults) + sum(map(fails, self.skipped.values()))
+        print(f"{self.passed} passed, {failed} failed")
+        return 1 if failed else 0
 
 
 def main(name, run_all):

@@ -133,7 +133,7 @@ class Tree:
 
     def give_pip(self):
         """Puts a pip on the path whose Python can build wheels without a network."""
-        self.give("bin/pip", f'#!/bin/sh\nexec {builder()} -m pip "$@"\n')
+        self.give("bin/pip", f'#!/bin/sh\nexec {builder("pip")} -m pip "$@"\n')
 
     def run(self, page, *words, **variables):
         """Runs a command. Returns what is wrong with it, or None."""

@@ -19,7 +19,11 @@ LEFT_OUT = (".git", "out", "target", "libxet.so*", "__pycache__")
 
 
 class Skip(Exception):
-    """A check can't be made here, since a tool is missing."""
+    """A check can't be made here, since a tool is missing that .ci/setup installs. Where $CI is true it has failed."""
+
+
+class OutOfReach(Skip):
+    """A check can't be made here, since the system does not allow it, or Debian does not have its tool."""
 
 
 def read(path):

@@ -7,7 +7,7 @@ import sys
 import zipfile
 
 from .c import CC, WARNINGS
-from .common import BINDINGS, TOP, Skip, error_numbers, ran, read, structs
+from .common import BINDINGS, TOP, OutOfReach, Skip, error_numbers, ran, read, structs
 
 MODULE = f"{BINDINGS}/python"
 # The library beside the module.
@@ -138,11 +138,12 @@ def python_for(program, why):
     raise Skip(why)
 
 
-def builder():
-    """Returns a Python that can build wheels: it has what pyproject.toml asks for."""
+def builder(*others):
+    """Returns a Python that can build wheels: it has what pyproject.toml asks for, and other modules."""
+    names = ", ".join(["setuptools", "wheel", *others])
     return python_for(
-        "import setuptools, wheel; assert int(setuptools.__version__.split('.')[0]) >= 61",
-        "no Python here has the packages setuptools, of 61 or later, and wheel, so no wheel was built",
+        f"import {names}; assert int(setuptools.__version__.split('.')[0]) >= 61",
+        f"no Python here has all of {names}, with setuptools of 61 or later, so no wheel was built",
     )
 
 
@@ -173,22 +174,25 @@ def check_tests():
     return f"these tests of bindings/python are not run, or not there: {sorted(differ)}" if differ else None
 
 
-def run_table_tests(named):
+def run_table_tests(checks, named):
     """Runs the tests of tables, as `run_tests` does."""
     why = "no Python here has the package numpy, so no tables were tested"
-    return run_tests(TABLES, named, python_for("import numpy", why))
+    return run_tests(checks, TABLES, named, python_for("import numpy", why))
 
 
-def run_cluster_tests(named):
+def run_cluster_tests(checks, named):
     """Runs the tests of merges on a cluster, as `run_tests` does."""
     why = "no Python here has the package distributed, so no merge on a cluster was tested"
-    return run_tests(CLUSTER, named, python_for("import distributed", why))
+    return run_tests(checks, CLUSTER, named, python_for("import distributed", why))
 
 
-def run_tests(file, named, python=sys.executable):
+def run_tests(checks, file, named, python=sys.executable):
     """Returns how many Python tests of a file passed, and what is wrong with those that failed."""
     printed, why = ran(python, f"{MODULE}/tests/{file}", env=named)
     lines = printed.splitlines()
+    for it in lines:
+        if it.startswith("skipped "):
+            checks.skip(OutOfReach(it.removeprefix("skipped ")))
     # Workers of a cluster print as well, and some after the tests have ended.
     found = [it for it in (re.fullmatch(r"(\d+) passed, (\d+) failed", line) for line in lines) if it]
     counts = found[-1] if found else None

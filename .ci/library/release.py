@@ -11,7 +11,7 @@ import zipfile
 
 from . import commands
 from .c import CC, WARNINGS
-from .common import BINDINGS, TOP, Skip, ran, read
+from .common import BINDINGS, TOP, OutOfReach, Skip, ran, read
 from .crates import kit
 from .python import SONAME, TESTS
 from .rust import PROGRAM, write_program
@@ -32,7 +32,7 @@ def make(folder, *words, **named):
     return ran(sys.executable, f"{TOP}/release/make", folder, *words, **named)
 
 
-def check_same(room):
+def check_same(room, checks):
     """The release has the same bytes when it is made again, elsewhere and by someone else."""
     printed, why = make(f"{room}/one")
     os.makedirs(f"{room}/other room")
@@ -43,7 +43,7 @@ def check_same(room):
         return why
     for line in printed.splitlines():
         if line.startswith("release: left out: "):
-            print(line)
+            checks.skip(Skip(line.removeprefix("release: ")))
     names = sorted(os.listdir(f"{room}/one"))
     if names != sorted(os.listdir(f"{room}/other room/two")):
         return "the release has other files when it is made again"
@@ -65,7 +65,7 @@ def stated(release):
     return parts().manifest.stated(release.manifest["sources"], release.built())
 
 
-def hiding():
+def hiding(checks):
     """Returns the words before a command that let it see an empty folder in place of the toolchain's.
 
     Where the system refuses that there are none, and the toolchain is taken off the path.
@@ -75,16 +75,16 @@ def hiding():
         words = ["unshare", *flags, "sh", "-c", script, kit()]
         if ran(*words, "true")[1] is None:
             return words, os.environ["PATH"]
-    print("release: the toolchain's folder can't be hidden here, so it is off the path alone")
+    checks.skip(OutOfReach("the toolchain's folder can't be hidden, so it is off the path alone"))
     return [], os.pathsep.join(it for it in os.environ["PATH"].split(os.pathsep) if not os.path.exists(f"{it}/rt"))
 
 
 class Release:
     """A release that was made in a folder, unpacked in a room."""
 
-    def __init__(self, folder, room):
+    def __init__(self, folder, room, checks):
         self.folder, self.room = folder, room
-        self.hidden, self.path = hiding()
+        self.hidden, self.path = hiding(checks)
         with tarfile.open(f"{folder}/{FOLDER}.tar.gz") as archive:
             archive.extractall(f"{room}/unpacked")
         self.top = f"{room}/unpacked/{FOLDER}"

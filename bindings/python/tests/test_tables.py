@@ -7,6 +7,7 @@ import dataclasses
 import os
 import struct
 import sys
+import unittest
 
 sys.dont_write_bytecode = True
 sys.path.insert(0, os.path.dirname(os.path.realpath(__file__)))
@@ -112,20 +113,30 @@ def test_hash_columns():
     raises(KeyError, xet_shards.from_table, dataclasses.replace(table, chunks=others))
 
 
-def test_hash_columns_in_arrow():
+def packed_hashes(table):
+    """Returns the hashes of a table's chunks as a column, and as bytes."""
+    wanted = b"".join(struct.pack("<4Q", *scripts.words_of(it)) for it in xet_shards.hash_texts(table.chunks))
+    return numpy.ascontiguousarray(xet_shards.hash_column(table.chunks)), wanted
+
+
+def test_buffers_of_hash_columns():
     needs_numpy()
-    table = xet_shards.table(records_shard().written())
-    packed = numpy.ascontiguousarray(xet_shards.hash_column(table.chunks))
+    packed, wanted = packed_hashes(xet_shards.table(records_shard().written()))
     # What pyarrow.py_buffer asks of it: PyBUF_ANY_CONTIGUOUS.
     view = xet_shards._memory._View()
     xet_shards._memory._get_buffer(packed, view, 0x98)
-    wanted = b"".join(struct.pack("<4Q", *scripts.words_of(it)) for it in xet_shards.hash_texts(table.chunks))
     assert (view.len, ctypes.string_at(view.buf, view.len)) == (64, wanted)
     xet_shards._memory._release_buffer(view)
+
+
+def test_hash_columns_in_arrow():
+    needs_numpy()
     try:
         import pyarrow
-    except ImportError:
-        return print("pyarrow is not there, so only the buffer of a column of hashes was tested")
+    except ImportError as error:
+        raise unittest.SkipTest("pyarrow is not there") from error
+    table = xet_shards.table(records_shard().written())
+    packed, wanted = packed_hashes(table)
     hashes = pyarrow.FixedSizeBinaryArray.from_buffers(
         pyarrow.binary(32), len(packed), [None, pyarrow.py_buffer(packed)])
     assert b"".join(hashes.to_pylist()) == wanted
