@@ -323,16 +323,20 @@ def what_is_no_shard_is_looked_at_alone(place):
 
 
 def quickest_in_little_room(place, *words):
-    """Returns the quickest of three runs with 16 MiB of memory for all, and the seconds that it took."""
+    """Returns the quickest of three runs with 16 MiB of memory for all, and its seconds of the processor's time."""
 
     def little_room():
         resource.setrlimit(resource.RLIMIT_AS, (16 << 20, 16 << 20))
 
+    def used():
+        of_all = resource.getrusage(resource.RUSAGE_CHILDREN)
+        return of_all.ru_utime + of_all.ru_stime
+
     found = []
     for _ in range(3):
-        begun = time.monotonic()
+        begun = used()
         run = place.run(*words, preexec_fn=little_room)
-        found.append((time.monotonic() - begun, run))
+        found.append((used() - begun, run))
     seconds, run = min(found, key=lambda it: it[0])
     return run, seconds
 

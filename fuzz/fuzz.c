@@ -157,13 +157,13 @@ static void run_case(uint64_t seed, uint64_t number, struct tally *tally) {
     free_block(&input.text);
 }
 
-/* Runs cases in a process of their own until the time is over, and returns whether all is well. */
+/* Runs cases in a process of their own, for seconds of its processor time, and returns whether all is well. */
 static bool run_cases(uint64_t seed, double seconds, struct tally *tally) {
     fflush(stdout);
     pid_t process = fork();
     if (process == 0) {
-        time_t end = time(NULL) + (time_t)seconds;
-        for (uint64_t number = 1; time(NULL) < end; number++)
+        double end = seconds * CLOCKS_PER_SEC;
+        for (uint64_t number = 1; (double)clock() < end; number++)
             run_case(seed, number, tally);
         exit(0);
     }

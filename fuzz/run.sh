@@ -1,7 +1,8 @@
 #!/bin/sh
 # Makes all calls of xet.h on corrupted shards: run.sh [SECONDS [SEED]], or run.sh --case NUMBER SEED for one case.
-# Without arguments it runs for an hour. XET_ARCHIVE names the libxet.a to test, else bindings/build.sh makes it. $CC is
-# the compiler, else cc. Where programs with sanitizers can't be built or run, it goes without them, and says so.
+# SECONDS are of the processor's time, and an hour without arguments. XET_ARCHIVE names the libxet.a to test, else
+# bindings/build.sh makes it. $CC is the compiler, else cc. Where programs with sanitizers can't be built or run, it goes
+# without them, and says so.
 set -e
 here=$(cd "$(dirname "$0")" && pwd)
 if [ -z "$XET_ARCHIVE" ]; then
