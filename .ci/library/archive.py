@@ -19,10 +19,10 @@ ARCHIVE = f"{TOP}/crates/{CRATE}/out/lib{CRATE}.a"
 KEPT = f"{TOP}/bindings/out/lib{CRATE}.a"
 
 
-def sources():
+def sources(crate=CRATE):
     """Returns the hash of the toolchain's line, and of the sources of the crate and of all crates below."""
     uses = used_by()
-    crates = sorted({CRATE} | below(CRATE, uses))
+    crates = sorted({crate} | below(crate, uses))
     hashed = hashlib.sha256(repr((ran("rt", "version"), [(it, uses[it]) for it in crates])).encode())
     for path in (path for crate in crates for path in files(crate)):
         hashed.update(repr((os.path.relpath(path, TOP), read(path))).encode())

@@ -2,6 +2,7 @@
 import os
 import re
 import subprocess
+import sys
 
 TOP = os.path.dirname(os.path.dirname(os.path.dirname(os.path.realpath(__file__))))
 BINDINGS = f"{TOP}/bindings"
@@ -31,10 +32,10 @@ def read(path):
         return file.read()
 
 
-def read_output(path):
-    """Returns what a command printed to a file so far, which may end within a character."""
-    with open(path, encoding="utf-8", errors="replace") as file:
-        return file.read()
+def say(text):
+    """Prints lines at once, and whole where threads print."""
+    sys.stdout.write(f"{text}\n")
+    sys.stdout.flush()
 
 
 def ran(*words, **named):

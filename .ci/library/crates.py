@@ -2,9 +2,8 @@
 import os
 import re
 import shutil
-import time
 
-from .common import TOP, read, read_output
+from .common import TOP, read
 
 
 def used_by():
@@ -32,12 +31,6 @@ def is_proved(crate):
     """Whether a crate's library is there, and newer than its sources."""
     made = library(crate)
     return os.path.exists(made) and os.path.getmtime(made) >= max(map(os.path.getmtime, files(crate)))
-
-
-def wait_for_proofs(crates, log):
-    """Waits until `rt ci`, whose output the log has so far, says of all these crates that they are proved."""
-    while not crates <= set(re.findall(r"^rt: (\w+) (?:proved|is kept)", read_output(log), re.M)):
-        time.sleep(1)
 
 
 def kit():
