@@ -222,19 +222,69 @@ def lists_name_shards(place):
     place.write("list", listed)
     said = [f"{it}: version" for it in ("both.mdb", "folder/a.mdb", "folder/b.mdb", "folder/link.mdb")]
     said += ["folder/other: version", "total: 5"]
-    wrong = b"no\\xff: the name is not UTF-8, so it can't be opened\n"
+    empty = b"none: it has no .mdb file, and folders in it are read only with -r\n"
+    wrong = b"no\\xff: the name is not UTF-8, so it can't be opened\n" + empty
     for words, given in (("list", b""), ("-", listed)):
         run = place.run("info", "--brief", "--files-from", words, input=given)
         wants("status", (run.returncode, run.stderr) == (1, wrong))
         printed = run.stdout.decode().splitlines()
         wants("each", len(printed) == len(said) and all(it.startswith(name) for it, name in zip(printed, said)))
     run = place.run("merge", "--files-from", "list", "-o", "out.mdb")
-    wants("a merge", (run.returncode, run.stderr) == (1, wrong) and "out.mdb" not in place.names())
+    said = wrong.removesuffix(empty)
+    wants("a merge", (run.returncode, run.stderr) == (1, said) and "out.mdb" not in place.names())
     run = place.run("merge", "none", "-o", "out.mdb")
     said = b"the command line: there are no files to merge\n"
     wants("a merge of nothing", (run.returncode, run.stderr) == (1, said) and "out.mdb" not in place.names())
     run = place.run("find", "none", "--hash", "0" * 64)
-    wants("none", (run.returncode, run.stdout.decode()) == (1, f"none {'0' * 64}\n"))
+    wants("none", (run.returncode, run.stdout.decode(), run.stderr) == (1, f"none {'0' * 64}\n", empty))
+
+
+def folders_without_shards_are_named(place):
+    os.makedirs(place.path("far/near"))
+    place.write("far/near/a.mdb", place.made["one_file.mdb"])
+    place.write("far/b.txt", b"")
+    for words in (
+        ("check",), ("gc",), ("info",), ("info", "--brief"), ("files",), ("xorbs",), ("chunks",), ("eligible",),
+        ("name", "--hash-key", "7" * 64), ("find", "--hash", "7" * 64), ("query", "--hash", "7" * 64),
+        ("report", "-o", "page.html"),
+    ):
+        run = place.run(*words, "far")
+        said = b"far: it has no .mdb file, and folders in it are read only with -r\n"
+        wants(" ".join(words), (run.returncode, run.stderr) == (1, said))
+    os.remove(place.path("far/near/a.mdb"))
+    run = place.run("check", "-r", "far")
+    said = b"far: neither it nor a folder in it has a .mdb file\n"
+    wants("none at all", (run.returncode, run.stdout, run.stderr) == (1, b"", said))
+
+
+def folders_in_folders_are_read(place):
+    os.makedirs(place.path("in/b.mdb/deep"))
+    os.makedirs(place.path("in/a"))
+    os.makedirs(place.path("in/.hidden"))
+    for name in ("in/z.mdb", "in/b.mdb/deep/1.mdb", "in/a/1.mdb", "in/a/2.mdb", "in/.hidden/1.mdb", "in/a/.1.mdb"):
+        place.write(name, place.made["one_file.mdb"])
+    # Round in a circle, and to another folder.
+    os.symlink("..", place.path("in/a/up"))
+    os.mkdir(place.path("other"))
+    place.write("other/1.mdb", place.made["one_file.mdb"])
+    os.symlink("../other", place.path("in/other"))
+    os.symlink("../../other/1.mdb", place.path("in/a/link.mdb"))
+    found = [f"in/{it}" for it in ("a/1.mdb", "a/2.mdb", "a/link.mdb", "b.mdb/deep/1.mdb", "z.mdb")]
+    for flag in ("-r", "--recursive"):
+        run = place.run("info", "--brief", flag, "in")
+        wants("each", [it.split(":")[0] for it in run.stdout.decode().splitlines()] == [*found, "total"])
+        wants("status", (run.returncode, run.stderr) == (0, b""))
+    run = place.run("info", "--brief", "in")
+    wants("without", [it.split(":")[0] for it in run.stdout.decode().splitlines()] == ["in/z.mdb", "total"])
+    run = place.run("merge", "-r", "in", "-o", "out.mdb")
+    wants("a merge", (run.returncode, run.stderr) == (0, b""))
+    wants("its bytes", place.run("union", "in/z.mdb", "in/z.mdb", "-o", "one.mdb").returncode == 0)
+    wants("the same", place.read("out.mdb") == place.read("one.mdb"))
+    # A name that is no UTF-8 may be that of a folder, which can't be opened.
+    os.mkdir(os.path.join(os.fsencode(place.path("in")), b"\xff"))
+    run = place.run("check", "-r", "in")
+    said = b"in/\\xff: the name is not UTF-8, so it can't be opened\n"
+    wants("a folder without a text", (run.returncode, run.stdout, run.stderr) == (1, b"", said))
 
 
 def names_in_folders_are_reported(place):
@@ -598,7 +648,8 @@ ROWS = (
     new_file_has_the_mode_of_others, mode_stays, owner_stays, device_is_written_to, full_device_fails,
     pipe_is_written_to, link_is_followed, link_to_nothing_is_refused, folder_is_refused, taken_names_block_nothing,
     full_disk_leaves_the_target, killed_run_leaves_the_target, word_that_is_no_text, standard_input_is_a_shard,
-    lists_name_shards, names_in_folders_are_reported, what_is_no_shard_is_not_read_whole,
+    lists_name_shards, folders_without_shards_are_named, folders_in_folders_are_read,
+    names_in_folders_are_reported, what_is_no_shard_is_not_read_whole,
     large_file_is_not_read_whole, controls_are_not_printed, closed_pipe_ends_quietly, terminal_gets_no_shard,
     terminal_shows_progress, now_is_the_clock, merge_in_parts_is_the_merge, merge_in_parts_takes_little_memory,
     merge_of_more_than_memory_reads_ends_alone, failed_merge_in_parts_leaves_the_target,

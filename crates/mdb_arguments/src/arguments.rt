@@ -112,7 +112,9 @@ fn request_in<'a>(
         return Err(RequestFault::InputTwice);
     }
     if name == "merge" {
-        let sources = sources_in(alloc, matches)?;
+        let mut sources = sources_in(alloc, matches)?;
+        // It is one only if none of all has a shard.
+        sources.may_be_empty = true;
         return Ok(Request::Merge(sources, merge_in(matches, now)?));
     }
     if name == "report" {
@@ -268,6 +270,8 @@ fn sources_in<'a>(
         list: matches.get_str(id::LIST),
         hashes: hash_list_in(matches),
         end: end_in(matches),
+        recursive: matches.get_flag(id::RECURSIVE),
+        may_be_empty: false,
     })
 }
 

@@ -92,6 +92,10 @@ pub struct Sources<'a> {
     pub hashes: Option<HashList<'a>>,
     /// The byte that ends a path in the list.
     pub end: u8,
+    /// Whether the folders in a folder are read too.
+    pub recursive: bool,
+    /// Whether a folder without shards is no failure.
+    pub may_be_empty: bool,
 }
 
 impl Sources<'_> {

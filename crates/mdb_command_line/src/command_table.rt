@@ -14,6 +14,8 @@ pub struct Argument {
     pub id: &'static str,
     /// Its name behind `--`; without, it is a word.
     pub long: Option<&'static str>,
+    /// The letter that stands for the name, behind `-`.
+    pub letter: Option<char>,
     pub help: &'static str,
     pub takes: Takes,
 }
@@ -35,8 +37,6 @@ pub enum Takes {
     EachValue,
     /// A version of the format.
     Version,
-    /// Where to write.
-    Output,
     /// Where to write, if no folder is given.
     OutputOrFolder,
     /// The folder to write to, in place of an output.
@@ -53,8 +53,6 @@ pub enum Takes {
     NothingWithGroups,
     /// What shards are sorted by, which goes with brief answers alone.
     Sort,
-    /// Nothing: it is a flag that also has a letter.
-    Quiet,
 }
 
 /// A command.
@@ -71,13 +69,32 @@ pub struct Row {
 // A word without a name.
 macro_rules! word {
     ($id:ident, $takes:ident, $help:expr) => {
-        Argument { id: id::$id, long: None, help: $help, takes: Takes::$takes }
+        Argument { id: id::$id, long: None, letter: None, help: $help, takes: Takes::$takes }
     };
 }
 
 macro_rules! option {
     ($id:ident, $long:expr, $takes:ident, $help:expr) => {
-        Argument { id: id::$id, long: Some($long), help: $help, takes: Takes::$takes }
+        Argument {
+            id: id::$id,
+            long: Some($long),
+            letter: None,
+            help: $help,
+            takes: Takes::$takes,
+        }
+    };
+}
+
+// An option that also has a letter.
+macro_rules! lettered {
+    ($letter:expr, $id:ident, $long:expr, $takes:ident, $help:expr) => {
+        Argument {
+            id: id::$id,
+            long: Some($long),
+            letter: Some($letter),
+            help: $help,
+            takes: Takes::$takes,
+        }
     };
 }
 
@@ -153,10 +170,19 @@ const NEW_EXPIRY: Argument = option!(
     "The time of expiry of what is written, or min: the earliest of those that are read; without, there is none"
 );
 
-const QUIET: Argument = option!(
+const RECURSIVE: Argument = lettered!(
+    'r',
+    RECURSIVE,
+    id::RECURSIVE,
+    Nothing,
+    "Reads the folders in a folder too, but for hidden ones and links"
+);
+
+const QUIET: Argument = lettered!(
+    'q',
     QUIET,
     id::QUIET,
-    Quiet,
+    Nothing,
     "Says nothing of how far it has come"
 );
 
@@ -173,10 +199,11 @@ const FORMAT: Argument = option!(
     "The version of the format that is written, 3 by default; files with auxiliary rows need it"
 );
 
-const OUTPUT: Argument = option!(
+const OUTPUT: Argument = lettered!(
+    'o',
     OUTPUT,
     "output",
-    Output,
+    NeededValue,
     "The file to write, or - for standard output"
 );
 
@@ -198,6 +225,7 @@ const INQUIRIES: &[Row] = &[
         usage: None,
         arguments: &[
             FILES,
+            RECURSIVE,
             LIST,
             NULL,
             flag!(BRIEF, "Prints a line for each, and a total"),
@@ -215,21 +243,21 @@ const INQUIRIES: &[Row] = &[
         about: "Lists the files",
         examples: help::FILES,
         usage: None,
-        arguments: &[FILES, LIST, NULL, LONG, JSON],
+        arguments: &[FILES, RECURSIVE, LIST, NULL, LONG, JSON],
     },
     Row {
         name: "xorbs",
         about: "Lists the xorbs",
         examples: help::XORBS,
         usage: None,
-        arguments: &[FILES, LIST, NULL, LONG, JSON],
+        arguments: &[FILES, RECURSIVE, LIST, NULL, LONG, JSON],
     },
     Row {
         name: "chunks",
         about: "Lists the chunks of the xorbs",
         examples: help::CHUNKS,
         usage: None,
-        arguments: &[FILES, LIST, NULL, LONG, JSON],
+        arguments: &[FILES, RECURSIVE, LIST, NULL, LONG, JSON],
     },
     Row {
         name: "find",
@@ -238,6 +266,7 @@ const INQUIRIES: &[Row] = &[
         usage: Some(help::FIND_USAGE),
         arguments: &[
             LOOKED_IN,
+            RECURSIVE,
             LIST,
             option!(
                 HASHES,
@@ -247,12 +276,12 @@ const INQUIRIES: &[Row] = &[
             ),
             HASH_LIST,
             NULL,
-            Argument {
-                id: id::OF_XORBS,
-                long: Some(id::OF_XORBS),
-                help: "Looks xorbs up in place of files",
-                takes: Takes::NothingWithoutCosts,
-            },
+            option!(
+                OF_XORBS,
+                id::OF_XORBS,
+                NothingWithoutCosts,
+                "Looks xorbs up in place of files"
+            ),
             flag!(COSTS, "Prints the seeks and the bytes read of each lookup"),
             EXPIRED_BY,
             JSON,
@@ -265,6 +294,7 @@ const INQUIRIES: &[Row] = &[
         usage: Some(help::QUERY_USAGE),
         arguments: &[
             LOOKED_IN,
+            RECURSIVE,
             LIST,
             option!(
                 HASHES,
@@ -285,6 +315,7 @@ const INQUIRIES: &[Row] = &[
         usage: None,
         arguments: &[
             FILES,
+            RECURSIVE,
             LIST,
             NULL,
             flag!(
@@ -313,6 +344,7 @@ const INQUIRIES: &[Row] = &[
         usage: None,
         arguments: &[
             FILES_ALONE,
+            RECURSIVE,
             LIST,
             NULL,
             option!(
@@ -332,6 +364,7 @@ const INQUIRIES: &[Row] = &[
         usage: None,
         arguments: &[
             FILES_ALONE,
+            RECURSIVE,
             LIST,
             NULL,
             EXPIRED_BY,
@@ -352,6 +385,7 @@ const INQUIRIES: &[Row] = &[
         usage: None,
         arguments: &[
             FILES,
+            RECURSIVE,
             LIST,
             NULL,
             option!(
@@ -387,6 +421,7 @@ const MAKINGS: &[Row] = &[
         usage: None,
         arguments: &[
             FILES,
+            RECURSIVE,
             LIST,
             NULL,
             flag!(
@@ -432,13 +467,14 @@ const MAKINGS: &[Row] = &[
                 ValueWithGroups,
                 "With --to: the key of the hashes, of 64 hexadecimal digits"
             ),
-            Argument {
-                id: id::REMOVE_INPUTS,
-                long: Some(id::REMOVE_INPUTS),
-                help: "With --to: removes the files once the device has their merges, which are strict",
-                takes: Takes::NothingWithGroups,
-            },
             option!(
+                REMOVE_INPUTS,
+                id::REMOVE_INPUTS,
+                NothingWithGroups,
+                "With --to: removes the files once the device has their merges, which are strict"
+            ),
+            lettered!(
+                'o',
                 OUTPUT,
                 "output",
                 OutputOrFolder,
@@ -545,6 +581,6 @@ const MAKINGS: &[Row] = &[
         about: "Lists the hashes of the chunks that the global index keeps, in ascending order",
         examples: help::ELIGIBLE,
         usage: None,
-        arguments: &[FILES, LIST, NULL, JSON],
+        arguments: &[FILES, RECURSIVE, LIST, NULL, JSON],
     },
 ];

@@ -30,7 +30,7 @@ Examples:
   mdb query a.mdb 0000000000000015000000000000000100000000000000000000000000000000
   mdb query --hash 0000000000000015000000000000000100000000000000000000000000000000 cache";
 
-pub const CHECK: &str = "Examples:\n  mdb check cache\n  mdb check --deep --strict a.mdb";
+pub const CHECK: &str = "Examples:\n  mdb check -r cache\n  mdb check --deep --strict a.mdb";
 
 pub const GC: &str =
     "The shards are read several times if what is kept of them takes more memory than is given.

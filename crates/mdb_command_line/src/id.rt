@@ -44,6 +44,8 @@ pub const VERBOSE: &str = "verbose";
 
 pub const QUIET: &str = "quiet";
 
+pub const RECURSIVE: &str = "recursive";
+
 pub const SORT: &str = "BY";
 
 pub const REMOVE_INPUTS: &str = "remove-inputs";

@@ -63,11 +63,12 @@ fn arg_of<'a>(alloc: Global, argument: &Argument) -> Result<Arg<'a>, AllocError>
     if let Some(long) = argument.long {
         arg = arg.long(long);
     }
+    if let Some(letter) = argument.letter {
+        arg = arg.short(letter);
+    }
     match argument.takes {
         Takes::ValuesOrList => arg.num_args(1..).required_unless_present(id::LIST),
-        Takes::OutputOrFolder => arg
-            .short('o')
-            .required_unless_present_any(&[id::FOLDER, id::GROUPS]),
+        Takes::OutputOrFolder => arg.required_unless_present_any(&[id::FOLDER, id::GROUPS]),
         Takes::Folder => arg.conflicts_with(id::OUTPUT),
         Takes::Groups => arg
             .conflicts_with_all(&[id::OUTPUT, id::FOLDER])?
@@ -89,8 +90,6 @@ fn with_takes<'a>(arg: Arg<'a>, takes: Takes) -> Arg<'a> {
         Takes::NeededNumber => arg.required(true).value_parser(value_parser!(u64)),
         Takes::EachValue => arg.action(ArgAction::Append),
         Takes::Version => arg.value_parser(VERSIONS),
-        Takes::Output => arg.short('o').required(true),
-        Takes::Quiet => arg.short('q').action(ArgAction::SetTrue),
         _ => arg,
     }
 }

@@ -35,7 +35,7 @@ pub struct Inputs {
 
 /// The shards that sources name: each folder stands for the shards in it. Some words are no text,
 /// so that no file can be opened by them. It fails only if memory is lacking.
-pub fn inputs_of<R: Files + Input + Eprint + AllocGlobal + Clone + Drop>(
+pub fn inputs_of<R: Files + Input + Eprint + AllocGlobal>(
     rt: &R,
     sources: &Sources<'_>,
     unreadable: &[String],
@@ -51,12 +51,12 @@ pub fn inputs_of<R: Files + Input + Eprint + AllocGlobal + Clone + Drop>(
         if is_among(unreadable, word) {
             inputs.report(rt, word, Fault::NoText)?;
         } else {
-            inputs.add(rt, word)?;
+            inputs.add(rt, sources, word)?;
         }
     }
     match sources.list {
         Some(list) if is_among(unreadable, list) => inputs.report(rt, list, Fault::NoText)?,
-        Some(list) => inputs.add_list(rt, list, sources.end)?,
+        Some(list) => inputs.add_list(rt, sources, list)?,
         None => {}
     }
     Ok(inputs)
@@ -64,9 +64,10 @@ pub fn inputs_of<R: Files + Input + Eprint + AllocGlobal + Clone + Drop>(
 
 impl Inputs {
     // Adds a path, or the shards in the folder there. Standard input can be read only once.
-    fn add<R: Files + Eprint + AllocGlobal + Clone + Drop>(
+    fn add<R: Files + Eprint + AllocGlobal>(
         &mut self,
         rt: &R,
+        sources: &Sources<'_>,
         path: &str,
     ) -> Result<(), AllocError> {
         if path == STANDARD_STREAM {
@@ -77,60 +78,71 @@ impl Inputs {
         }
         if is_folder(rt, path) {
             self.named = true;
-            return self.add_folder(rt, path);
+            return self.add_folder(rt, sources, path);
         }
         self.paths.push(String::from_str(rt.alloc(), path)?)?;
         Ok(())
     }
 
-    // Adds the shards in a folder, in the order of their names: the regular files, also behind
-    // links, that are not hidden. Reports those whose names are no UTF-8.
-    fn add_folder<R: Files + Eprint + AllocGlobal + Clone + Drop>(
+    // Adds the shards in a folder, and in those in it if they are read too, in the order of their
+    // paths. Reports names that are no UTF-8, and that there is no shard.
+    fn add_folder<R: Files + Eprint + AllocGlobal>(
         &mut self,
         rt: &R,
+        sources: &Sources<'_>,
         folder: &str,
     ) -> Result<(), AllocError> {
-        let alloc = rt.alloc();
-        let mut names = Vec::new(alloc);
-        if let Err(error) = read_names(rt, folder, &mut names) {
-            self.report(rt, folder, Fault::from(error))?;
-        }
-        let mut found = Vec::new(alloc);
-        let mut unreadable = Vec::new(alloc);
-        for name in names.as_slice().split(|byte| *byte == 0) {
-            if !name.ends_with(ENDING.as_bytes()) || name.starts_with(b".") {
-                continue;
+        let reported = self.failures.len();
+        let mut found = Found::new(rt.alloc());
+        found.folders.push(String::from_str(rt.alloc(), folder)?)?;
+        for _ in 0..u64::MAX {
+            let Some(next) = found.folders.pop() else {
+                break;
+            };
+            let mut names = Vec::new(rt.alloc());
+            if let Err(error) = read_names(rt, next.as_str(), &mut names) {
+                self.report(rt, next.as_str(), Fault::from(error))?;
             }
-            match str::from_utf8(name) {
-                Ok(name) => {
-                    let path = path_in(alloc, folder, name)?;
-                    if !is_no_file(rt, path.as_str()) {
-                        found.push(path)?;
-                    }
-                }
-                Err(_) => {
-                    let name = escape_word(alloc, name)?;
-                    unreadable.push(path_in(alloc, folder, name.as_str())?)?;
-                }
-            }
+            found.add_names(rt, next.as_str(), names.as_slice(), sources.recursive)?;
         }
-        unreadable.as_mut_slice().sort_unstable();
-        for path in &unreadable {
+        self.report_unreadable(rt, &mut found)?;
+        if found.shards.is_empty() && self.failures.len() == reported && !sources.may_be_empty {
+            let fault = match sources.recursive {
+                true => Fault::NoShardsWithin,
+                false => Fault::NoShards,
+            };
+            self.report(rt, folder, fault)?;
+        }
+        let Found { shards, .. } = found;
+        self.add_shards(shards)
+    }
+
+    fn report_unreadable<R: Eprint + AllocGlobal>(
+        &mut self,
+        rt: &R,
+        found: &mut Found,
+    ) -> Result<(), AllocError> {
+        found.unreadable.as_mut_slice().sort_unstable();
+        for path in &found.unreadable {
             self.report(rt, path.as_str(), Fault::NoText)?;
         }
-        found.as_mut_slice().sort_unstable();
-        for path in found {
+        Ok(())
+    }
+
+    fn add_shards(&mut self, mut shards: Vec<String>) -> Result<(), AllocError> {
+        shards.as_mut_slice().sort_unstable();
+        for path in shards {
             self.paths.push(path)?;
         }
         Ok(())
     }
 
-    // Adds the paths of a list, each of which ends with this byte.
-    fn add_list<R: Files + Input + Eprint + AllocGlobal + Clone + Drop>(
+    // Adds the paths of a list.
+    fn add_list<R: Files + Input + Eprint + AllocGlobal>(
         &mut self,
         rt: &R,
+        sources: &Sources<'_>,
         list: &str,
-        end: u8,
     ) -> Result<(), AllocError> {
         let bytes = match read(rt, list) {
             Ok(bytes) => bytes,
@@ -138,10 +150,11 @@ impl Inputs {
                 return self.report(rt, list, Fault::from(error));
             }
         };
+        let end = sources.end;
         for line in bytes.as_slice().split(|byte| *byte == end) {
             match str::from_utf8(line) {
                 Ok("") => {}
-                Ok(path) => self.add(rt, path)?,
+                Ok(path) => self.add(rt, sources, path)?,
                 Err(_) => self.report(rt, escape_word(rt.alloc(), line)?.as_str(), Fault::NoText)?,
             }
         }
@@ -160,6 +173,78 @@ impl Inputs {
         self.failed = true;
         self.failures.push(format!(in rt.alloc(); "{failure}")?)?;
         Ok(())
+    }
+}
+
+// What was found in a folder, or in several.
+#[derive(Drop)]
+struct Found {
+    // The regular files, also behind links, whose names are those of shards.
+    shards: Vec<String>,
+    // Shards, and what may be folders to read, whose names are no UTF-8.
+    unreadable: Vec<String>,
+    // Folders that are still to be read.
+    folders: Vec<String>,
+}
+
+impl Found {
+    fn new(alloc: Global) -> Found {
+        Found {
+            shards: Vec::new(alloc),
+            unreadable: Vec::new(alloc),
+            folders: Vec::new(alloc),
+        }
+    }
+
+    // Adds what has one of the names in a folder, each ended by a zero, but for hidden ones.
+    fn add_names<R: Files + AllocGlobal>(
+        &mut self,
+        rt: &R,
+        folder: &str,
+        names: &[u8],
+        recursive: bool,
+    ) -> Result<(), AllocError> {
+        for name in names.split(|byte| *byte == 0) {
+            let is_named = name.ends_with(ENDING.as_bytes());
+            if name.is_empty() || name.starts_with(b".") || !(is_named || recursive) {
+                continue;
+            }
+            match str::from_utf8(name) {
+                Ok(name) => {
+                    let path = path_in(rt.alloc(), folder, name)?;
+                    self.add_path(rt, path, is_named, recursive)?;
+                }
+                Err(_) => {
+                    let name = escape_word(rt.alloc(), name)?;
+                    self.unreadable
+                        .push(path_in(rt.alloc(), folder, name.as_str())?)?;
+                }
+            }
+        }
+        Ok(())
+    }
+
+    fn add_path<R: Files>(
+        &mut self,
+        rt: &R,
+        path: String,
+        is_named: bool,
+        recursive: bool,
+    ) -> Result<(), AllocError> {
+        if recursive && is_folder_itself(rt, path.as_str()) {
+            self.folders.push(path)?;
+        } else if is_named && !is_no_file(rt, path.as_str()) {
+            self.shards.push(path)?;
+        }
+        Ok(())
+    }
+}
+
+// Whether there is a folder at a path, and no link to one: links may lead round in a circle.
+fn is_folder_itself<R: Files>(rt: &R, path: &str) -> bool {
+    match fs::symlink_metadata(rt, path) {
+        Ok(there) => there.is_dir(),
+        Err(_) => false,
     }
 }
 

@@ -59,6 +59,10 @@ pub enum Fault {
     TooManyRounds,
     /// There is nothing to merge.
     NoFiles,
+    /// A folder has no shard.
+    NoShards,
+    /// Neither a folder nor one in it has a shard.
+    NoShardsWithin,
     /// A word is no UTF-8, so that no file can be opened by it.
     NoText,
     /// A word has more bytes than are read.
@@ -157,6 +161,8 @@ impl Fault {
             }
             Fault::TooManyRounds => "the lookup gave up: it has read from the file too many times",
             Fault::NoFiles => "there are no files to merge",
+            Fault::NoShards => "it has no .mdb file, and folders in it are read only with -r",
+            Fault::NoShardsWithin => "neither it nor a folder in it has a .mdb file",
             Fault::NoText => "the name is not UTF-8, so it can't be opened",
             Fault::LongWord => "an argument is too long",
             Fault::InputTwice => "it can be read only once",
