@@ -108,6 +108,22 @@ def some_inputs_stay(place):
     wants("inputs", sorted(os.listdir(place.path("in"))) == sorted(Store.INPUTS))
 
 
+def unreadable_inputs_stay(place):
+    store = Store(place)
+    wants("a run", store.run().returncode == 0)
+    results = store.shards("store")
+    store.fill()
+    place.write("in/cut.mdb", place.made["one_file.mdb"][:300])
+    os.mkdir(place.path("none"))
+    store.words = (*store.words, "none", "missing", "--skip-unreadable")
+    run = store.run()
+    said = b"in/cut.mdb: its last 200 bytes are no footer: it was cut or lengthened; it is left out\n"
+    said += b"missing: No such file or directory (os error 2); it is left out\n"
+    wants("status", (run.returncode, run.stderr) == (4, said))
+    wants("results", store.shards("store") == results)
+    wants("what is left", os.listdir(place.path("in")) == ["cut.mdb"])
+
+
 def killed_at_each_call_loses_nothing(place):
     killer = tracer(place)
     store = Store(place)
@@ -358,7 +374,7 @@ def quiet_says_nothing(place):
 
 
 ROWS = (
-    inputs_are_removed, some_inputs_stay, killed_at_each_call_loses_nothing, changed_inputs_stay,
+    inputs_are_removed, some_inputs_stay, unreadable_inputs_stay, killed_at_each_call_loses_nothing, changed_inputs_stay,
     second_run_finds_the_lock, runs_at_once_lose_nothing, lock_is_written_to_nothing_else, lock_of_another_user,
     inputs_are_removed_by_one_run, result_that_is_a_pipe_is_refused, opposite_runs_lose_nothing,
     what_is_no_shard_is_looked_at_alone, quiet_says_nothing,

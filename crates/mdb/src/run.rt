@@ -27,7 +27,7 @@ use std::rt::{Clock, Env, Files};
 pub fn run<
     R: Env + Locks + Input + Clock + Print + Eprint + RandomSource + AllocGlobal + Clone + Drop,
 >(rt: &R, terminals: Terminals) -> u8
-    ensures { result ≤ 3 }
+    ensures { result ≤ 4 }
 {
     match read_words(rt) {
         Ok(words) => status_of_words(rt, &words, terminals).number(),
@@ -99,7 +99,10 @@ fn status_of<R: Locks + Input + Clock + Print + Eprint + RandomSource + AllocGlo
             if let Some(word) = unreadable.first() {
                 return report_failure(rt, &Failure::on_file(word.as_str(), Fault::NoText));
             }
-            status_of_making(rt, make(rt, making, *target, terminals.output))
+            match make(rt, making, *target, terminals.output) {
+                Ok(()) => Status::Done,
+                Err(failure) => status_of_failure(rt, &failure),
+            }
         }
         Request::Merge(sources, merge) => {
             if let Some(word) = unreadable.first() {
@@ -133,17 +136,31 @@ fn report_lock<R: Eprint>(rt: &R, failure: &LockFailure<'_>) -> Status {
     Status::Failed
 }
 
-// Merges shards, if none of what names them failed.
+// Merges shards, if none of what names them failed, or what did is left out.
 fn status_of_sources<
     R: Locks + Input + Clock + Print + Eprint + RandomSource + AllocGlobal + Clone + Drop,
 >(rt: &R, sources: &Sources<'_>, merge: Merge<'_>, terminals: Terminals) -> Status {
     match inputs_of(rt, sources, &[]) {
-        Ok(inputs) if inputs.failed => Status::Failed,
-        Ok(inputs) if merge.removes_inputs() => {
-            status_under_locks(rt, inputs.paths.as_slice(), merge, terminals)
+        Ok(inputs) if inputs.failed && !merge.skips_unreadable => Status::Failed,
+        Ok(inputs) => {
+            let status = status_of_inputs(rt, inputs.paths.as_slice(), merge, terminals);
+            match inputs.failed {
+                true => status.and_left_out(),
+                false => status,
+            }
         }
-        Ok(inputs) => status_of_files(rt, inputs.paths.as_slice(), merge, terminals),
         Err(_) => report_failure(rt, &Failure::on_words(Fault::OutOfMemory)),
+    }
+}
+
+// Merges shards; where they are removed then, under the locks of their folders.
+fn status_of_inputs<
+    R: Locks + Input + Clock + Print + Eprint + RandomSource + AllocGlobal + Clone + Drop,
+>(rt: &R, paths: &[String], merge: Merge<'_>, terminals: Terminals) -> Status {
+    if merge.removes_inputs() {
+        status_under_locks(rt, paths, merge, terminals)
+    } else {
+        status_of_files(rt, paths, merge, terminals)
     }
 }
 
@@ -172,20 +189,23 @@ fn status_of_files<
         .map(|path| path.as_str())
         .collect(rt.alloc());
     match files {
-        Ok(files) => { status_of_making(rt, merge_files(rt, files.as_slice(), merge, terminals)) }
+        Ok(files) => match merge_files(rt, files.as_slice(), merge, terminals) {
+            Ok(status) => status,
+            Err(failure) => status_of_failure(rt, &failure),
+        },
         Err(_) => report_failure(rt, &Failure::on_words(Fault::OutOfMemory)),
     }
 }
 
-fn status_of_making<R: Eprint>(rt: &R, made: Result<(), Failure<'_>>) -> Status {
-    match made {
-        Ok(()) => Status::Done,
+// The status of a command that made nothing, or only a part.
+fn status_of_failure<R: Eprint>(rt: &R, failure: &Failure<'_>) -> Status {
+    if failure.is_closed_pipe() {
         // Nobody reads what was made.
-        Err(failure) if failure.is_closed_pipe() => Status::Failed,
-        Err(failure) if failure.is_disagreement() => {
-            let _ = rt.eprintln(&failure);
-            Status::Found
-        }
-        Err(failure) => report_failure(rt, &failure),
+        Status::Failed
+    } else if failure.is_disagreement() {
+        let _ = rt.eprintln(failure);
+        Status::Found
+    } else {
+        report_failure(rt, failure)
     }
 }

@@ -379,6 +379,7 @@ fn merge_in<'a>(matches: &ArgMatches<'a>, now: Option<u64>) -> Result<Merge<'a>,
         memory: size_in(matches, id::MEMORY)?,
         now,
         drops_expired,
+        skips_unreadable: matches.get_flag(id::SKIP_UNREADABLE),
         compaction: compaction_in(matches)?,
     })
 }

@@ -157,6 +157,7 @@ pub fn failure_on_all<'a>(files: &[&'a str], fault: Fault) -> Failure<'a>
     ensures { result.fault ≡ fault }
 {
     let subject = match files {
+        [only] => Subject::File(only),
         [first, second] => Subject::Pair(first, second),
         [first, ..] => Subject::Files(first, files.len()),
         [] => Subject::StandardOutput,

@@ -170,6 +170,8 @@ pub struct Merge<'a> {
     pub now: Option<u64>,
     /// Whether expired shards are left out.
     pub drops_expired: bool,
+    /// Whether what can't be read is left out.
+    pub skips_unreadable: bool,
     /// How shards are merged in groups, each to a file in a folder; `None` if all are merged as one.
     pub compaction: Option<Compaction>,
 }

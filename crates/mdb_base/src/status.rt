@@ -1,7 +1,7 @@
 //! Exit statuses.
 
 ghost use Rattle.std.specs.Prelude.{◌≡◌};
-ghost use Rattle.mdb_base.specs.Status.{number_of, after_finding};
+ghost use Rattle.mdb_base.specs.Status.{number_of, after_finding, after_leaving_out};
 
 use crate::failure::Failure;
 
@@ -18,6 +18,8 @@ pub enum Status {
     Misused,
     /// A check found something, or shards that have to agree do not.
     Found,
+    /// A merge left out what can't be read, and did all else.
+    Partial,
 }
 
 impl Status {
@@ -31,6 +33,16 @@ impl Status {
         }
     }
 
+    /// The status after files were left out, beside what came of the others.
+    pub fn and_left_out(self) -> Status
+        ensures { result ≡ after_leaving_out self }
+    {
+        match self {
+            Status::Done => Status::Partial,
+            status => status,
+        }
+    }
+
     /// The number that the process ends with.
     pub fn number(self) -> u8
         ensures { result ≡ number_of self }
@@ -40,6 +52,7 @@ impl Status {
             Status::Failed | Status::Nothing => 1,
             Status::Misused => 2,
             Status::Found => 3,
+            Status::Partial => 4,
         }
     }
 }

@@ -434,6 +434,10 @@ const MAKINGS: &[Row] = &[
                 DROP_EXPIRED,
                 "Leaves shards out whose expiry has come by --now"
             ),
+            flag!(
+                SKIP_UNREADABLE,
+                "Leaves files out that can't be read or are no whole shards, names them, and ends with status 4"
+            ),
             EXPIRED_BY,
             option!(
                 MEMORY,

@@ -55,6 +55,7 @@ pub const DIFF: &str = "Example:\n  mdb diff old.mdb new.mdb -o added.mdb";
 pub const MERGE: &str =
     "Examples:\n  mdb merge cache -o all.mdb\n  mdb merge --files-from list -o all.mdb
   mdb merge cache -o all.mdb --memory 256M
+  mdb merge -r cache -o all.mdb --skip-unreadable
   mdb merge session --to store --max-size 64M --hash-key \
 0000000000000001000000000000000200000000000000030000000000000004";
 

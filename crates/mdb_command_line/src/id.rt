@@ -60,6 +60,8 @@ pub const MAX_SIZE: &str = "BYTES";
 
 pub const DROP_EXPIRED: &str = "drop-expired";
 
+pub const SKIP_UNREADABLE: &str = "skip-unreadable";
+
 pub const HASH_LIST: &str = "HASHES";
 
 pub const NULL: &str = "null";

@@ -6,3 +6,4 @@ pub mod compaction;
 pub mod input_removal;
 pub mod merge;
 pub mod rounds;
+mod skipping;

@@ -10,6 +10,7 @@ ghost use Rattle.mdb_base.specs.Writing.{HasExpiry};
 use crate::by_key::{distinct_keys, path_under, values_under};
 use crate::compaction::merge_groups;
 use crate::rounds::merge_in_rounds;
+use crate::skipping::without_unreadable;
 use mdb_base::expiry::{new_expiry, report_expired_in, with_expiry_if_any, without_expired};
 use mdb_base::failure::Failure;
 use mdb_base::infos::{infos_of, keys_in};
@@ -20,6 +21,7 @@ use mdb_base::input_failure::{
 use mdb_base::outputs::{contents_of, put};
 use mdb_base::progress::{Progress, Stage};
 use mdb_base::request::{Merge, Strictness, Target};
+use mdb_base::status::Status;
 use mdb_base::terminals::Terminals;
 use mdb_report::fault::Fault;
 use record_report::shown::ShownText;
@@ -35,44 +37,68 @@ use xet_core_structures::merklehash::HMACKey;
 
 /// Writes the merge of the shards in some files to a target. With `by_key` it writes a merge of
 /// those under each key to the folder at the target's path, by the digits of the key; with `memory`
-/// it takes about so much. If standard error is a terminal, it says there how far it has come.
+/// it takes about so much. If standard error is a terminal, it says there how far it has come. The
+/// status says whether files were left out that can't be read.
 pub fn merge_files<
     'a,
     R: Files + Input + Clock + Print + Eprint + RandomSource + AllocGlobal + Clone + Drop,
->(rt: &R, files: &[&'a str], merge: Merge<'a>, terminals: Terminals) -> Result<(), Failure<'a>> {
+>(
+    rt: &R,
+    files: &[&'a str],
+    merge: Merge<'a>,
+    terminals: Terminals,
+) -> Result<Status, Failure<'a>> {
     if terminals.output && merge.target.path == STANDARD_STREAM {
         return Err(Failure::on_output(Fault::Terminal));
     }
-    if let Some(now) = merge.now
-        && merge.drops_expired
-    {
-        let remaining = without_expired(rt, files, now, merge.verbose)?;
-        return merge_remaining(rt, remaining.as_slice(), merge, terminals);
-    }
-    merge_remaining(rt, files, merge, terminals)
+    let mut progress = Progress::new(rt, terminals.error && !merge.verbose && !merge.quiet);
+    let merged = match (merge.now, merge.drops_expired) {
+        (Some(now), true) => match without_expired(rt, files, now, merge.verbose) {
+            Ok(remaining) => merge_readable(rt, remaining.as_slice(), merge, &mut progress),
+            Err(failure) => Err(failure),
+        },
+        _ => merge_readable(rt, files, merge, &mut progress),
+    };
+    progress.clear(rt);
+    merged
 }
 
-// Writes the merge of the shards in some files, whatever their expiries.
+// Writes the merge of the shards in some files, of which those that can't be read may be left out.
+fn merge_readable<
+    'a,
+    R: Files + Input + Clock + Print + Eprint + RandomSource + AllocGlobal + Clone + Drop,
+>(
+    rt: &R,
+    files: &[&'a str],
+    merge: Merge<'a>,
+    progress: &mut Progress,
+) -> Result<Status, Failure<'a>> {
+    if !merge.skips_unreadable {
+        merge_remaining(rt, files, merge, progress)?;
+        return Ok(Status::Done);
+    }
+    let readable = without_unreadable(rt, files, progress)?;
+    merge_remaining(rt, readable.as_slice(), merge, progress)?;
+    if readable.len() == files.len() {
+        Ok(Status::Done)
+    } else {
+        Ok(Status::Partial)
+    }
+}
+
+// Writes the merge of the shards in some files, none of which is left out.
 fn merge_remaining<
     'a,
     R: Files + Input + Clock + Print + Eprint + RandomSource + AllocGlobal + Clone + Drop,
->(rt: &R, files: &[&'a str], merge: Merge<'a>, terminals: Terminals) -> Result<(), Failure<'a>> {
-    // In groups of a folder without shards there is nothing to do.
-    if files.is_empty() && merge.compaction.is_some() {
-        return Ok(());
-    }
-    if files.is_empty() {
-        return Err(Failure::on_words(Fault::NoFiles));
-    }
-    let mut progress = Progress::new(rt, terminals.error && !merge.verbose && !merge.quiet);
-    let progress = &mut progress;
-    let made = match (merge.compaction, merge.memory) {
+>(rt: &R, files: &[&'a str], merge: Merge<'a>, progress: &mut Progress) -> Result<(), Failure<'a>> {
+    match (merge.compaction, merge.memory) {
+        // There are no groups, so there is nothing to do.
+        (Some(_), _) if files.is_empty() => Ok(()),
+        _ if files.is_empty() => Err(Failure::on_words(Fault::NoFiles)),
         (Some(compaction), _) => merge_groups(rt, files, merge, compaction, progress),
         (None, Some(memory)) => merge_in_rounds(rt, files, merge, memory, progress),
         (None, None) => merge_in_memory(rt, files, merge, progress),
-    };
-    progress.clear(rt);
-    made
+    }
 }
 
 // Writes the merge of shards that are all in memory at once.
