@@ -611,8 +611,13 @@ def garbage_in_little_memory_is_the_same(place):
     wants("in one pass", (run.returncode, run.stderr) == (3, b""))
     found = run.stdout.decode().splitlines()
     wants("each once", len(found) > 128 and len(set(found)) == len(found))
-    # "xorb " and 64 digits
-    wants("in ascending order", found == sorted(found, key=lambda line: line[:69]))
+    # PATH, "xorb" and 64 digits
+    lines = [re.fullmatch(r"(many/\d+\.mdb): xorb ([0-9a-f]{64}): (.*)", it) for it in found]
+    wants("in ascending order", found == sorted(found, key=lambda line: line.partition(": ")[2][:69]))
+    alone = {name: place.run("gc", f"many/{name}").stdout.decode() for name in os.listdir(place.path("many"))}
+    for path, xorb, said in (it.groups() for it in lines):
+        first = min(name for name in alone if f"xorb {xorb}: {said}\n" in alone[name])
+        wants(f"{xorb} is in {path}", path == f"many/{first}")
     parts = place.run("gc", "many", "--memory", "1")
     wants("in several passes", (parts.returncode, parts.stdout, parts.stderr) == (3, run.stdout, b""))
     wants("nothing is written", place.names() == ["both.mdb", "both_3.mdb", "many", "one_file.mdb"])

@@ -2,28 +2,32 @@
 //!
 //! The search takes one range of xorb hashes after another, in ascending order. For each range it
 //! reads all files, and keeps the segments that name a xorb in the range; then it reads all xorbs.
-//! If it would keep too much, it lowers the end of the range.
+//! If it would keep too much, it lowers the end of the range. Then it reads the files again, up to the
+//! last that is the first one with a record that does not fit.
 
 use crate::inputs::Inputs;
+use crate::origins::Origins;
+use crate::sections::{TakesFiles, TakesXorbs, check_memory, read_files, read_xorbs};
 use mdb_base::failure::Failure;
 use mdb_base::progress::{Progress, Stage};
 use mdb_base::request::Collection;
 use mdb_base::shard_file::ShardFile;
 use mdb_base::status::{Status, report_failure};
 use mdb_base::terminals::Terminals;
-use mdb_report::fault::{Fault, section_fault};
-use mdb_report::garbage::print_findings;
-use mdb_report::section::SectionReader;
-use shard_bytes::check::Section;
+use mdb_report::fault::Fault;
+use mdb_report::garbage::print_finding;
+use record_report::line::Style;
 use shard_garbage::finding::GarbageFinding;
 use shard_garbage::garbage::Garbage;
 use shard_garbage::range::HashRange;
 use shard_garbage::segments::Segments;
+use std::alloc::AllocError;
 use std::io;
-use std::io::{BufReader, BufWriter, ErrorKind, Write};
+use std::io::{BufWriter, Write};
 use std::rt::{Clock, Files};
+use xet_core_structures::file_structs::MDBFileInfo;
 use xet_core_structures::merklehash::MerkleHash;
-use xet_core_structures::record_reader::FormatVersion;
+use xet_core_structures::xorb_structs::MDBXorbInfo;
 
 /// About the memory for what is kept of a segment, of a xorb or of a finding, in bytes.
 const ITEM_SIZE: u64 = 256;
@@ -85,10 +89,15 @@ fn print_garbage<'a, R: Files + Clock + Eprint + AllocGlobal, W: Write>(
         if !found.is_empty() {
             status = status.and_found();
         }
-        let printed = print_findings(rt.alloc(), None, found.as_slice(), collection.style, output);
-        if let Err(error) = printed {
-            return Err(Failure::on_output(Fault::from(error)));
-        }
+        let style = collection.style;
+        print_with_origins(
+            rt,
+            shards.as_slice(),
+            found.as_slice(),
+            style,
+            progress,
+            output,
+        )?;
         if to.is_none() {
             break;
         }
@@ -120,74 +129,113 @@ fn garbage_from<'a, R: Files + Clock + Eprint + AllocGlobal>(
     progress: &mut Progress,
 ) -> Result<(Vec<GarbageFinding>, Option<MerkleHash>), Failure<'a>> {
     let alloc = rt.alloc();
-    let mut segments = Segments::new(alloc, HashRange { from, to: None });
+    let mut files = LimitedSegments {
+        segments: Segments::new(alloc, HashRange { from, to: None }),
+        most,
+        limit: most,
+    };
     let all = shards.len();
     for (read, shard) in shards.iter().enumerate() {
         progress.show_after_pause(rt, Stage::Reading { read, all });
-        add_files(rt, shard, &mut segments, most)?;
+        read_files(rt, shard, &mut files)?;
     }
-    let mut garbage = Garbage::new(alloc, segments);
+    let mut xorbs = LimitedGarbage {
+        garbage: Garbage::new(alloc, files.segments),
+        most,
+        limit: most,
+    };
     for (read, shard) in shards.iter().enumerate() {
         progress.show_after_pause(rt, Stage::Reading { read, all });
-        add_xorbs(rt, shard, &mut garbage, most)?;
+        read_xorbs(rt, shard, &mut xorbs)?;
     }
-    let to = garbage.range.to;
-    match garbage.finish() {
+    let to = xorbs.garbage.range.to;
+    match xorbs.garbage.finish() {
         Ok(found) => Ok((found, to)),
         Err(_) => Err(Failure::on_words(Fault::OutOfMemory)),
     }
 }
 
-fn add_files<'a, R: Files + AllocGlobal>(
+// Prints findings, each with the path of the first shard that has its record.
+fn print_with_origins<'a, R: Files + Clock + Eprint + AllocGlobal, W: Write>(
     rt: &R,
-    shard: &ShardFile<'a>,
-    segments: &mut Segments,
-    most: usize,
+    shards: &[ShardFile<'a>],
+    found: &[GarbageFinding],
+    style: Style,
+    progress: &mut Progress,
+    output: &mut W,
 ) -> Result<(), Failure<'a>> {
-    let alloc = rt.alloc();
-    let version = FormatVersion::of_header(shard.info.header.version);
-    let mut section = section_at(rt, shard, shard.info.metadata.file_info_offset, version)?;
-    let mut limit = most;
-    for _ in 0..u64::MAX {
-        let file = match section.next_file(alloc) {
-            Ok(Some(file)) => file,
-            Ok(None) => break,
-            Err(error) => {
-                return Err(Failure::on_file(shard.path, section_fault(Section::Files, error)));
-            }
-        };
-        check_memory(shard, segments.add_file(&file))?;
-        if segments.items.len() > limit {
-            limit = limit_after(most, halve_segments(segments, most));
+    let origins = origins_of(rt, shards, found, progress)?;
+    for (index, finding) in found.iter().enumerate() {
+        let path = path_of(shards, origins.shard_of(index));
+        if let Err(error) = print_finding(rt.alloc(), path, *finding, style, output) {
+            return Err(Failure::on_output(Fault::from(error)));
         }
     }
     Ok(())
 }
 
-fn add_xorbs<'a, R: Files + AllocGlobal>(
+fn path_of<'a>(shards: &[ShardFile<'a>], number: Option<usize>) -> Option<&'a str> {
+    Some(shards.get(number?)?.path)
+}
+
+// Reads shards until the first one that has its record is known of each finding.
+fn origins_of<'a, 'f, R: Files + Clock + Eprint + AllocGlobal>(
     rt: &R,
-    shard: &ShardFile<'a>,
-    garbage: &mut Garbage,
-    most: usize,
-) -> Result<(), Failure<'a>> {
-    let alloc = rt.alloc();
-    let offset = shard.info.metadata.xorb_info_offset;
-    let mut section = section_at(rt, shard, offset, FormatVersion::V3)?;
-    let mut limit = most;
-    for _ in 0..u64::MAX {
-        let xorb = match section.next_xorb(alloc) {
-            Ok(Some(xorb)) => xorb,
-            Ok(None) => break,
-            Err(error) => {
-                return Err(Failure::on_file(shard.path, section_fault(Section::Xorbs, error)));
-            }
-        };
-        check_memory(shard, garbage.add_xorb(&xorb))?;
-        if garbage.len() > limit {
-            limit = limit_after(most, halve_garbage(garbage, most));
+    shards: &[ShardFile<'a>],
+    found: &'f [GarbageFinding],
+    progress: &mut Progress,
+) -> Result<Origins<'f>, Failure<'a>> {
+    let mut origins = match Origins::new(rt.alloc(), found) {
+        Ok(origins) => origins,
+        Err(_) => return Err(Failure::on_words(Fault::OutOfMemory)),
+    };
+    let all = shards.len();
+    for (read, shard) in shards.iter().enumerate() {
+        if origins.left == 0 {
+            break;
         }
+        progress.show_after_pause(rt, Stage::Reading { read, all });
+        origins.shard = read;
+        read_files(rt, shard, &mut origins)?;
+        read_xorbs(rt, shard, &mut origins)?;
     }
-    Ok(())
+    Ok(origins)
+}
+
+// The segments of files, of which some are given up where they are too many.
+#[derive(Drop)]
+struct LimitedSegments {
+    segments: Segments,
+    most: usize,
+    limit: usize,
+}
+
+impl TakesFiles for LimitedSegments {
+    fn take_file(&mut self, file: &MDBFileInfo) -> Result<(), AllocError> {
+        self.segments.add_file(file)?;
+        if self.segments.items.len() > self.limit {
+            self.limit = limit_after(self.most, halve_segments(&mut self.segments, self.most));
+        }
+        Ok(())
+    }
+}
+
+// What is found in xorbs, of which some is given up where it is too much.
+#[derive(Drop)]
+struct LimitedGarbage {
+    garbage: Garbage,
+    most: usize,
+    limit: usize,
+}
+
+impl TakesXorbs for LimitedGarbage {
+    fn take_xorb(&mut self, xorb: &MDBXorbInfo) -> Result<(), AllocError> {
+        self.garbage.add_xorb(xorb)?;
+        if self.garbage.len() > self.limit {
+            self.limit = limit_after(self.most, halve_garbage(&mut self.garbage, self.most));
+        }
+        Ok(())
+    }
 }
 
 // Gives segments up until no more than so many are left, or all name one xorb. How many are left.
@@ -227,29 +275,5 @@ fn limit_after(most: usize, left: usize) -> usize {
         most
     } else {
         left.saturating_mul(2)
-    }
-}
-
-fn check_memory<'a, E: Drop>(
-    shard: &ShardFile<'a>,
-    added: Result<(), E>,
-) -> Result<(), Failure<'a>> {
-    match added {
-        Ok(()) => Ok(()),
-        Err(_) => Err(Failure::on_file(shard.path, Fault::OutOfMemory)),
-    }
-}
-
-/// The section of a shard at an offset.
-pub fn section_at<'a, R: Files + AllocGlobal>(
-    rt: &R,
-    shard: &ShardFile<'a>,
-    offset: u64,
-    version: FormatVersion,
-) -> Result<SectionReader<BufReader<R::File>>, Failure<'a>> {
-    let file = shard.open_at(rt, offset)?;
-    match BufReader::new(rt.alloc(), file) {
-        Ok(reader) => Ok(SectionReader::new(reader, version)),
-        Err(error) => Err(Failure::on_file(shard.path, Fault::from(error))),
     }
 }

@@ -6,4 +6,6 @@ pub mod hash_list;
 pub mod inputs;
 pub mod inspect;
 pub mod ordering;
+mod origins;
 pub mod report;
+mod sections;

@@ -1,7 +1,7 @@
 //! The command that writes an overview of shards as a page.
 
-use crate::gc::section_at;
 use crate::inputs::Inputs;
+use crate::sections::{TakesXorbs, read_xorbs};
 use mdb_base::failure::Failure;
 use mdb_base::outputs::put;
 use mdb_base::progress::{Progress, Stage};
@@ -13,13 +13,11 @@ use mdb_overview::overview::Overview;
 use mdb_overview::page::page_of;
 use mdb_overview::sharing::ChunkHashes;
 use mdb_report::brief::Brief;
-use mdb_report::fault::{Fault, section_fault};
-use shard_bytes::check::Section;
+use mdb_report::fault::Fault;
 use std::alloc::AllocError;
 use std::random::RandomSource;
 use std::rt::{Clock, Files};
 use xet_core_structures::merklehash::MerkleHash;
-use xet_core_structures::record_reader::FormatVersion;
 use xet_core_structures::rows::ROW_SIZE;
 use xet_core_structures::xorb_structs::MDBXorbInfo;
 
@@ -36,6 +34,7 @@ struct BriefShard<'a> {
 /// What was read of the xorbs of a shard.
 #[derive(Drop)]
 struct Xorbs {
+    part: HashPart,
     xorbs: u64,
     chunks: u64,
     /// The hashes of the chunks of a part.
@@ -212,33 +211,24 @@ fn xorbs_of<'a, R: Files + AllocGlobal>(
     file: &ShardFile<'a>,
     part: HashPart,
 ) -> Result<Xorbs, Failure<'a>> {
-    let alloc = rt.alloc();
-    let offset = file.info.metadata.xorb_info_offset;
-    let mut section = section_at(rt, file, offset, FormatVersion::V3)?;
     let mut found = Xorbs {
+        part,
         xorbs: 0,
         chunks: 0,
-        hashes: Vec::new(alloc),
+        hashes: Vec::new(rt.alloc()),
     };
-    for _ in 0..u64::MAX {
-        match section.next_xorb(alloc) {
-            Ok(Some(xorb)) => unless_out_of_memory(found.add(&xorb, part))?,
-            Ok(None) => break,
-            Err(error) => {
-                return Err(Failure::on_file(file.path, section_fault(Section::Xorbs, error)));
-            }
-        }
-    }
+    read_xorbs(rt, file, &mut found)?;
     Ok(found)
 }
 
-impl Xorbs {
-    fn add(&mut self, xorb: &MDBXorbInfo, part: HashPart) -> Result<(), AllocError> {
+impl TakesXorbs for Xorbs {
+    fn take_xorb(&mut self, xorb: &MDBXorbInfo) -> Result<(), AllocError> {
+        let HashPart { rest, parts } = self.part;
         let chunks = xorb.chunks.as_slice();
         self.xorbs = self.xorbs.saturating_add(1);
         self.chunks = self.chunks.saturating_add(chunks.len() as u64);
         for chunk in chunks {
-            if chunk.chunk_hash[0].checked_rem(part.parts) == Some(part.rest) {
+            if chunk.chunk_hash[0].checked_rem(parts) == Some(rest) {
                 self.hashes.push(chunk.chunk_hash)?;
             }
         }

@@ -26,10 +26,10 @@ use xet_core_structures::xorb_structs::MDBXorbInfo;
 #[derive(Clone, Copy)]
 pub struct GarbageInWords(pub GarbageFinding);
 
-/// A finding in a shard, or in some.
+/// A finding, and the shard that has its record.
 #[derive(Clone, Copy, Serialize)]
 pub struct GarbageReport<'a> {
-    /// The name of the shard's file; `None` of some shards together.
+    /// The name of the shard's file; `None` if it is not known.
     pub shard: Option<&'a str>,
     pub code: &'static str,
     pub xorb: Hex,
@@ -44,7 +44,7 @@ pub struct GarbageReport<'a> {
 }
 
 impl<'a> GarbageReport<'a> {
-    /// The report of a finding in a shard, or in some.
+    /// The report of a finding in a shard, if one is known.
     pub fn of_finding(shard: Option<&'a str>, finding: GarbageFinding) -> GarbageReport<'a>
         ensures shard { result.shard ≡ shard.entry }
         ensures finding { result.finding.0 ≡ finding }
@@ -97,7 +97,7 @@ pub(crate) fn print_garbage<W: Write>(
     match garbage_in(alloc, bytes) {
         Ok(found) => {
             let fits = found.is_empty();
-            print_findings(alloc, Some(file), found.as_slice(), style, output)?;
+            print_findings(alloc, file, found.as_slice(), style, output)?;
             Ok(fits)
         }
         Err(CoreError::OutOfMemory) => Err(InquiryFault::Shard(CoreError::OutOfMemory)),
@@ -105,19 +105,29 @@ pub(crate) fn print_garbage<W: Write>(
     }
 }
 
-/// Prints findings in a shard, or in some.
-pub fn print_findings<W: Write>(
+fn print_findings<W: Write>(
     alloc: Global,
-    shard: Option<&str>,
+    shard: &str,
     findings: &[GarbageFinding],
     style: Style,
     output: &mut W,
 ) -> io::Result<()> {
     for finding in findings {
-        let report = GarbageReport::of_finding(shard, *finding);
-        print(alloc, &report, Layout::plain(style), output)?;
+        print_finding(alloc, Some(shard), *finding, style, output)?;
     }
     Ok(())
+}
+
+/// Prints a finding, with the name of a shard that has its record, if one is known.
+pub fn print_finding<W: Write>(
+    alloc: Global,
+    shard: Option<&str>,
+    finding: GarbageFinding,
+    style: Style,
+    output: &mut W,
+) -> io::Result<()> {
+    let report = GarbageReport::of_finding(shard, finding);
+    print(alloc, &report, Layout::plain(style), output)
 }
 
 /// What does not fit together in the records of a shard, from its bytes, in ascending order of the

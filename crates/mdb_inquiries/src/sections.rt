@@ -1,0 +1,92 @@
+//! Reading all records of a shard's sections, of which one is in memory at a time.
+
+ghost use Rattle.xet_core_structures.specs.XorbRecord.{HasItsChunks};
+
+use mdb_base::failure::Failure;
+use mdb_base::shard_file::ShardFile;
+use mdb_report::fault::{Fault, section_fault};
+use mdb_report::section::SectionReader;
+use shard_bytes::check::Section;
+use std::alloc::AllocError;
+use std::io::BufReader;
+use std::rt::Files;
+use xet_core_structures::file_structs::MDBFileInfo;
+use xet_core_structures::record_reader::FormatVersion;
+use xet_core_structures::xorb_structs::MDBXorbInfo;
+
+/// What files are added to.
+pub trait TakesFiles {
+    /// Adds a file. It fails only if memory is lacking.
+    fn take_file(&mut self, file: &MDBFileInfo) -> Result<(), AllocError>;
+}
+
+/// What xorbs are added to.
+pub trait TakesXorbs {
+    /// Adds a xorb. It fails only if memory is lacking.
+    fn take_xorb(&mut self, xorb: &MDBXorbInfo) -> Result<(), AllocError>
+        requires { HasItsChunks xorb.now };
+}
+
+/// Adds each file of a shard.
+pub fn read_files<'a, R: Files + AllocGlobal, T: TakesFiles>(
+    rt: &R,
+    shard: &ShardFile<'a>,
+    taker: &mut T,
+) -> Result<(), Failure<'a>> {
+    let version = FormatVersion::of_header(shard.info.header.version);
+    let mut section = section_at(rt, shard, shard.info.metadata.file_info_offset, version)?;
+    for _ in 0..u64::MAX {
+        match section.next_file(rt.alloc()) {
+            Ok(Some(file)) => check_memory(shard, taker.take_file(&file))?,
+            Ok(None) => break,
+            Err(error) => {
+                return Err(Failure::on_file(shard.path, section_fault(Section::Files, error)));
+            }
+        }
+    }
+    Ok(())
+}
+
+/// Adds each xorb of a shard.
+pub fn read_xorbs<'a, R: Files + AllocGlobal, T: TakesXorbs>(
+    rt: &R,
+    shard: &ShardFile<'a>,
+    taker: &mut T,
+) -> Result<(), Failure<'a>> {
+    let offset = shard.info.metadata.xorb_info_offset;
+    let mut section = section_at(rt, shard, offset, FormatVersion::V3)?;
+    for _ in 0..u64::MAX {
+        match section.next_xorb(rt.alloc()) {
+            Ok(Some(xorb)) => check_memory(shard, taker.take_xorb(&xorb))?,
+            Ok(None) => break,
+            Err(error) => {
+                return Err(Failure::on_file(shard.path, section_fault(Section::Xorbs, error)));
+            }
+        }
+    }
+    Ok(())
+}
+
+/// What was added of a shard, unless memory was lacking.
+pub fn check_memory<'a, E: Drop>(
+    shard: &ShardFile<'a>,
+    added: Result<(), E>,
+) -> Result<(), Failure<'a>> {
+    match added {
+        Ok(()) => Ok(()),
+        Err(_) => Err(Failure::on_file(shard.path, Fault::OutOfMemory)),
+    }
+}
+
+fn section_at<'a, R: Files + AllocGlobal>(
+    rt: &R,
+    shard: &ShardFile<'a>,
+    offset: u64,
+    version: FormatVersion,
+) -> Result<SectionReader<BufReader<R::File>>, Failure<'a>> {
+    let file = shard.open_at(rt, offset)?;
+    match BufReader::new(rt.alloc(), file) {
+        Ok(reader) => Ok(SectionReader::new(reader, version)),
+        Err(error) => Err(Failure::on_file(shard.path, Fault::from(error))),
+    }
+}
