@@ -340,6 +340,27 @@ def large_file_is_not_read_whole(place):
     wants("a lookup", (run.returncode, run.stdout) == (0, whole.stdout))
 
 
+def sections_are_read_without_a_footer(place):
+    for name in ("one_of_each.mdb", "one_file.mdb", "no_bookend.mdb", "text.mdb"):
+        shard = place.made[name]
+        # Up to the tables, as the footer says where these begin; cut in a section; and all.
+        ends = int.from_bytes(shard[-176:-168], "little"), 100, len(shard)
+        for end in ends:
+            place.write("cut.mdb", shard[:end])
+            os.mkfifo(place.path("pipe"))
+            for words in (("eligible",), ("minimal", "-o", "-", "--now", "9"), ("subset", "-o", "-", "--now", "9")):
+                runs = [place.run(*words, "cut.mdb"), place.run(*words, "-", input=shard[:end])]
+                feeder = threading.Thread(target=place.write, args=("pipe", shard[:end]))
+                feeder.start()
+                runs.append(place.run(*words, "pipe"))
+                feeder.join(20)
+                said = [(it.returncode, it.stdout, it.stderr.partition(b": ")[2]) for it in runs]
+                wants(f"{words[0]} of {name} to {end}: {said}", said[0] == said[1] == said[2])
+                whole = name.startswith("one") and end != 100
+                wants(f"status of {words[0]} of {name} to {end}", said[0][0] == int(not whole))
+            os.remove(place.path("pipe"))
+
+
 def controls_are_not_printed(place):
     name = "a\x1b[31m\n\x7f\u009b.mdb"
     shown = "a\\u{1b}[31m\\u{a}\\u{7f}\\u{9b}.mdb"
@@ -655,7 +676,7 @@ ROWS = (
     full_disk_leaves_the_target, killed_run_leaves_the_target, word_that_is_no_text, standard_input_is_a_shard,
     lists_name_shards, folders_without_shards_are_named, folders_in_folders_are_read,
     names_in_folders_are_reported, what_is_no_shard_is_not_read_whole,
-    large_file_is_not_read_whole, controls_are_not_printed, closed_pipe_ends_quietly, terminal_gets_no_shard,
+    large_file_is_not_read_whole, sections_are_read_without_a_footer, controls_are_not_printed, closed_pipe_ends_quietly, terminal_gets_no_shard,
     terminal_shows_progress, now_is_the_clock, merge_in_parts_is_the_merge, merge_in_parts_takes_little_memory,
     merge_of_more_than_memory_reads_ends_alone, failed_merge_in_parts_leaves_the_target,
     killed_merge_in_parts_leaves_one_file, merge_in_parts_wants_regular_files, groups_are_named_by_their_bytes,

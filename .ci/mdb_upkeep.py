@@ -325,10 +325,13 @@ def what_is_no_shard_is_looked_at_alone(place):
         with open(place.path(name), "wb") as file:
             file.write(start)
             file.truncate(2 << 30)
-        commands = [("info",), ("files",), ("xorbs",), ("chunks",), ("check",), ("check", "--hash-key", KEY), ("eligible",)]
+        commands = [("info",), ("files",), ("xorbs",), ("chunks",), ("check",), ("check", "--hash-key", KEY)]
         commands += [("name", "--hash-key", KEY), ("find", "--hash", KEY), ("query", "--hash", KEY)]
         commands += [("merge", "-o", "out.mdb"), ("merge", "--memory", "1M", "-o", "out.mdb")]
-        commands += [("minimal", "-o", "out.mdb"), ("subset", "-o", "out.mdb"), ("drop", "--hash", KEY, "-o", "out.mdb")]
+        commands += [("drop", "--hash", KEY, "-o", "out.mdb")]
+        if not start:
+            # These read all that begins with a header, since they need no footer.
+            commands += [("eligible",), ("minimal", "-o", "out.mdb"), ("subset", "-o", "out.mdb")]
         commands += [("export", "--key", KEY, "--valid", "9", "-o", "out.mdb"), ("union", "one_file.mdb", "-o", "out.mdb")]
         for words in commands:
             run, seconds = quickest_in_little_room(place, *words, name)

@@ -4,7 +4,7 @@ use crate::failure::Failure;
 use mdb_report::fault::Fault;
 use record_report::shown::ShownText;
 use shard_files::beside::leftovers;
-use shard_files::files::{Contents, STANDARD_STREAM, read_shard, write};
+use shard_files::files::{Contents, STANDARD_STREAM, read_sections, read_shard, write};
 use std::alloc::{AllocError, Global};
 use std::fs;
 use std::random::RandomSource;
@@ -60,7 +60,18 @@ pub fn contents_of<'a, R: Files + Input + AllocGlobal>(
     }
 }
 
-/// The bytes of it.
+/// The same of a shard that may end after its sections.
+pub fn sections_of<'a, R: Files + Input + AllocGlobal>(
+    rt: &R,
+    file: &'a str,
+) -> Result<Contents, Failure<'a>> {
+    match read_sections(rt, file) {
+        Ok(contents) => Ok(contents),
+        Err(error) => Err(Failure::on_file(file, Fault::from(error))),
+    }
+}
+
+/// The bytes of the shard in a file.
 pub fn bytes_in_file<'a, R: Files + Input + AllocGlobal>(
     rt: &R,
     file: &'a str,

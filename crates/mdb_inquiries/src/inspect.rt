@@ -3,7 +3,7 @@
 use crate::inputs::Inputs;
 use mdb_base::expiry::report_expired_in;
 use mdb_base::failure::Failure;
-use mdb_base::outputs::contents_of;
+use mdb_base::outputs::{contents_of, sections_of};
 use mdb_base::progress::{Progress, Stage};
 use mdb_base::request::PrintOptions;
 use mdb_base::status::{Status, report_failure};
@@ -131,7 +131,7 @@ fn inspect_file<'a, R: Files + Input + Eprint + AllocGlobal, W: Write>(
     let (opened, size) = match open_sized(rt, file) {
         Ok(Some(opened)) => opened,
         Ok(None) => {
-            let contents = contents_of(rt, file)?;
+            let contents = contents_for(rt, file, inquiry)?;
             report_expired_in(rt, file, contents.bytes.as_slice(), now, progress);
             return inspect_contents(alloc, file, &contents, inquiry, layout, tally, output);
         }
@@ -145,7 +145,7 @@ fn inspect_file<'a, R: Files + Input + Eprint + AllocGlobal, W: Write>(
     match print_paged_answer(alloc, inquiry, file, opened, size, layout, tally, output) {
         Ok(Some(answer)) => Ok(answer),
         Ok(None) => {
-            let contents = contents_of(rt, file)?;
+            let contents = contents_for(rt, file, inquiry)?;
             inspect_contents(alloc, file, &contents, inquiry, layout, tally, output)
         }
         Err(InquiryFault::Ends(error)) => Err(failure_of_error(
@@ -159,6 +159,18 @@ fn inspect_file<'a, R: Files + Input + Eprint + AllocGlobal, W: Write>(
             Err(failure_of_error(alloc, file, bytes, error))
         }
         Err(inquiry_fault) => Err(failure_of(alloc, file, &[], inquiry_fault)),
+    }
+}
+
+// What is read of a file to answer from its bytes. The chunks of the global index are in the sections.
+fn contents_for<'a, R: Files + Input + AllocGlobal>(
+    rt: &R,
+    file: &'a str,
+    inquiry: &Inquiry,
+) -> Result<Contents, Failure<'a>> {
+    match inquiry {
+        Inquiry::Eligible => sections_of(rt, file),
+        _ => contents_of(rt, file),
     }
 }
 

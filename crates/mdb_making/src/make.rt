@@ -12,7 +12,7 @@ use crate::record_removal::remove_records;
 use mdb_base::expiry::{new_expiry, with_expiry_if_any};
 use mdb_base::failure::Failure;
 use mdb_base::input_failure::combine_failure_in;
-use mdb_base::outputs::{bytes_in_file, put};
+use mdb_base::outputs::{bytes_in_file, put, sections_of};
 use mdb_base::request::{MakeCommand, NewExpiry, Target};
 use mdb_report::fault::{Fault, export_fault, fault_of, minimal_fault};
 use shard_bytes::combine::{Operation, combine_bytes_in};
@@ -111,7 +111,7 @@ fn minimal_of_file<'a, R: Files + Input + AllocGlobal>(
     kept: KeptParts,
     target: Target<'a>,
 ) -> Result<Vec<u8>, Failure<'a>> {
-    let bytes = bytes_in_file(rt, file)?;
+    let bytes = sections_of(rt, file)?.bytes;
     minimal_of_bytes(rt.alloc(), file, bytes.as_slice(), now, kept, target)
 }
 
@@ -149,7 +149,7 @@ fn subset<'a, R: Files + Input + Eprint + AllocGlobal>(
     target: Target<'a>,
 ) -> Result<Vec<u8>, Failure<'a>> {
     let alloc = rt.alloc();
-    let bytes = bytes_in_file(rt, file)?;
+    let bytes = sections_of(rt, file)?.bytes;
     if let KeptXorbs::Listed(hashes) = &kept.kept {
         report_missing_xorb(rt, file, bytes.as_slice(), hashes.as_slice())?;
     }

@@ -67,6 +67,15 @@ pub fn read_shard<R: Files + Input + AllocGlobal>(rt: &R, path: &str) -> io::Res
     stream_contents(alloc, &mut file)
 }
 
+/// The same of a shard that may end after its sections: all that begins with a header is read.
+pub fn read_sections<R: Files + Input + AllocGlobal>(rt: &R, path: &str) -> io::Result<Contents> {
+    if path == STANDARD_STREAM {
+        stream_contents(rt.alloc(), &mut rt.reader())
+    } else {
+        stream_contents(rt.alloc(), &mut fs::open(rt, path)?)
+    }
+}
+
 // What is read of a regular file that has room for header and footer.
 fn file_contents<F: Read + Seek>(
     alloc: Global,
