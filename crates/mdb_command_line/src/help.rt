@@ -53,7 +53,9 @@ pub const UNION: &str = "Example:\n  mdb union a.mdb b.mdb -o both.mdb";
 pub const DIFF: &str = "Example:\n  mdb diff old.mdb new.mdb -o added.mdb";
 
 pub const MERGE: &str =
-    "Examples:\n  mdb merge cache -o all.mdb\n  mdb merge --files-from list -o all.mdb
+    "If no file is left to merge, the exit status is 1. With --to there is then nothing to do, and it is 0.
+
+Examples:\n  mdb merge cache -o all.mdb\n  mdb merge --files-from list -o all.mdb
   mdb merge cache -o all.mdb --memory 256M
   mdb merge -r cache -o all.mdb --skip-unreadable
   mdb merge session --to store --max-size 64M --hash-key \
