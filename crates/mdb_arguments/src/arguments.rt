@@ -195,11 +195,7 @@ fn printing_in<'a>(
     now: Option<u64>,
 ) -> Result<PrintOptions, RequestFault<'a>> {
     Ok(PrintOptions {
-        style: if matches.get_flag(id::JSON) {
-            Style::Json
-        } else {
-            Style::Text
-        },
+        style: style_in(matches),
         sort: match matches.get_str(id::SORT) {
             Some("name") => Some(Sort::Name),
             Some("size") => Some(Sort::Size),
@@ -209,6 +205,16 @@ fn printing_in<'a>(
         now: time_in(matches, id::NOW)?.or(now),
         quiet: matches.get_flag(id::QUIET),
     })
+}
+
+fn style_in(matches: &ArgMatches<'_>) -> Style {
+    if matches.get_flag(id::JSON) {
+        Style::Json
+    } else if matches.get_flag(id::HUMAN) {
+        Style::Human
+    } else {
+        Style::Text
+    }
 }
 
 // The shards and hashes of a lookup. Without `--hash` the first word is a shard, and the others are

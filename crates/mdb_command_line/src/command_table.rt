@@ -45,6 +45,8 @@ pub enum Takes {
     Groups,
     /// Nothing: it is a flag that does not go with costs.
     NothingWithoutCosts,
+    /// Nothing: it is a flag that does not go with JSON.
+    NothingWithoutJson,
     /// A value that does not go with groups.
     ValueWithoutGroups,
     /// A value that goes with groups alone.
@@ -234,6 +236,13 @@ const INQUIRIES: &[Row] = &[
                 "sort",
                 Sort,
                 "With --brief: by what the shards are sorted"
+            ),
+            lettered!(
+                'H',
+                HUMAN,
+                id::HUMAN,
+                NothingWithoutJson,
+                "Prints sizes in KiB, MiB and so on"
             ),
             JSON,
         ],

@@ -26,6 +26,8 @@ pub const XORBS: &str = "XORB";
 
 pub const JSON: &str = "json";
 
+pub const HUMAN: &str = "human";
+
 pub const LONG: &str = "long";
 
 pub const COSTS: &str = "costs";

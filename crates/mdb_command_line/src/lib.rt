@@ -77,6 +77,7 @@ fn arg_of<'a>(alloc: Global, argument: &Argument) -> Result<Arg<'a>, AllocError>
         Takes::ValueWithoutGroups => arg.conflicts_with(id::GROUPS),
         Takes::NothingWithGroups => arg.action(ArgAction::SetTrue).requires_arg(id::GROUPS),
         Takes::Sort => arg.value_parser(SORTS).requires_arg(id::BRIEF),
+        Takes::NothingWithoutJson => arg.action(ArgAction::SetTrue).conflicts_with(id::JSON),
         Takes::NothingWithoutCosts => arg.action(ArgAction::SetTrue).conflicts_with(id::COSTS),
         takes => Ok(with_takes(arg, takes)),
     }

@@ -12,6 +12,7 @@ use crate::summary::key_of;
 use record_report::hex::Hex;
 use record_report::moment::Moment;
 use record_report::shown::ShownText;
+use record_report::size::Size;
 use serde::Serialize;
 use shard_bytes::load::load_bytes;
 use std::alloc::{AllocError, Global};
@@ -181,9 +182,11 @@ impl fmt::Display for Brief<'_> {
     fn fmt<W: fmt::Write>(&self, f: &mut fmt::Formatter<W>) -> fmt::Result {
         let shard = ShownText(self.shard);
         let version = self.version;
-        let bytes = self.bytes;
-        let stored = self.stored_bytes;
-        let materialized = self.materialized_bytes;
+        let human = f.alternate();
+        let unit = if human { "" } else { " bytes" };
+        let bytes = Size::new(self.bytes, human);
+        let stored = Size::new(self.stored_bytes, human);
+        let materialized = Size::new(self.materialized_bytes, human);
         let counts = Counts {
             files: self.files,
             xorbs: self.xorbs,
@@ -192,7 +195,7 @@ impl fmt::Display for Brief<'_> {
         let expires = &self.expires;
         write!(
             f,
-            "{shard}: version {version}, {bytes} bytes{counts}, stored {stored}, \
+            "{shard}: version {version}, {bytes}{unit}{counts}, stored {stored}, \
             materialized {materialized}, expires {expires}"
         )?;
         if let Some(key) = self.key {
@@ -208,9 +211,11 @@ impl fmt::Display for Brief<'_> {
 impl fmt::Display for Total {
     fn fmt<W: fmt::Write>(&self, f: &mut fmt::Formatter<W>) -> fmt::Result {
         let shards = self.shards;
-        let bytes = self.bytes;
-        let stored = self.stored_bytes;
-        let materialized = self.materialized_bytes;
+        let human = f.alternate();
+        let unit = if human { "" } else { " bytes" };
+        let bytes = Size::new(self.bytes, human);
+        let stored = Size::new(self.stored_bytes, human);
+        let materialized = Size::new(self.materialized_bytes, human);
         let counts = Counts {
             files: self.files,
             xorbs: self.xorbs,
@@ -218,7 +223,8 @@ impl fmt::Display for Total {
         };
         write!(
             f,
-            "total: {shards} shards, {bytes} bytes{counts}, stored {stored}, materialized {materialized}"
+            "total: {shards} shards, {bytes}{unit}{counts}, stored {stored}, \
+            materialized {materialized}"
         )
     }
 }

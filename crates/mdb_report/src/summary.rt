@@ -11,6 +11,7 @@ use crate::parts::{LEGEND, Parts, bar_of};
 use record_report::hex::Hex;
 use record_report::moment::Moment;
 use record_report::shown::ShownText;
+use record_report::size::Size;
 use serde::Serialize;
 use shard_bytes::load::load_bytes;
 use std::alloc::{AllocError, Global};
@@ -92,11 +93,13 @@ pub(crate) fn key_of(info: &MDBShardInfo) -> Option<Hex>
 
 impl fmt::Display for Summary<'_> {
     fn fmt<W: fmt::Write>(&self, f: &mut fmt::Formatter<W>) -> fmt::Result {
+        let human = f.alternate();
+        let unit = if human { "" } else { " bytes" };
         let shard = ShownText(self.shard);
         let version = self.version;
-        let bytes = self.bytes;
+        let bytes = Size::new(self.bytes, human);
         let parts = PartLines(&self.parts);
-        write!(f, "{shard}: version {version}, {bytes} bytes{parts}")?;
+        write!(f, "{shard}: version {version}, {bytes}{unit}{parts}")?;
         if !self.ascends {
             f.write_str("\n  offsets      do not ascend within the file")?;
         }
@@ -106,16 +109,16 @@ impl fmt::Display for Summary<'_> {
         }
         let created = &self.created;
         let expires = &self.expires;
-        let stored = self.stored_bytes;
-        let on_disk = self.stored_bytes_on_disk;
-        let materialized = self.materialized_bytes;
+        let stored = Size::new(self.stored_bytes, human);
+        let on_disk = Size::new(self.stored_bytes_on_disk, human);
+        let materialized = Size::new(self.materialized_bytes, human);
         let bar = &self.bar;
         write!(
             f,
             "\n  created      {created}\
              \n  expires      {expires}\
-             \n  stored       {stored} bytes, {on_disk} on disk\
-             \n  materialized {materialized} bytes\
+             \n  stored       {stored}{unit}, {on_disk} on disk\
+             \n  materialized {materialized}{unit}\
              \n  {bar}\
              \n  {LEGEND}"
         )

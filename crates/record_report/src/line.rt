@@ -13,8 +13,10 @@ use std::io::Write;
 /// How values are printed.
 #[derive(Clone, Copy)]
 pub enum Style {
-    /// As text, for people.
+    /// As text, with sizes in bytes.
     Text,
+    /// As text, with sizes in the greatest unit that they reach.
+    Human,
     /// As one JSON value a line.
     Json,
 }
@@ -68,7 +70,8 @@ impl<'a> Layout<'a> {
     }
 }
 
-/// Prints a value and a line's end. Both styles print the same value.
+/// Prints a value and a line's end. Each style prints the same value. A value is printed for people by
+/// its alternate form.
 pub fn print<T: Display + Serialize, W: Write>(
     alloc: Global,
     value: &T,
@@ -76,8 +79,11 @@ pub fn print<T: Display + Serialize, W: Write>(
     output: &mut W,
 ) -> io::Result<()> {
     match (layout.style, layout.origin) {
-        (Style::Text, Origin::OneOf(shard)) => print_lines(alloc, value, shard, output),
+        (Style::Text | Style::Human, Origin::OneOf(shard)) => {
+            print_lines(alloc, value, shard, output)
+        }
         (Style::Text, _) => writeln!(output, "{value}"),
+        (Style::Human, _) => writeln!(output, "{value:#}"),
         (Style::Json, Origin::Said) => print_json(alloc, value, output),
         (Style::Json, Origin::NoShard) => {
             let shard = None;

@@ -1,4 +1,62 @@
-//! Reading a size in bytes from a word, as `64M`.
+//! Sizes in bytes: reading one from a word, as `64M`, and printing one for people, as `1.5 KiB`.
+
+ghost use Rattle.std.specs.Prelude.{◌≡◌};
+
+use std::fmt;
+
+/// The units in which sizes are printed, the greatest first, and how many bytes they have.
+const UNITS: &[(u64, &str)] = &[
+    (1 << 60, "EiB"),
+    (1 << 50, "PiB"),
+    (1 << 40, "TiB"),
+    (1 << 30, "GiB"),
+    (1 << 20, "MiB"),
+    (1 << 10, "KiB"),
+];
+
+/// A number of bytes: its digits, or, for people, its tenths of the greatest unit that it reaches, to
+/// the nearest.
+#[derive(Clone, Copy)]
+pub struct Size {
+    pub bytes: u64,
+    pub human: bool,
+}
+
+impl Size {
+    /// So many bytes, for people or as digits.
+    pub fn new(bytes: u64, human: bool) -> Size
+        ensures bytes { result.bytes ≡ bytes }
+        ensures human { result.human ≡ human }
+    {
+        Size { bytes, human }
+    }
+}
+
+impl fmt::Display for Size {
+    fn fmt<W: fmt::Write>(&self, f: &mut fmt::Formatter<W>) -> fmt::Result {
+        let bytes = self.bytes;
+        if !self.human {
+            return write!(f, "{bytes}");
+        }
+        for (unit, name) in UNITS {
+            if bytes >= *unit {
+                let tenths = tenths_of(bytes, *unit);
+                let (whole, tenth) = (tenths / 10, tenths % 10);
+                return write!(f, "{whole}.{tenth} {name}");
+            }
+        }
+        write!(f, "{bytes} B")
+    }
+}
+
+// How many tenths of a unit a number of bytes has, to the nearest.
+fn tenths_of(bytes: u64, unit: u64) -> u128 {
+    u128::from(bytes)
+        .saturating_mul(10)
+        .saturating_add(u128::from(unit / 2))
+        .checked_div(u128::from(unit))
+        .unwrap_or(0)
+}
 
 /// The number of bytes in a text of digits, which a K, M, G or T may follow: 1024 bytes, and then
 /// each 1024 of the unit before. `None` for another text, or if there are too many for `u64`.
