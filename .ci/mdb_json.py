@@ -23,6 +23,9 @@ COMMANDS = {
     "eligible": [("eligible",)],
 }
 
+# What is said on standard error, and the members that are its alone.
+REPORTED = {"a failure": ("info", "missing.mdb"), "an expired shard": ("find", "plain.mdb", FILE)}
+
 
 def shape(value):
     """Returns a value's members, each with its own; of a list of objects those of its items, as of a member `[]`."""
@@ -85,5 +88,10 @@ def check_members(program, folder, made, page):
         if not why and any(next(iter(it)) != "shard" for it in values):
             why = "a line does not begin with the shard"
         answers.append((f"the members of {name}", why))
-    unknown = set(said) - set(COMMANDS)
+    for name, words in REPORTED.items():
+        run = subprocess.run([program, *words, "--json"], capture_output=True, cwd=folder, timeout=20, check=False)
+        found = joined(shape(json.loads(it)) for it in run.stderr.decode().splitlines())
+        wanted = {"shard": {}, **said.get(name, {})}
+        answers.append((f"the members of {name}", None if found == wanted else f"it has {found}"))
+    unknown = set(said) - set(COMMANDS) - set(REPORTED)
     return answers + [(f"the members of {it}", "no such command") for it in sorted(unknown)]

@@ -18,6 +18,7 @@ use mdb_inquiries::report::report;
 use mdb_making::make::make;
 use mdb_merging::merge::merge_files;
 use mdb_report::fault::Fault;
+use record_report::line::Style;
 use record_report::moment::seconds_now;
 use std::alloc::AllocError;
 use std::random::RandomSource;
@@ -31,7 +32,11 @@ pub fn run<
 {
     match read_words(rt) {
         Ok(words) => status_of_words(rt, &words, terminals).number(),
-        Err(error) => report_failure(rt, &Failure::on_words(Fault::from(error))).number(),
+        Err(error) => report_failure(
+            rt,
+            Style::Text,
+            &Failure::on_words(Fault::from(error)),
+        ).number(),
     }
 }
 
@@ -63,7 +68,7 @@ fn status_of_request<
 >(rt: &R, request: &mut Request<'_>, unreadable: &[String], terminals: Terminals) -> Status {
     match add_listed(rt, request, unreadable) {
         Ok(()) => status_of(rt, request, unreadable, terminals),
-        Err(failure) => report_failure(rt, &failure),
+        Err(failure) => report_failure(rt, request.style(), &failure),
     }
 }
 
@@ -81,23 +86,35 @@ fn status_of<R: Locks + Input + Clock + Print + Eprint + RandomSource + AllocGlo
             };
             match inputs {
                 Ok(inputs) => inspect(rt, &inputs, inquiry, *printing, terminals),
-                Err(_) => report_failure(rt, &Failure::on_words(Fault::OutOfMemory)),
+                Err(_) => report_failure(
+                    rt,
+                    printing.style,
+                    &Failure::on_words(Fault::OutOfMemory),
+                ),
             }
         }
         Request::Collect(sources, collection) => match inputs_of(rt, sources, unreadable) {
             Ok(inputs) => collect_garbage(rt, &inputs, *collection, terminals),
-            Err(_) => report_failure(rt, &Failure::on_words(Fault::OutOfMemory)),
+            Err(_) => report_failure(rt, collection.style, &Failure::on_words(Fault::OutOfMemory)),
         },
         Request::Report(_, reporting) if is_among(unreadable, reporting.output) => {
-            report_failure(rt, &Failure::on_file(reporting.output, Fault::NoText))
+            report_failure(
+                rt,
+                Style::Text,
+                &Failure::on_file(reporting.output, Fault::NoText),
+            )
         }
         Request::Report(sources, reporting) => match inputs_of(rt, sources, unreadable) {
             Ok(inputs) => report(rt, &inputs, sources.words.as_slice(), *reporting, terminals),
-            Err(_) => report_failure(rt, &Failure::on_words(Fault::OutOfMemory)),
+            Err(_) => report_failure(rt, Style::Text, &Failure::on_words(Fault::OutOfMemory)),
         },
         Request::Make(making, target) => {
             if let Some(word) = unreadable.first() {
-                return report_failure(rt, &Failure::on_file(word.as_str(), Fault::NoText));
+                return report_failure(
+                    rt,
+                    Style::Text,
+                    &Failure::on_file(word.as_str(), Fault::NoText),
+                );
             }
             match make(rt, making, *target, terminals.output) {
                 Ok(()) => Status::Done,
@@ -106,7 +123,11 @@ fn status_of<R: Locks + Input + Clock + Print + Eprint + RandomSource + AllocGlo
         }
         Request::Merge(sources, merge) => {
             if let Some(word) = unreadable.first() {
-                return report_failure(rt, &Failure::on_file(word.as_str(), Fault::NoText));
+                return report_failure(
+                    rt,
+                    Style::Text,
+                    &Failure::on_file(word.as_str(), Fault::NoText),
+                );
             }
             status_of_merge(rt, sources, *merge, terminals)
         }
@@ -149,7 +170,7 @@ fn status_of_sources<
                 false => status,
             }
         }
-        Err(_) => report_failure(rt, &Failure::on_words(Fault::OutOfMemory)),
+        Err(_) => report_failure(rt, Style::Text, &Failure::on_words(Fault::OutOfMemory)),
     }
 }
 
@@ -193,12 +214,12 @@ fn status_of_files<
             Ok(status) => status,
             Err(failure) => status_of_failure(rt, &failure),
         },
-        Err(_) => report_failure(rt, &Failure::on_words(Fault::OutOfMemory)),
+        Err(_) => report_failure(rt, Style::Text, &Failure::on_words(Fault::OutOfMemory)),
     }
 }
 
 // The status of a command that made nothing, or only a part.
-fn status_of_failure<R: Eprint>(rt: &R, failure: &Failure<'_>) -> Status {
+fn status_of_failure<R: Eprint + AllocGlobal>(rt: &R, failure: &Failure<'_>) -> Status {
     if failure.is_closed_pipe() {
         // Nobody reads what was made.
         Status::Failed
@@ -206,6 +227,6 @@ fn status_of_failure<R: Eprint>(rt: &R, failure: &Failure<'_>) -> Status {
         let _ = rt.eprintln(failure);
         Status::Found
     } else {
-        report_failure(rt, failure)
+        report_failure(rt, Style::Text, failure)
     }
 }

@@ -276,6 +276,7 @@ fn sources_in<'a>(
         list: matches.get_str(id::LIST),
         hashes: hash_list_in(matches),
         end: end_in(matches),
+        style: style_in(matches),
         recursive: matches.get_flag(id::RECURSIVE),
         may_be_empty: false,
     })

@@ -10,17 +10,20 @@ ghost use Rattle.mdb_base.specs.Writing.{HasExpiry, RefusesExpiry};
 use crate::failure::Failure;
 use crate::infos::infos_of;
 use crate::input_failure::in_memory;
+use crate::messages::say;
 use crate::progress::Progress;
 use crate::request::NewExpiry;
 use mdb_report::expiry::{expiry_of, has_come};
+use record_report::line::Style;
 use record_report::moment::Moment;
 use record_report::shown::ShownText;
+use serde::Serialize;
 use shard_bytes::expiry::with_expiry;
 use shard_bytes::load::load_bytes;
 use shard_files::files::{STANDARD_STREAM, read_ends};
 use std::alloc::Global;
-use std::fs;
 use std::rt::Files;
+use std::{fmt, fs};
 use xet_core_structures::error::CoreError;
 use xet_core_structures::shard_format::MDBShardInfo;
 
@@ -124,9 +127,25 @@ pub fn expiry_at<R: Files + AllocGlobal>(rt: &R, file: &str) -> Option<u64> {
     shard_expiry(&load_bytes(rt.alloc(), ends.as_slice()).ok()?)
 }
 
+/// What is said of a file that is used though its shard has expired.
+#[derive(Drop, Serialize)]
+struct ExpiredShard<'a> {
+    shard: &'a str,
+    expired: Moment,
+}
+
+impl fmt::Display for ExpiredShard<'_> {
+    fn fmt<W: fmt::Write>(&self, f: &mut fmt::Formatter<W>) -> fmt::Result {
+        let shard = ShownText(self.shard);
+        let moment = &self.expired;
+        write!(f, "{shard}: it has expired, at {moment}")
+    }
+}
+
 /// Says of a file that is used that its shard has expired, if that is known.
 pub fn report_expired<R: Eprint + AllocGlobal>(
     rt: &R,
+    style: Style,
     file: &str,
     info: &MDBShardInfo,
     now: Option<u64>,
@@ -138,22 +157,29 @@ pub fn report_expired<R: Eprint + AllocGlobal>(
     if !has_come(Some(expiry), now) {
         return;
     }
-    if let Ok(moment) = Moment::of_seconds(rt.alloc(), expiry) {
-        let file = ShownText(file);
+    if let Ok(expired) = Moment::of_seconds(rt.alloc(), expiry) {
         progress.clear(rt);
-        let _ = rt.eprintln(format_args!("{file}: it has expired, at {moment}"));
+        say(
+            rt,
+            style,
+            &ExpiredShard {
+                shard: file,
+                expired,
+            },
+        );
     }
 }
 
 /// The same of the shard in these bytes, if they hold one.
 pub fn report_expired_in<R: Eprint + AllocGlobal>(
     rt: &R,
+    style: Style,
     file: &str,
     bytes: &[u8],
     now: Option<u64>,
     progress: &mut Progress,
 ) {
     if let Ok(info) = load_bytes(rt.alloc(), bytes) {
-        report_expired(rt, file, &info, now, progress);
+        report_expired(rt, style, file, &info, now, progress);
     }
 }

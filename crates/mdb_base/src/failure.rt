@@ -4,6 +4,7 @@ ghost use Rattle.std.specs.Prelude.{◌≡◌};
 
 use mdb_report::fault::Fault;
 use record_report::shown::ShownText;
+use serde::{Described, Serialize, Serializer};
 use shard_files::files::STANDARD_STREAM;
 use std::fmt;
 use std::io::ErrorKind;
@@ -104,6 +105,47 @@ impl fmt::Display for Subject<'_> {
             ),
             Subject::StandardOutput => write!(f, "standard output"),
             Subject::CommandLine => write!(f, "the command line"),
+        }
+    }
+}
+
+impl Described for Failure<'_> {}
+
+impl Serialize for Failure<'_> {
+    fn serialize<S: Serializer>(&self, out: &mut S) -> Result<(), S::Error> {
+        let shard = match self.subject {
+            Subject::File(file) => Some(file),
+            _ => None,
+        };
+        let problem = Problem(self);
+        FailureLine { shard, problem }.serialize(out)
+    }
+}
+
+// A failure in JSON. If it is on a file, the problem does not name the file again.
+#[derive(Clone, Copy, Serialize)]
+struct FailureLine<'f, 'a> {
+    shard: Option<&'a str>,
+    problem: Problem<'f, 'a>,
+}
+
+#[derive(Clone, Copy)]
+struct Problem<'f, 'a>(&'f Failure<'a>);
+
+impl Described for Problem<'_, '_> {}
+
+impl Serialize for Problem<'_, '_> {
+    fn serialize<S: Serializer>(&self, out: &mut S) -> Result<(), S::Error> {
+        out.collect_str(self)
+    }
+}
+
+impl fmt::Display for Problem<'_, '_> {
+    fn fmt<W: fmt::Write>(&self, f: &mut fmt::Formatter<W>) -> fmt::Result {
+        let Problem(failure) = *self;
+        match failure.subject {
+            Subject::File(_) => write!(f, "{}", failure.fault),
+            _ => write!(f, "{failure}"),
         }
     }
 }

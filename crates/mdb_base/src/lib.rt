@@ -5,6 +5,7 @@ pub mod expiry;
 pub mod failure;
 pub mod infos;
 pub mod input_failure;
+pub mod messages;
 pub mod outputs;
 pub mod progress;
 pub mod request;

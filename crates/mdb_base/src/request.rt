@@ -28,6 +28,17 @@ pub enum Request<'a> {
     Merge(Sources<'a>, Merge<'a>),
 }
 
+impl Request<'_> {
+    /// How it is said what fails.
+    pub fn style(&self) -> Style {
+        match self {
+            Request::Inspect(_, _, printing) => printing.style,
+            Request::Collect(_, collection) => collection.style,
+            _ => Style::Text,
+        }
+    }
+}
+
 /// How answers about shards are printed.
 #[derive(Clone, Copy)]
 pub struct PrintOptions {
@@ -92,6 +103,8 @@ pub struct Sources<'a> {
     pub hashes: Option<HashList<'a>>,
     /// The byte that ends a path in the list.
     pub end: u8,
+    /// How it is said what can't be read.
+    pub style: Style,
     /// Whether the folders in a folder are read too.
     pub recursive: bool,
     /// Whether a folder without shards is no failure.

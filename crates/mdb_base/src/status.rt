@@ -4,6 +4,8 @@ ghost use Rattle.std.specs.Prelude.{◌≡◌};
 ghost use Rattle.mdb_base.specs.Status.{number_of, after_finding, after_leaving_out};
 
 use crate::failure::Failure;
+use crate::messages::say;
+use record_report::line::Style;
 
 /// The exit status of a run.
 #[derive(Clone, Copy)]
@@ -58,9 +60,13 @@ impl Status {
 }
 
 /// Reports a failure on standard error.
-pub fn report_failure<R: Eprint>(rt: &R, failure: &Failure<'_>) -> Status
+pub fn report_failure<R: Eprint + AllocGlobal>(
+    rt: &R,
+    style: Style,
+    failure: &Failure<'_>,
+) -> Status
     ensures { result ≡ Status.Failed }
 {
-    let _ = rt.eprintln(failure);
+    say(rt, style, failure);
     Status::Failed
 }

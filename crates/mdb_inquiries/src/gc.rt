@@ -51,7 +51,11 @@ pub fn collect_garbage<R: Files + Input + Clock + Print + Eprint + AllocGlobal>(
     }
     let mut output = match BufWriter::new(rt.alloc(), io::writer(rt)) {
         Ok(output) => output,
-        Err(error) => return report_failure(rt, &Failure::on_output(Fault::from(error))),
+        Err(error) => return report_failure(
+            rt,
+            collection.style,
+            &Failure::on_output(Fault::from(error)),
+        ),
     };
     let mut progress = Progress::new(rt, terminals.error && !collection.quiet);
     let printed = print_garbage(rt, inputs, collection, &mut progress, &mut output);
@@ -67,7 +71,7 @@ pub fn collect_garbage<R: Files + Input + Clock + Print + Eprint + AllocGlobal>(
         Ok(status) => status,
         // Nobody reads what is found.
         Err(failure) if failure.is_closed_pipe() => Status::Found,
-        Err(failure) => report_failure(rt, &failure),
+        Err(failure) => report_failure(rt, collection.style, &failure),
     }
 }
 

@@ -6,6 +6,7 @@ use mdb_base::request::Sources;
 use mdb_base::status::report_failure;
 use mdb_base::words::{escape_word, is_among};
 use mdb_report::fault::Fault;
+use record_report::line::Style;
 use shard_files::files::{STANDARD_STREAM, read};
 use std::alloc::{AllocError, Global};
 use std::io::Read;
@@ -49,13 +50,18 @@ pub fn inputs_of<R: Files + Input + Eprint + AllocGlobal>(
     };
     for word in &sources.words {
         if is_among(unreadable, word) {
-            inputs.report(rt, word, Fault::NoText)?;
+            inputs.report(rt, sources.style, word, Fault::NoText)?;
         } else {
             inputs.add(rt, sources, word)?;
         }
     }
     match sources.list {
-        Some(list) if is_among(unreadable, list) => inputs.report(rt, list, Fault::NoText)?,
+        Some(list) if is_among(unreadable, list) => inputs.report(
+            rt,
+            sources.style,
+            list,
+            Fault::NoText,
+        )?,
         Some(list) => inputs.add_list(rt, sources, list)?,
         None => {}
     }
@@ -72,7 +78,7 @@ impl Inputs {
     ) -> Result<(), AllocError> {
         if path == STANDARD_STREAM {
             if self.reads_input {
-                return self.report(rt, path, Fault::InputTwice);
+                return self.report(rt, sources.style, path, Fault::InputTwice);
             }
             self.reads_input = true;
         }
@@ -101,17 +107,17 @@ impl Inputs {
             };
             let mut names = Vec::new(rt.alloc());
             if let Err(error) = read_names(rt, next.as_str(), &mut names) {
-                self.report(rt, next.as_str(), Fault::from(error))?;
+                self.report(rt, sources.style, next.as_str(), Fault::from(error))?;
             }
             found.add_names(rt, next.as_str(), names.as_slice(), sources.recursive)?;
         }
-        self.report_unreadable(rt, &mut found)?;
+        self.report_unreadable(rt, sources, &mut found)?;
         if found.shards.is_empty() && self.failures.len() == reported && !sources.may_be_empty {
             let fault = match sources.recursive {
                 true => Fault::NoShardsWithin,
                 false => Fault::NoShards,
             };
-            self.report(rt, folder, fault)?;
+            self.report(rt, sources.style, folder, fault)?;
         }
         let Found { shards, .. } = found;
         self.add_shards(shards)
@@ -120,11 +126,12 @@ impl Inputs {
     fn report_unreadable<R: Eprint + AllocGlobal>(
         &mut self,
         rt: &R,
+        sources: &Sources<'_>,
         found: &mut Found,
     ) -> Result<(), AllocError> {
         found.unreadable.as_mut_slice().sort_unstable();
         for path in &found.unreadable {
-            self.report(rt, path.as_str(), Fault::NoText)?;
+            self.report(rt, sources.style, path.as_str(), Fault::NoText)?;
         }
         Ok(())
     }
@@ -147,7 +154,7 @@ impl Inputs {
         let bytes = match read(rt, list) {
             Ok(bytes) => bytes,
             Err(error) => {
-                return self.report(rt, list, Fault::from(error));
+                return self.report(rt, sources.style, list, Fault::from(error));
             }
         };
         let end = sources.end;
@@ -155,7 +162,12 @@ impl Inputs {
             match str::from_utf8(line) {
                 Ok("") => {}
                 Ok(path) => self.add(rt, sources, path)?,
-                Err(_) => self.report(rt, escape_word(rt.alloc(), line)?.as_str(), Fault::NoText)?,
+                Err(_) => self.report(
+                    rt,
+                    sources.style,
+                    escape_word(rt.alloc(), line)?.as_str(),
+                    Fault::NoText,
+                )?,
             }
         }
         Ok(())
@@ -165,11 +177,12 @@ impl Inputs {
     fn report<R: Eprint + AllocGlobal>(
         &mut self,
         rt: &R,
+        style: Style,
         path: &str,
         fault: Fault,
     ) -> Result<(), AllocError> {
         let failure = Failure::on_file(path, fault);
-        let _ = report_failure(rt, &failure);
+        let _ = report_failure(rt, style, &failure);
         self.failed = true;
         self.failures.push(format!(in rt.alloc(); "{failure}")?)?;
         Ok(())

@@ -32,7 +32,11 @@ pub fn inspect<R: Files + Input + Clock + Print + Eprint + AllocGlobal>(
 ) -> Status {
     let mut output = match BufWriter::new(rt.alloc(), io::writer(rt)) {
         Ok(output) => output,
-        Err(error) => return report_failure(rt, &Failure::on_output(Fault::from(error))),
+        Err(error) => return report_failure(
+            rt,
+            printing.style,
+            &Failure::on_output(Fault::from(error)),
+        ),
     };
     let mut tally = Tally::new(rt.alloc());
     let mut progress = Progress::new(rt, terminals.error && !printing.quiet);
@@ -61,7 +65,7 @@ pub fn inspect<R: Files + Input + Clock + Print + Eprint + AllocGlobal>(
     match end.and_then(|()| output.flush()) {
         Ok(()) => status,
         Err(error) if error.kind() == ErrorKind::BrokenPipe => status,
-        Err(error) => report_failure(rt, &Failure::on_output(Fault::from(error))),
+        Err(error) => report_failure(rt, printing.style, &Failure::on_output(Fault::from(error))),
     }
 }
 
@@ -103,9 +107,9 @@ fn inspect_all<R: Files + Input + Clock + Eprint + AllocGlobal, W: Write>(
             // The reader of the output has closed it.
             Err(failure) if failure.is_closed_pipe() => return Err(status),
             Err(failure) if failure.is_on_output() => {
-                return Err(report_failure(rt, &failure));
+                return Err(report_failure(rt, printing.style, &failure));
             }
-            Err(failure) => status = report_failure(rt, &failure),
+            Err(failure) => status = report_failure(rt, printing.style, &failure),
         }
         nothing = false;
     }
@@ -132,7 +136,14 @@ fn inspect_file<'a, R: Files + Input + Eprint + AllocGlobal, W: Write>(
         Ok(Some(opened)) => opened,
         Ok(None) => {
             let contents = contents_for(rt, file, inquiry)?;
-            report_expired_in(rt, file, contents.bytes.as_slice(), now, progress);
+            report_expired_in(
+                rt,
+                layout.style,
+                file,
+                contents.bytes.as_slice(),
+                now,
+                progress,
+            );
             return inspect_contents(alloc, file, &contents, inquiry, layout, tally, output);
         }
         Err(error) => return Err(Failure::on_file(file, Fault::from(error))),
@@ -140,7 +151,7 @@ fn inspect_file<'a, R: Files + Input + Eprint + AllocGlobal, W: Write>(
     if now.is_some()
         && let Ok(ends) = read_ends(rt, file)
     {
-        report_expired_in(rt, file, ends.as_slice(), now, progress);
+        report_expired_in(rt, layout.style, file, ends.as_slice(), now, progress);
     }
     match print_paged_answer(alloc, inquiry, file, opened, size, layout, tally, output) {
         Ok(Some(answer)) => Ok(answer),

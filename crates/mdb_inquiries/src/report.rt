@@ -14,6 +14,7 @@ use mdb_overview::page::page_of;
 use mdb_overview::sharing::ChunkHashes;
 use mdb_report::brief::Brief;
 use mdb_report::fault::Fault;
+use record_report::line::Style;
 use std::alloc::AllocError;
 use std::random::RandomSource;
 use std::rt::{Clock, Files};
@@ -64,7 +65,7 @@ pub fn report<'a, R: Files + Clock + Print + Eprint + RandomSource + AllocGlobal
         Ok(status) => status,
         // Nobody reads the page.
         Err(failure) if failure.is_closed_pipe() => Status::Failed,
-        Err(failure) => report_failure(rt, &failure),
+        Err(failure) => report_failure(rt, Style::Text, &failure),
     }
 }
 
@@ -112,7 +113,7 @@ fn leave_out<'a, R: Eprint + AllocGlobal>(
     overview: &mut Overview<'a>,
     failure: Failure<'a>,
 ) -> Result<(), Failure<'a>> {
-    let _ = report_failure(rt, &failure);
+    let _ = report_failure(rt, Style::Text, &failure);
     unless_out_of_memory(overview.add_failure(rt.alloc(), &failure))
 }
 

@@ -24,6 +24,7 @@ use mdb_base::request::{Merge, Strictness, Target};
 use mdb_base::status::Status;
 use mdb_base::terminals::Terminals;
 use mdb_report::fault::Fault;
+use record_report::line::Style;
 use record_report::shown::ShownText;
 use shard_bytes::agree::{AgreeingMerge, merge_agreeing_bytes};
 use shard_bytes::merge::merge_bytes;
@@ -210,7 +211,8 @@ pub fn contents_of_all<'a, R: Files + Input + Clock + Eprint + AllocGlobal>(
         if merge.verbose && contents.whole {
             report_size(rt, file, contents.bytes.len() as u64);
         }
-        report_expired_in(rt, file, contents.bytes.as_slice(), merge.now, progress);
+        let bytes = contents.bytes.as_slice();
+        report_expired_in(rt, Style::Text, file, bytes, merge.now, progress);
         if all.push(contents).is_err() {
             return Err(Failure::on_file(file, Fault::OutOfMemory));
         }

@@ -22,6 +22,7 @@ use mdb_base::request::Merge;
 use mdb_base::shard_file::{RoundFault, ShardFile, ends_of};
 use mdb_report::fault::{Fault, fault_of};
 use parts::merge_parts;
+use record_report::line::Style;
 use shard_assembly::assembly::Assembly;
 use shard_bytes::load::load_bytes;
 use shard_files::beside::{NewFile, create_beside, create_private};
@@ -117,7 +118,7 @@ fn open_all<'a, R: Files + Input + Clock + Eprint + AllocGlobal>(
         }
         match load_bytes(alloc, ends.as_slice()) {
             Ok(info) => {
-                report_expired(rt, file, &info, merge.now, progress);
+                report_expired(rt, Style::Text, file, &info, merge.now, progress);
                 in_memory(files, opened.push(ShardFile::new(file, info, stamp)))?;
             }
             Err(error) if first_failure.is_none() => {

@@ -112,11 +112,16 @@ fn print_lines<T: Display, W: Write>(
 }
 
 fn print_json<T: Serialize, W: Write>(alloc: Global, value: &T, output: &mut W) -> io::Result<()> {
-    let json = match serde_json::to_string(alloc, value) {
-        Ok(json) => json,
-        Err(_) => return Err(io::Error::from(io::ErrorKind::OutOfMemory)),
-    };
+    let json = json_of(alloc, value)?;
     writeln!(output, "{json}")
+}
+
+/// A value as JSON. It fails only if memory is lacking.
+pub fn json_of<T: Serialize>(alloc: Global, value: &T) -> io::Result<String> {
+    match serde_json::to_string(alloc, value) {
+        Ok(json) => Ok(json),
+        Err(_) => Err(io::Error::from(io::ErrorKind::OutOfMemory)),
+    }
 }
 
 // A value with the name of the shard that has it.
