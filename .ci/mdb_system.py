@@ -420,6 +420,38 @@ def terminal_shows_progress(place):
     wants("lines", said == b"\r\x1b[K2 of 3 shards read\r\x1b[Kmerging 3 shards\r\x1b[K")
 
 
+def on_terminal(place, *words):
+    """Runs the program with standard error on a terminal. Returns its status, what it prints and what it says."""
+    ours, terminal = os.openpty()
+    run = subprocess.run(
+        [place.program, *words], stdout=subprocess.PIPE, stderr=terminal, cwd=place.folder, timeout=20, check=False
+    )
+    os.set_blocking(ours, False)
+    try:
+        said = os.read(ours, 4096).replace(b"\r\n", b"\n")
+    except OSError:
+        said = b""
+    os.close(terminal)
+    os.close(ours)
+    return run.returncode, run.stdout, said
+
+
+def check_says_how_much_it_looked_at(place):
+    place.write("text.mdb", place.made["text.mdb"])
+    wrong = b"text.mdb: no shard: its first 32 bytes are no tag\n"
+    names = ("both.mdb", "text.mdb", "one_file.mdb")
+    counted = (3, wrong, b"3 shards, 1 with findings\n")
+    wants("a check", on_terminal(place, "check", *names) == counted)
+    wants("quietly", on_terminal(place, "check", "-q", *names) == (3, wrong, b""))
+    none = b"missing: No such file or directory (os error 2)\n"
+    counted = (1, b"", none + b"2 shards, 0 with findings, 1 not read\n")
+    wants("a failure", on_terminal(place, "check", "both.mdb", "missing") == counted)
+    wants("another command", on_terminal(place, "files", "one_of_each.mdb", "missing")[2].count(b"\n") == 2)
+    wants("no terminal", place.run("check", *names).stderr == b"")
+    status, printed, said = on_terminal(place, "check", "--json", *names)
+    wants("as JSON", (status, len(printed.splitlines()), said) == (3, 1, b""))
+
+
 def now_is_the_clock(place):
     before = int(time.time())
     wants("status", place.run("minimal", "both.mdb", "-o", "out.mdb").returncode == 0)
@@ -677,7 +709,7 @@ ROWS = (
     lists_name_shards, folders_without_shards_are_named, folders_in_folders_are_read,
     names_in_folders_are_reported, what_is_no_shard_is_not_read_whole,
     large_file_is_not_read_whole, sections_are_read_without_a_footer, controls_are_not_printed, closed_pipe_ends_quietly, terminal_gets_no_shard,
-    terminal_shows_progress, now_is_the_clock, merge_in_parts_is_the_merge, merge_in_parts_takes_little_memory,
+    terminal_shows_progress, check_says_how_much_it_looked_at, now_is_the_clock, merge_in_parts_is_the_merge, merge_in_parts_takes_little_memory,
     merge_of_more_than_memory_reads_ends_alone, failed_merge_in_parts_leaves_the_target,
     killed_merge_in_parts_leaves_one_file, merge_in_parts_wants_regular_files, groups_are_named_by_their_bytes,
     closed_streams_get_no_file, folder_without_a_name_is_none,

@@ -8,7 +8,7 @@ import subprocess
 import time
 
 from library.common import TOP, OutOfReach, Skip
-from mdb_system import many_shards, needs_root, wants
+from mdb_system import many_shards, needs_root, on_terminal, wants
 
 KEY = "0" * 63 + "7"
 # What .ci/kill_at.c ends with.
@@ -363,17 +363,8 @@ def quickest_in_little_room(place, *words):
 def quiet_says_nothing(place):
     many_shards(place, 6)
     for quiet, says in (((), True), (("-q",), False), (("--quiet",), False)):
-        ours, terminal = os.openpty()
-        words = [place.program, "merge", "many", "-o", "out.mdb", *quiet]
-        run = subprocess.run(words, stderr=terminal, cwd=place.folder, timeout=20, check=False)
-        os.set_blocking(ours, False)
-        try:
-            said = os.read(ours, 4096)
-        except OSError:
-            said = b""
-        os.close(terminal)
-        os.close(ours)
-        wants(f"what is said with {quiet}", (run.returncode, bool(said)) == (0, says))
+        status, _, said = on_terminal(place, "merge", "many", "-o", "out.mdb", *quiet)
+        wants(f"what is said with {quiet}", (status, bool(said)) == (0, says))
 
 
 ROWS = (

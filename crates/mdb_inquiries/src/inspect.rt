@@ -12,7 +12,7 @@ use mdb_report::fault::{Fault, fault_of, section_fault};
 use mdb_report::inquiry::{Answer, Checks, Inquiry, InquiryFault, print_answer, print_end};
 use mdb_report::paged_inquiry::print_paged_answer;
 use mdb_report::tally::Tally;
-use record_report::line::{Layout, Origin};
+use record_report::line::{Layout, Origin, Style};
 use shard_bytes::load::load_bytes;
 use shard_files::files::{Contents, open_sized, read_ends, read_shard};
 use std::alloc::Global;
@@ -63,10 +63,38 @@ pub fn inspect<R: Files + Input + Clock + Print + Eprint + AllocGlobal>(
         &mut output,
     );
     match end.and_then(|()| output.flush()) {
-        Ok(()) => status,
+        Ok(()) => {
+            if terminals.error && !printing.quiet {
+                report_checked(rt, inquiry, printing.style, inputs.paths.len(), &tally);
+            }
+            status
+        }
         Err(error) if error.kind() == ErrorKind::BrokenPipe => status,
         Err(error) => report_failure(rt, printing.style, &Failure::on_output(Fault::from(error))),
     }
+}
+
+// Says how many shards a check has looked at, for people.
+fn report_checked<R: Eprint>(
+    rt: &R,
+    inquiry: &Inquiry,
+    style: Style,
+    shards: usize,
+    tally: &Tally,
+) {
+    let (Inquiry::Check(_), Style::Text | Style::Human) = (inquiry, style) else {
+        return;
+    };
+    let Tally {
+        with_findings,
+        unreadable,
+        ..
+    } = tally;
+    let _ = rt.eprint(format_args!("{shards} shards, {with_findings} with findings"));
+    if *unreadable > 0 {
+        let _ = rt.eprint(format_args!(", {unreadable} not read"));
+    }
+    let _ = rt.eprintln("");
 }
 
 // The status with which the run ends after totals are printed, or, as an error, ends at once.
@@ -103,13 +131,19 @@ fn inspect_all<R: Files + Input + Clock + Eprint + AllocGlobal, W: Write>(
         match inspect_file(rt, file, inquiry, layout, now, tally, progress, output) {
             Ok(Answer::FoundNothing) => continue,
             Ok(Answer::Printed) => {}
-            Ok(Answer::HasFindings) => status = status.and_found(),
+            Ok(Answer::HasFindings) => {
+                status = status.and_found();
+                tally.with_findings = tally.with_findings.saturating_add(1);
+            }
             // The reader of the output has closed it.
             Err(failure) if failure.is_closed_pipe() => return Err(status),
             Err(failure) if failure.is_on_output() => {
                 return Err(report_failure(rt, printing.style, &failure));
             }
-            Err(failure) => status = report_failure(rt, printing.style, &failure),
+            Err(failure) => {
+                status = report_failure(rt, printing.style, &failure);
+                tally.unreadable = tally.unreadable.saturating_add(1);
+            }
         }
         nothing = false;
     }

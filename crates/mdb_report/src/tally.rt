@@ -15,6 +15,10 @@ pub struct Tally {
     pub found: Vec<MerkleHash>,
     /// Whether a run of chunks was found.
     pub has_run: bool,
+    /// The number of shards in which a check found something.
+    pub with_findings: u64,
+    /// The number of shards that could not be read.
+    pub unreadable: u64,
 }
 
 impl Tally {
@@ -26,6 +30,8 @@ impl Tally {
             total: Total::NONE,
             found: Vec::new(alloc),
             has_run: false,
+            with_findings: 0,
+            unreadable: 0,
         }
     }
 
