@@ -83,11 +83,15 @@ def page_is_shown(place):
     page = Page(opened(place.path("page.html"), place.folder, "--dump-dom"))
     wants(f"nothing is loaded: {page.loaded()}", page.loaded() == [])
     wants("no element of a name", page.count("b") == 0)
-    wants("plots", page.count("svg") == 3 and page.count("rect") > 9)
-    wants("tables", page.count("table") == 1)
+    wants("plots", page.count("svg") == 3 and page.count("rect") > 7)
+    wants("tables", page.count("table") == 2)
+    wants("a title", "<title>Shards of in</title>" in written)
+    # Records are counted, also of the shard without tables.
     for words in (
-        "Shards of in", "Could not be read: 1", said.decode().strip(), 'in/<b>"&"\\u{1b}.mdb', "Expiries by day",
-        "2023-11-14", "no expiry", "At 2023-11-14T22:13:20Z (1700000000)", "Expired by then: 2.",
+        "Shards of in", "Not counted: 1, which could not.", "Could not be read: 1",
+        "no shard: its first 32 bytes are no tag 1 in/text.mdb", 'in/<b>"&"\\u{1b}.mdb', "Expiries by day",
+        "Files 7", "512 B to 1 KiB", "2023-11-14", "no expiry", "At 2023-11-14T22:13:20Z (1700000000)",
+        "Expired by then: 2.",
     ):
         wants(words, words in page.text())
     opened(place.path("page.html"), place.folder, f"--screenshot={place.path('page.png')}", "--window-size=1200,3000")
@@ -103,12 +107,37 @@ def many_shards_are_grouped(place):
     written = place.read("page.html")
     wants(f"size: {len(written)}", len(written) < 100_000)
     page = Page(written.decode())
-    wants("rows of the plot", "Smaller shards, not shown: 2,980, of 1,346,960 bytes." in page.text())
+    wants("rows of the plot", "256 B to 512 B, Shards: 2,999, Bytes together: 1.3 MiB" in page.text())
     wants("rows of the table", "all 2,800 smaller ones" in page.text())
     wants("shards", "Shards 3,000" in page.text())
 
 
-ROWS = (page_is_shown, many_shards_are_grouped)
+def failures_are_grouped(place):
+    os.mkdir(place.path("in"))
+    place.write("in/0.mdb", place.made["one_file.mdb"])
+    for number in range(1000):
+        place.write(f"in/cut{number:04}.mdb", place.made["one_file.mdb"][:300])
+    for number in range(4):
+        place.write(f"in/text{number}.mdb", place.made["text.mdb"])
+    for number in range(30):
+        version = place.made["one_file.mdb"][:32] + bytes([9 + number]) + place.made["one_file.mdb"][33:]
+        place.write(f"in/version{number:02}.mdb", version)
+    run = place.run("report", "in", "-o", "page.html")
+    wants("status", (run.returncode, run.stderr.count(b"\n")) == (1, 1034))
+    written = place.read("page.html").decode()
+    wants(f"size: {len(written)}", len(written) < 50_000)
+    text = Page(written).text()
+    cut = "its last 200 bytes are no footer: it was cut or lengthened 1,000 "
+    cut += " ".join(f"in/cut{number:04}.mdb" for number in range(3)) + " 997 more in/cut0003.mdb"
+    none = "no shard: its first 32 bytes are no tag 4 " + " ".join(f"in/text{number}.mdb" for number in range(3))
+    for words in ("Could not be read: 1,034", "Not counted: 1,034", cut, none, "1 more in/text3.mdb", "12 other reasons"):
+        wants(words, words in text)
+    wants("others are counted", "in/cut0102.mdb and 897 more" in text and "in/cut0103" not in text)
+    wants("the commonest comes first", text.index(cut) < text.index(none) < text.index("version 10: this program"))
+    wants("behind the totals", text.index("Total") < text.index("Could not be read"))
+
+
+ROWS = (page_is_shown, many_shards_are_grouped, failures_are_grouped)
 
 
 def main(program, folder, screenshot):

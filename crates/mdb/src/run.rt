@@ -105,7 +105,7 @@ fn status_of<R: Locks + Input + Clock + Print + Eprint + RandomSource + AllocGlo
             )
         }
         Request::Report(sources, reporting) => match inputs_of(rt, sources, unreadable) {
-            Ok(inputs) => report(rt, &inputs, sources.words.as_slice(), *reporting, terminals),
+            Ok(inputs) => report(rt, &inputs, sources, *reporting, terminals),
             Err(_) => report_failure(rt, Style::Text, &Failure::on_words(Fault::OutOfMemory)),
         },
         Request::Make(making, target) => {

@@ -29,9 +29,16 @@ pub struct Inputs {
     /// Whether a path was left out that cannot be read, which was reported.
     pub failed: bool,
     /// What was reported of such paths.
-    pub failures: Vec<String>,
+    pub failures: Vec<InputFailure>,
     /// Whether something that was named reads standard input.
     pub reads_input: bool,
+}
+
+/// A path that was left out, and why.
+#[derive(Drop)]
+pub struct InputFailure {
+    pub path: String,
+    pub reason: String,
 }
 
 /// The shards that sources name: each folder stands for the shards in it. Some words are no text,
@@ -184,7 +191,11 @@ impl Inputs {
         let failure = Failure::on_file(path, fault);
         let _ = report_failure(rt, style, &failure);
         self.failed = true;
-        self.failures.push(format!(in rt.alloc(); "{failure}")?)?;
+        let Failure { subject, fault } = failure;
+        self.failures.push(InputFailure {
+            path: format!(in rt.alloc(); "{subject}")?,
+            reason: format!(in rt.alloc(); "{fault}")?,
+        })?;
         Ok(())
     }
 }

@@ -1,11 +1,11 @@
 //! The command that writes an overview of shards as a page.
 
-use crate::inputs::Inputs;
-use crate::sections::{TakesXorbs, read_xorbs};
+use crate::inputs::{InputFailure, Inputs};
+use crate::sections::{TakesFiles, TakesXorbs, read_files, read_xorbs};
 use mdb_base::failure::Failure;
 use mdb_base::outputs::put;
 use mdb_base::progress::{Progress, Stage};
-use mdb_base::request::OverviewOptions;
+use mdb_base::request::{OverviewOptions, Sources};
 use mdb_base::shard_file::ShardFile;
 use mdb_base::status::{Status, report_failure};
 use mdb_base::terminals::Terminals;
@@ -18,6 +18,7 @@ use record_report::line::Style;
 use std::alloc::AllocError;
 use std::random::RandomSource;
 use std::rt::{Clock, Files};
+use xet_core_structures::file_structs::MDBFileInfo;
 use xet_core_structures::merklehash::MerkleHash;
 use xet_core_structures::rows::ROW_SIZE;
 use xet_core_structures::xorb_structs::MDBXorbInfo;
@@ -54,7 +55,7 @@ struct HashPart {
 pub fn report<'a, R: Files + Clock + Print + Eprint + RandomSource + AllocGlobal + Clone + Drop>(
     rt: &R,
     inputs: &'a Inputs,
-    sources: &[&'a str],
+    sources: &Sources<'a>,
     reporting: OverviewOptions<'a>,
     terminals: Terminals,
 ) -> Status {
@@ -72,15 +73,19 @@ pub fn report<'a, R: Files + Clock + Print + Eprint + RandomSource + AllocGlobal
 fn write_page<'a, R: Files + Clock + Print + Eprint + RandomSource + AllocGlobal + Clone + Drop>(
     rt: &R,
     inputs: &'a Inputs,
-    sources: &[&'a str],
+    sources: &Sources<'a>,
     reporting: OverviewOptions<'a>,
     progress: &mut Progress,
 ) -> Result<Status, Failure<'a>> {
     let alloc = rt.alloc();
-    let sources = unless_out_of_memory(Vec::from_slice(alloc, sources))?;
-    let mut overview = Overview::new(alloc, sources, reporting.now);
+    let mut named = unless_out_of_memory(Vec::from_slice(alloc, sources.words.as_slice()))?;
+    if let Some(list) = sources.list {
+        unless_out_of_memory(named.push(list))?;
+    }
+    let mut overview = Overview::new(alloc, named, reporting.now);
     for failure in &inputs.failures {
-        unless_out_of_memory(overview.add_failure(alloc, failure))?;
+        let InputFailure { path, reason } = failure;
+        unless_out_of_memory(overview.add_failure(alloc, path, reason))?;
     }
     let opened = open_all(rt, inputs, &mut overview)?;
     let parts = parts_of(opened.as_slice(), reporting.memory);
@@ -90,6 +95,7 @@ fn write_page<'a, R: Files + Clock + Print + Eprint + RandomSource + AllocGlobal
         read_part(rt, files.as_slice(), &mut overview, part, progress)?;
     }
     unless_out_of_memory(overview.sort())?;
+    overview.failures.sort_unstable();
     let page = unless_out_of_memory(page_of(alloc, &overview))?;
     put(rt, reporting.output, page.as_bytes())?;
     if overview.failures.is_empty() {
@@ -114,7 +120,8 @@ fn leave_out<'a, R: Eprint + AllocGlobal>(
     failure: Failure<'a>,
 ) -> Result<(), Failure<'a>> {
     let _ = report_failure(rt, Style::Text, &failure);
-    unless_out_of_memory(overview.add_failure(rt.alloc(), &failure))
+    let Failure { subject, fault } = failure;
+    unless_out_of_memory(overview.add_failure(rt.alloc(), &subject, &fault))
 }
 
 fn open_all<'a, R: Files + Eprint + AllocGlobal>(
@@ -154,7 +161,7 @@ fn parts_of(opened: &[BriefShard<'_>], memory: u64) -> u64 {
         .saturating_add(1)
 }
 
-// Reads the xorbs of all shards, and counts the hashes of the first part. Those that can be read are
+// Reads the records of all shards, and counts the hashes of the first part. Those that can be read are
 // left.
 fn read_all<'a, R: Files + Clock + Eprint + AllocGlobal>(
     rt: &R,
@@ -170,11 +177,9 @@ fn read_all<'a, R: Files + Clock + Eprint + AllocGlobal>(
     for (read, shard) in opened.into_iter().enumerate() {
         progress.show_after_pause(rt, Stage::Reading { read, all });
         let BriefShard { file, mut brief } = shard;
-        match xorbs_of(rt, &file, HashPart { rest: 0, parts }) {
+        match read_records(rt, &file, &mut brief, HashPart { rest: 0, parts }) {
             Ok(found) => {
-                brief.xorbs = Some(found.xorbs);
-                brief.chunks = Some(found.chunks);
-                unless_out_of_memory(hashes.add_shard(alloc, found.hashes.as_slice()))?;
+                unless_out_of_memory(hashes.add_shard(alloc, found.as_slice()))?;
                 unless_out_of_memory(overview.shards.push(brief))?;
                 unless_out_of_memory(files.push(file))?;
             }
@@ -186,6 +191,36 @@ fn read_all<'a, R: Files + Clock + Eprint + AllocGlobal>(
     }
     unless_out_of_memory(hashes.count(&mut overview.sharing))?;
     Ok(files)
+}
+
+// Counts the records of a shard: its xorbs and their chunks, whose hashes of a part it returns, and its
+// files where its table does not say how many there are.
+fn read_records<'a, R: Files + AllocGlobal>(
+    rt: &R,
+    file: &ShardFile<'a>,
+    brief: &mut Brief<'a>,
+    part: HashPart,
+) -> Result<Vec<MerkleHash>, Failure<'a>> {
+    let found = xorbs_of(rt, file, part)?;
+    brief.xorbs = Some(found.xorbs);
+    brief.chunks = Some(found.chunks);
+    if brief.files.is_none() {
+        let mut counted = FileCount(0);
+        read_files(rt, file, &mut counted)?;
+        brief.files = Some(counted.0);
+    }
+    Ok(found.hashes)
+}
+
+// How many files were read.
+#[derive(Clone, Copy)]
+struct FileCount(u64);
+
+impl TakesFiles for FileCount {
+    fn take_file(&mut self, _file: &MDBFileInfo) -> Result<(), AllocError> {
+        self.0 = self.0.saturating_add(1);
+        Ok(())
+    }
 }
 
 // Counts the hashes of a further part.

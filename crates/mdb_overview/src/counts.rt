@@ -18,6 +18,13 @@ pub fn count_one(counts: &mut Counts, number: u64) -> Result<(), AllocError>
     Ok(())
 }
 
+/// Counts a number so many times more. It fails only if memory is lacking.
+pub(crate) fn add_count(counts: &mut Counts, number: u64, more: u64) -> Result<(), AllocError> {
+    let count = counts.get(&number).copied().unwrap_or(0);
+    counts.insert(number, count.saturating_add(more))?;
+    Ok(())
+}
+
 /// Numbers from `first` to `last`, and how often those of them that were counted occur together.
 #[derive(Clone, Copy)]
 pub(crate) struct Span {

@@ -8,9 +8,6 @@ ghost use Rattle.mdb_overview.specs.Escapes.{escape};
 use record_report::shown::ShownText;
 use std::alloc::{AllocError, Global};
 
-/// The most characters of a label.
-const LABEL_SIZE: usize = 26;
-
 /// A text with each character that means something in HTML replaced by what stands for it. It fails
 /// only if memory is lacking.
 pub fn escape_text(alloc: Global, text: &str) -> Result<String, AllocError>
@@ -33,21 +30,4 @@ pub fn escape_text(alloc: Global, text: &str) -> Result<String, AllocError>
 pub(crate) fn escaped_name(alloc: Global, name: &str) -> Result<String, AllocError> {
     let shown = format!(in alloc; "{}", ShownText(name))?;
     escape_text(alloc, shown.as_str())
-}
-
-/// The same of a path without its folder, and cut if it is long.
-pub(crate) fn escaped_label(alloc: Global, path: &str) -> Result<String, AllocError> {
-    let name = match path.rsplit_once('/') {
-        Some((_, name)) => name,
-        None => path,
-    };
-    let mut label = String::new(alloc);
-    for (before, c) in name.chars().enumerate() {
-        if before == LABEL_SIZE {
-            label.push('…')?;
-            break;
-        }
-        label.push(c)?;
-    }
-    escaped_name(alloc, label.as_str())
 }

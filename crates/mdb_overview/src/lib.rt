@@ -4,11 +4,13 @@
 pub mod counts;
 pub mod escape;
 pub mod expiries;
+mod failures;
 mod numbers;
 pub mod overview;
 pub mod page;
 mod plot;
 mod plots;
 pub mod sharing;
+mod sizes;
 mod style;
 mod table;

@@ -12,14 +12,21 @@ use std::fmt::Display;
 /// Some shards, what failed, and the chunks that they share.
 #[derive(Drop)]
 pub struct Overview<'a> {
-    /// The words that named the shards.
+    /// The words that named the shards, and the list of others.
     pub sources: Vec<&'a str>,
     /// The time, in seconds, by which shards have expired, if it is known.
     pub now: Option<u64>,
     pub shards: Vec<Brief<'a>>,
-    /// What could not be read, each with the reason.
-    pub failures: Vec<String>,
+    /// What could not be read.
+    pub failures: Vec<Unread>,
     pub sharing: Sharing,
+}
+
+/// What could not be read, and why.
+#[derive(PartialEq, Eq, PartialOrd, Ord, Drop)]
+pub struct Unread {
+    pub reason: String,
+    pub path: String,
 }
 
 impl<'a> Overview<'a> {
@@ -39,10 +46,17 @@ impl<'a> Overview<'a> {
 
     /// Adds what could not be read, and why. It fails only if memory is lacking, and then nothing was
     /// added.
-    pub fn add_failure<T: Display>(&mut self, alloc: Global, failure: &T) -> Result<(), AllocError>
+    pub fn add_failure<P: Display, T: Display>(
+        &mut self,
+        alloc: Global,
+        path: &P,
+        reason: &T,
+    ) -> Result<(), AllocError>
         ensures shards { self.new.shards ≡ self.old.shards }
     {
-        self.failures.push(format!(in alloc; "{failure}")?)?;
+        let reason = format!(in alloc; "{reason}")?;
+        let path = format!(in alloc; "{path}")?;
+        self.failures.push(Unread { reason, path })?;
         Ok(())
     }
 

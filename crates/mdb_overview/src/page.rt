@@ -1,26 +1,29 @@
 //! The page of an overview.
 
-use crate::escape::{escape_text, escaped_name};
+use crate::escape::escaped_name;
+use crate::failures::print_failures;
 use crate::numbers::{GroupedNumber, grouped_length};
 use crate::overview::{Overview, total_of};
 use crate::plots::{print_expiries, print_sharing, print_sizes};
-use crate::style::HEAD;
+use crate::style::{HEAD, STYLE};
 use crate::table::print_table;
 use record_report::moment::Moment;
+use record_report::size::Size;
 use std::alloc::{AllocError, Global};
 
-/// The most sources and failures that are named.
+/// The most sources that are named.
 const MOST_SOURCES: usize = 8;
 
-const MOST_FAILURES: usize = 100;
-
 /// The page of an overview, as HTML with all that it needs. The shards are shown in their order, those
-/// after the first 200 together. It fails only if memory is lacking.
+/// after the first 200 together, and so what failed. It fails only if memory is lacking.
 pub fn page_of(alloc: Global, overview: &Overview<'_>) -> Result<String, AllocError> {
     let mut page = String::from_str(alloc, HEAD)?;
-    print_header(alloc, &mut page, overview)?;
-    print_failures(alloc, &mut page, overview.failures.as_slice())?;
-    print_total(&mut page, overview)?;
+    let title = title_of(alloc, overview)?;
+    write!(page, "<title>{title}</title>\n")?;
+    page.push_str(STYLE)?;
+    print_header(alloc, &mut page, title.as_str(), overview)?;
+    print_total(alloc, &mut page, overview)?;
+    print_failures(alloc, &mut page, overview)?;
     print_sizes(alloc, &mut page, overview)?;
     print_sharing(alloc, &mut page, overview)?;
     print_expiries(alloc, &mut page, overview)?;
@@ -29,53 +32,49 @@ pub fn page_of(alloc: Global, overview: &Overview<'_>) -> Result<String, AllocEr
     Ok(page)
 }
 
+// What the page is about, in HTML.
+fn title_of(alloc: Global, overview: &Overview<'_>) -> Result<String, AllocError> {
+    let mut title = String::from_str(alloc, "Shards of ")?;
+    for (before, source) in overview.sources.iter().take(MOST_SOURCES).enumerate() {
+        let comma = if before > 0 { ", " } else { "" };
+        write!(title, "{comma}{}", escaped_name(alloc, source)?)?;
+    }
+    if overview.sources.len() > MOST_SOURCES {
+        title.push_str(", ..")?;
+    }
+    Ok(title)
+}
+
 fn print_header(
+    alloc: Global,
+    page: &mut String,
+    title: &str,
+    overview: &Overview<'_>,
+) -> Result<(), AllocError> {
+    write!(page, "<h1>{title}</h1>\n")?;
+    match overview.now {
+        Some(now) => write!(page, "<p>At {}</p>\n", Moment::of_seconds(alloc, now)?),
+        None => Ok(()),
+    }
+}
+
+fn print_total(
     alloc: Global,
     page: &mut String,
     overview: &Overview<'_>,
 ) -> Result<(), AllocError> {
-    page.push_str("<h1>Shards of ")?;
-    for (before, source) in overview.sources.iter().take(MOST_SOURCES).enumerate() {
-        let comma = if before > 0 { ", " } else { "" };
-        write!(page, "{comma}{}", escaped_name(alloc, source)?)?;
-    }
-    if overview.sources.len() > MOST_SOURCES {
-        page.push_str(", ..")?;
-    }
-    match overview.now {
-        Some(now) => write!(
-            page,
-            "</h1>\n<p>At {}</p>\n",
-            Moment::of_seconds(alloc, now)?
-        ),
-        None => page.push_str("</h1>\n"),
-    }
-}
-
-fn print_failures(alloc: Global, page: &mut String, failures: &[String]) -> Result<(), AllocError> {
-    if failures.is_empty() {
-        return Ok(());
-    }
-    let number = grouped_length(failures);
-    write!(
-        page,
-        "<section class=\"failed\">\n<h2>Could not be read: {number}</h2>\n<ul>\n"
-    )?;
-    let (shown, others) = failures.split_at(failures.len().min(MOST_FAILURES));
-    for failure in shown {
-        write!(page, "<li>{}</li>\n", escape_text(alloc, failure.as_str())?)?;
-    }
-    if !others.is_empty() {
-        write!(page, "<li>and {} more</li>\n", grouped_length(others))?;
-    }
-    page.push_str("</ul>\n</section>\n")
-}
-
-fn print_total(page: &mut String, overview: &Overview<'_>) -> Result<(), AllocError> {
     let total = total_of(overview.shards.as_slice());
-    page.push_str("<section>\n<h2>Total</h2>\n<dl>\n")?;
+    page.push_str("<section>\n<h2>Total</h2>\n")?;
+    if !overview.failures.is_empty() {
+        let number = grouped_length(overview.failures.as_slice());
+        write!(
+            page,
+            "<p class=\"partial\">Of the shards that could be read. Not counted: {number}, which could not.</p>\n"
+        )?;
+    }
+    page.push_str("<dl>\n")?;
     print_number(page, "Shards", Some(total.shards))?;
-    print_number(page, "Bytes of shards", Some(total.bytes))?;
+    print_size(alloc, page, "Bytes of shards", total.bytes)?;
     print_number(page, "Files", total.files)?;
     print_number(page, "Xorbs", total.xorbs)?;
     print_number(page, "Chunks", total.chunks)?;
@@ -85,11 +84,12 @@ fn print_total(page: &mut String, overview: &Overview<'_>) -> Result<(), AllocEr
         "In more than one shard",
         Some(overview.sharing.shared),
     )?;
-    print_number(page, "Stored: bytes of xorbs", Some(total.stored_bytes))?;
-    print_number(
+    print_size(alloc, page, "Stored: bytes of xorbs", total.stored_bytes)?;
+    print_size(
+        alloc,
         page,
         "Materialized: bytes of files",
-        Some(total.materialized_bytes),
+        total.materialized_bytes,
     )?;
     page.push_str("</dl>\n</section>\n")
 }
@@ -100,4 +100,14 @@ fn print_number(page: &mut String, name: &str, number: Option<u64>) -> Result<()
         "<div><dt>{name}</dt><dd>{}</dd></div>\n",
         GroupedNumber(number)
     )
+}
+
+// Prints a size in the unit that it reaches and, where that is more than a byte, in bytes.
+fn print_size(alloc: Global, page: &mut String, name: &str, bytes: u64) -> Result<(), AllocError> {
+    let size = format!(in alloc; "{}", Size::new(bytes, true))?;
+    write!(page, "<div><dt>{name}</dt><dd>{size}")?;
+    if bytes >= 1024 {
+        write!(page, "<small>{}</small>", GroupedNumber(Some(bytes)))?;
+    }
+    page.push_str("</dd></div>\n")
 }

@@ -1,7 +1,8 @@
 //! Plots of bars, as SVG.
 
 use crate::numbers::GroupedNumber;
-use std::alloc::AllocError;
+use record_report::size::Size;
+use std::alloc::{AllocError, Global};
 
 /// Widths and heights, in pixels of the plot: of all, of the names, of a row, of the column heads, and
 /// of the room for a number behind its bar.
@@ -15,13 +16,31 @@ const HEAD: u64 = 24;
 
 const NUMBER: u64 = 120;
 
+/// A column of a plot.
+#[derive(Clone, Copy)]
+pub(crate) struct Column {
+    pub(crate) name: &'static str,
+    /// Whether its numbers are of bytes.
+    pub(crate) is_size: bool,
+}
+
+impl Column {
+    // A number of the column as a text.
+    fn shown(&self, alloc: Global, value: Option<u64>) -> Result<String, AllocError> {
+        match value {
+            Some(bytes) if self.is_size => format!(in alloc; "{}", Size::new(bytes, true)),
+            value => format!(in alloc; "{}", GroupedNumber(value)),
+        }
+    }
+}
+
 /// A row of a plot.
 #[derive(Drop)]
 pub(crate) struct PlotRow {
     /// Its name, in HTML.
     pub(crate) label: String,
     /// Its number in each column, if it is known.
-    pub(crate) values: [Option<u64>; 3],
+    pub(crate) values: [Option<u64>; 2],
     /// Whether its bars are pale.
     pub(crate) pale: bool,
 }
@@ -32,12 +51,13 @@ impl PlotRow {
     }
 }
 
-/// Prints a plot with a bar for each row in up to three columns. What it is about is HTML.
+/// Prints a plot with a bar for each row in one or two columns. What it is about is HTML.
 pub(crate) fn print_plot(
+    alloc: Global,
     page: &mut String,
     title: &str,
     about: &str,
-    columns: &[&str],
+    columns: &[Column],
     rows: &[PlotRow],
 ) -> Result<(), AllocError> {
     let height = ROW.saturating_mul(rows.len() as u64).saturating_add(HEAD);
@@ -49,8 +69,9 @@ pub(crate) fn print_plot(
         page,
         "<svg viewBox=\"0 0 {WIDTH} {height}\" role=\"group\" aria-label=\"{title}\">\n"
     )?;
-    for (column, name) in columns.iter().enumerate() {
-        let x = start_of(column, columns.len());
+    for (index, column) in columns.iter().enumerate() {
+        let x = start_of(index, columns.len());
+        let name = column.name;
         write!(
             page,
             "<text class=\"head\" x=\"{x}\" y=\"14\">{name}</text>\n"
@@ -58,7 +79,7 @@ pub(crate) fn print_plot(
     }
     let mut top = HEAD;
     for row in rows {
-        print_row(page, columns, row, rows, top)?;
+        print_row(alloc, page, columns, row, rows, top)?;
         top = top.saturating_add(ROW);
     }
     page.push_str("</svg></figure>\n</section>\n")
@@ -78,10 +99,30 @@ fn start_of(column: usize, columns: usize) -> u64 {
 
 // Prints a row at a height. Its title says all that it shows.
 fn print_row(
+    alloc: Global,
     page: &mut String,
-    columns: &[&str],
+    columns: &[Column],
     row: &PlotRow,
     rows: &[PlotRow],
+    top: u64,
+) -> Result<(), AllocError> {
+    print_label(alloc, page, columns, row, top)?;
+    for (index, column) in columns.iter().enumerate() {
+        let x = start_of(index, columns.len());
+        let room = width_of(columns.len()).saturating_sub(NUMBER);
+        let value = row.value(index);
+        let width = share(value.unwrap_or(0), greatest_value(rows, index), room);
+        let shown = column.shown(alloc, value)?;
+        print_bar(page, shown.as_str(), x, top, width)?;
+    }
+    page.push_str("</g>\n")
+}
+
+fn print_label(
+    alloc: Global,
+    page: &mut String,
+    columns: &[Column],
+    row: &PlotRow,
     top: u64,
 ) -> Result<(), AllocError> {
     let label = row.label.as_str();
@@ -89,29 +130,19 @@ fn print_row(
     let base = top.saturating_add(15);
     let end = LABELS - 10;
     write!(page, "<g{pale} role=\"img\"><title>{label}")?;
-    for (column, name) in columns.iter().enumerate() {
-        write!(page, ", {name}: {}", GroupedNumber(row.value(column)))?;
+    for (index, column) in columns.iter().enumerate() {
+        let name = column.name;
+        write!(page, ", {name}: {}", column.shown(alloc, row.value(index))?)?;
     }
     write!(
         page,
         "</title><text class=\"label\" x=\"{end}\" y=\"{base}\">{label}</text>"
-    )?;
-    for (column, _) in columns.iter().enumerate() {
-        let x = start_of(column, columns.len());
-        let room = width_of(columns.len()).saturating_sub(NUMBER);
-        let width = share(
-            row.value(column).unwrap_or(0),
-            greatest_value(rows, column),
-            room,
-        );
-        print_bar(page, row.value(column), x, top, width)?;
-    }
-    page.push_str("</g>\n")
+    )
 }
 
 fn print_bar(
     page: &mut String,
-    value: Option<u64>,
+    shown: &str,
     x: u64,
     top: u64,
     width: u64,
@@ -119,12 +150,11 @@ fn print_bar(
     let y = top.saturating_add(3);
     let behind = x.saturating_add(width).saturating_add(6);
     let base = top.saturating_add(15);
-    let value = GroupedNumber(value);
     write!(
         page,
         "<rect x=\"{x}\" y=\"{y}\" width=\"{width}\" height=\"16\" rx=\"2\"/>"
     )?;
-    write!(page, "<text x=\"{behind}\" y=\"{base}\">{value}</text>")
+    write!(page, "<text x=\"{behind}\" y=\"{base}\">{shown}</text>")
 }
 
 // The greatest number of a column.

@@ -1,45 +1,61 @@
 //! The plots of an overview.
 
 use crate::counts::{Span, spans_of};
-use crate::escape::escaped_label;
 use crate::expiries::{day_of, expiries_of};
-use crate::numbers::{GroupedNumber, grouped_length};
-use crate::overview::{Overview, total_of};
-use crate::plot::{PlotRow, print_plot};
+use crate::numbers::GroupedNumber;
+use crate::overview::Overview;
+use crate::plot::{Column, PlotRow, print_plot};
+use crate::sizes::{classes_in, label_of, sizes_of};
 use record_report::moment::Moment;
 use std::alloc::{AllocError, Global};
 
-/// The most shards, spans of days and spans of numbers that have a row each.
-const MOST_SHARDS: usize = 20;
-
+/// The most spans of days and of numbers that have a row each.
 const MOST_DAYS: usize = 40;
 
 const MOST_NUMBERS: usize = 16;
 
-/// Prints a plot of the sizes of the first shards.
+const SHARDS: Column = Column {
+    name: "Shards",
+    is_size: false,
+};
+
+/// Prints a plot of how many shards have which size, also where none has.
 pub(crate) fn print_sizes(
     alloc: Global,
     page: &mut String,
     overview: &Overview<'_>,
 ) -> Result<(), AllocError> {
     let shards = overview.shards.as_slice();
-    let (shown, others) = shards.split_at(shards.len().min(MOST_SHARDS));
+    let sizes = sizes_of(alloc, shards)?;
+    let (least, greatest) = classes_in(shards).unwrap_or((1, 0));
     let mut rows = Vec::new(alloc);
-    for shard in shown {
+    for class in least..=greatest {
         rows.push(PlotRow {
-            label: escaped_label(alloc, shard.shard)?,
-            values: [Some(shard.bytes), shard.files, shard.xorbs],
+            label: label_of(alloc, class)?,
+            values: [
+                Some(sizes.shards.get(&class).copied().unwrap_or(0)),
+                Some(sizes.bytes.get(&class).copied().unwrap_or(0)),
+            ],
             pale: false,
         })?;
     }
-    let bytes = GroupedNumber(Some(total_of(others).bytes));
-    let others = grouped_length(others);
-    let about = format!(in alloc;
-        "Each column has a scale of its own. Smaller shards, not shown: {others}, of {bytes} bytes."
-    )?;
-    let title = "Sizes, files and xorbs by shard";
-    let columns = ["Bytes", "Files", "Xorbs"];
-    print_plot(page, title, about.as_str(), &columns, rows.as_slice())
+    let columns = [
+        SHARDS,
+        Column {
+            name: "Bytes together",
+            is_size: true,
+        },
+    ];
+    let about =
+        "Each column has a scale of its own. A size is from the first number on, below the second.";
+    print_plot(
+        alloc,
+        page,
+        "Shards by size",
+        about,
+        &columns,
+        rows.as_slice(),
+    )
 }
 
 /// Prints a plot of how many chunks' hashes are in how many shards.
@@ -59,11 +75,16 @@ pub(crate) fn print_sharing(
         chunk has different hashes."
     )?;
     let title = "Chunks by the number of shards that have them";
+    let column = Column {
+        name: "Chunk hashes",
+        is_size: false,
+    };
     print_plot(
+        alloc,
         page,
         title,
         about.as_str(),
-        &["Chunk hashes"],
+        &[column],
         rows.as_slice(),
     )
 }
@@ -83,7 +104,7 @@ pub(crate) fn print_expiries(
     if expiries.without > 0 {
         rows.push(PlotRow {
             label: String::from_str(alloc, "no expiry")?,
-            values: [Some(expiries.without), None, None],
+            values: [Some(expiries.without), None],
             pale: false,
         })?;
     }
@@ -94,10 +115,11 @@ pub(crate) fn print_expiries(
         over are pale."
     )?;
     print_plot(
+        alloc,
         page,
         "Expiries by day",
         about.as_str(),
-        &["Shards"],
+        &[SHARDS],
         rows.as_slice(),
     )
 }
@@ -105,7 +127,7 @@ pub(crate) fn print_expiries(
 fn row_of(span: &Span, label: String, pale: bool) -> PlotRow {
     PlotRow {
         label,
-        values: [Some(span.count), None, None],
+        values: [Some(span.count), None],
         pale,
     }
 }

@@ -5,6 +5,7 @@ use crate::expiries::has_expired;
 use crate::numbers::{GroupedNumber, grouped_length};
 use crate::overview::{Overview, total_of};
 use mdb_report::brief::{Brief, Total};
+use record_report::size::Size;
 use std::alloc::{AllocError, Global};
 
 /// The most shards that have a row each.
@@ -50,15 +51,7 @@ fn print_shard(
     let version = shard.version;
     write!(page, "<tr><th scope=\"row\">{name}</th><td>{version}</td>")?;
     print_numbers(page, &total_of(std::slice::from_ref(shard)))?;
-    let begin = if has_expired(shard, now) {
-        "<td class=\"expired\">expired, "
-    } else {
-        "<td>"
-    };
-    match &shard.expires.utc {
-        Some(utc) => write!(page, "{begin}{utc}</td>")?,
-        None => write!(page, "{begin}{}</td>", shard.expires)?,
-    }
+    print_expiry(page, shard, now)?;
     let Some(key) = shard.key else {
         return page.push_str("<td>none</td></tr>\n");
     };
@@ -67,19 +60,34 @@ fn print_shard(
     write!(page, "<td title=\"{key}\">{first}..</td></tr>\n")
 }
 
+// Prints the day of an expiry, whose title has the second.
+fn print_expiry(page: &mut String, shard: &Brief<'_>, now: Option<u64>) -> Result<(), AllocError> {
+    let Some(utc) = &shard.expires.utc else {
+        return write!(page, "<td>{}</td>", shard.expires);
+    };
+    let day = utc.as_str().get(..10).unwrap_or("");
+    if has_expired(shard, now) {
+        write!(
+            page,
+            "<td class=\"expired\" title=\"{utc}\">{day}, expired</td>"
+        )
+    } else {
+        write!(page, "<td title=\"{utc}\">{day}</td>")
+    }
+}
+
+// Prints numbers of records and, in the units that they reach, sizes, whose titles have the bytes.
 fn print_numbers(page: &mut String, total: &Total) -> Result<(), AllocError> {
-    let bytes = Some(total.bytes);
-    let stored = Some(total.stored_bytes);
-    let materialized = Some(total.materialized_bytes);
-    for number in [
-        bytes,
-        total.files,
-        total.xorbs,
-        total.chunks,
-        stored,
-        materialized,
-    ] {
+    print_size(page, total.bytes)?;
+    for number in [total.files, total.xorbs, total.chunks] {
         write!(page, "<td>{}</td>", GroupedNumber(number))?;
     }
-    Ok(())
+    print_size(page, total.stored_bytes)?;
+    print_size(page, total.materialized_bytes)
+}
+
+fn print_size(page: &mut String, bytes: u64) -> Result<(), AllocError> {
+    let exact = GroupedNumber(Some(bytes));
+    let size = Size::new(bytes, true);
+    write!(page, "<td title=\"{exact}\">{size}</td>")
 }
