@@ -8,7 +8,7 @@ use mdb_base::progress::{Progress, Stage};
 use mdb_base::request::PrintOptions;
 use mdb_base::status::{Status, report_failure};
 use mdb_base::terminals::Terminals;
-use mdb_report::fault::{Fault, fault_of, section_fault};
+use mdb_report::fault::{Fault, fault_of, fault_of_record, section_fault};
 use mdb_report::inquiry::{Answer, Checks, Inquiry, InquiryFault, print_answer, print_end};
 use mdb_report::paged_inquiry::print_paged_answer;
 use mdb_report::tally::Tally;
@@ -260,7 +260,7 @@ fn failure_of_error<'a>(
     error: CoreError,
 ) -> Failure<'a> {
     match bytes {
-        Ok(bytes) => Failure::on_file(file, fault_of(alloc, bytes.as_slice(), error)),
+        Ok(bytes) => Failure::on_file(file, fault_of_record(alloc, bytes.as_slice(), error)),
         Err(error) => Failure::on_file(file, Fault::from(error)),
     }
 }
@@ -273,7 +273,9 @@ fn failure_of<'a>(
     inquiry_fault: InquiryFault,
 ) -> Failure<'a> {
     let fault = match inquiry_fault {
-        InquiryFault::Shard(error) | InquiryFault::Ends(error) => fault_of(alloc, bytes, error),
+        InquiryFault::Shard(error) | InquiryFault::Ends(error) => {
+            fault_of_record(alloc, bytes, error)
+        }
         InquiryFault::Section(section, error) => section_fault(section, error),
         InquiryFault::NoTable(table) => Fault::NoTable(table),
         InquiryFault::Input(error) => Fault::from(error),

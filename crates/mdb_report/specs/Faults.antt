@@ -31,6 +31,11 @@ IsFaultOf bytes error (Collision word) = error ≡ TruncatedHashCollision word
 IsFaultOf bytes error OutOfMemory = ⊤
 IsFaultOf bytes error _ = ⊥
 
+-- the same of a call for whose error a record that no shard may have can be the cause
+abbrev pub IsFaultOfRecord : List ℕ → CoreError → Fault → Type 0
+IsFaultOfRecord bytes error (Bytes finding) = IsFinding bytes finding
+IsFaultOfRecord bytes error fault = IsFaultOf bytes error fault
+
 -- the findings that keep a shard from being combined: all but a part or a size that differs, a record
 -- that no shard may have, and another order of rows
 abbrev pub KeepsFrom : Finding → Type 0

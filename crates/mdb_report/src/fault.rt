@@ -1,9 +1,9 @@
 //! Why a command failed, in words.
 
-ghost use Rattle.std.specs.Prelude.{◌≡◌, ◌≢◌, ◌⊎◌, ◌↔◌, ℕ, All, Contains, IsTrue, MatchOption, MatchResult};
+ghost use Rattle.std.specs.Prelude.{◌≡◌, ◌≢◌, ◌⊎◌, ◌↔◌, ℕ, All, Contains, IfSome, IsTrue, MatchOption, MatchResult};
 ghost use Rattle.xet_core_structures.specs.KeyedExport.{ExpiresTooLate};
 ghost use Rattle.shard_bytes.specs.Checking.{IsFinding};
-ghost use Rattle.mdb_report.specs.Faults.{IsFaultOf, MayBeCause, KeepsFrom, IsBlocking, IsUnderKey, IsUnderNoKey, IsExportFault, IsMinimalFault};
+ghost use Rattle.mdb_report.specs.Faults.{IsFaultOf, IsFaultOfRecord, MayBeCause, KeepsFrom, IsBlocking, IsUnderKey, IsUnderNoKey, IsExportFault, IsMinimalFault};
 
 use crate::file_finding::InWords;
 use crate::tables::Table;
@@ -244,6 +244,41 @@ pub fn section_fault(section: Section, error: CoreError) -> Fault
         CoreError::Io(error) => Fault::Device(error),
         error => Fault::Other(error),
     }
+}
+
+/// The same for a call that refuses records which no shard may have: one of these, if nothing else may be
+/// the cause.
+pub fn fault_of_record(alloc: Global, bytes: &[u8], error: CoreError) -> Fault
+    ensures { IsFaultOfRecord bytes.now error result }
+{
+    match fault_of(alloc, bytes, error) {
+        Fault::Other(error) => match first_malformed(alloc, bytes) {
+            Ok(Some(finding)) => Fault::Bytes(finding),
+            Ok(None) => Fault::Other(error),
+            Err(fault) => fault,
+        },
+        fault => fault,
+    }
+}
+
+fn first_malformed(alloc: Global, bytes: &[u8]) -> Result<Option<Finding>, Fault>
+    ensures { MatchResult result (λ found. IfSome found (IsFinding bytes.now))
+        (λ fault. fault ≡ Fault.OutOfMemory) }
+{
+    match check_bytes(alloc, bytes) {
+        Ok(findings) => Ok(malformed_in(findings.as_slice())),
+        Err(_) => Err(Fault::OutOfMemory),
+    }
+}
+
+// The first finding that is a record which no shard may have.
+fn malformed_in(findings: &[Finding]) -> Option<Finding>
+    ensures { IfSome result (Contains findings.now) }
+{
+    let malformed = findings.iter().find(|finding: &&Finding| -> bool {
+        matches!(finding, Finding::Malformed(_, _))
+    });
+    malformed.copied()
 }
 
 fn first_finding(alloc: Global, bytes: &[u8]) -> Result<Option<Finding>, Fault>
