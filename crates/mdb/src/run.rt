@@ -5,6 +5,7 @@ ghost use Rattle.std.specs.Prelude.{◌≤◌};
 use crate::folder_lock::{FolderLock, LockFailure, Locks, lock_folders};
 use mdb_arguments::arguments::request_of;
 use mdb_base::failure::Failure;
+use mdb_base::host::Host;
 use mdb_base::request::{Merge, Request, Sources};
 use mdb_base::status::{Status, report_failure};
 use mdb_base::terminals::Terminals;
@@ -21,13 +22,10 @@ use mdb_report::fault::Fault;
 use record_report::line::Style;
 use record_report::moment::seconds_now;
 use std::alloc::AllocError;
-use std::random::RandomSource;
-use std::rt::{Clock, Env, Files};
+use std::rt::Env;
 
 /// Runs the program on its words; which streams are terminals is given.
-pub fn run<
-    R: Env + Locks + Input + Clock + Print + Eprint + RandomSource + AllocGlobal + Clone + Drop,
->(rt: &R, terminals: Terminals) -> u8
+pub fn run<R: Env + Locks + Host>(rt: &R, terminals: Terminals) -> u8
     ensures { result ≤ 4 }
 {
     match read_words(rt) {
@@ -40,9 +38,7 @@ pub fn run<
     }
 }
 
-fn status_of_words<
-    R: Locks + Input + Clock + Print + Eprint + RandomSource + AllocGlobal + Clone + Drop,
->(rt: &R, words: &Words, terminals: Terminals) -> Status {
+fn status_of_words<R: Locks + Host>(rt: &R, words: &Words, terminals: Terminals) -> Status {
     match request_of(rt.alloc(), words.texts.as_slice(), seconds_now(rt)) {
         Ok(mut request) => {
             status_of_request(rt, &mut request, words.unreadable.as_slice(), terminals)
@@ -63,16 +59,19 @@ fn status_of_error<R: Print + Eprint>(rt: &R, error: &clap::Error) -> Status {
 }
 
 // The status of a request, to which the hashes in the list that it names are added.
-fn status_of_request<
-    R: Locks + Input + Clock + Print + Eprint + RandomSource + AllocGlobal + Clone + Drop,
->(rt: &R, request: &mut Request<'_>, unreadable: &[String], terminals: Terminals) -> Status {
+fn status_of_request<R: Locks + Host>(
+    rt: &R,
+    request: &mut Request<'_>,
+    unreadable: &[String],
+    terminals: Terminals,
+) -> Status {
     match add_listed(rt, request, unreadable) {
         Ok(()) => status_of(rt, request, unreadable, terminals),
         Err(failure) => report_failure(rt, request.style(), &failure),
     }
 }
 
-fn status_of<R: Locks + Input + Clock + Print + Eprint + RandomSource + AllocGlobal + Clone + Drop>(
+fn status_of<R: Locks + Host>(
     rt: &R,
     request: &Request<'_>,
     unreadable: &[String],
@@ -135,9 +134,12 @@ fn status_of<R: Locks + Input + Clock + Print + Eprint + RandomSource + AllocGlo
 }
 
 // Merges shards; where it is in groups, under the lock of the folder to which they are written.
-fn status_of_merge<
-    R: Locks + Input + Clock + Print + Eprint + RandomSource + AllocGlobal + Clone + Drop,
->(rt: &R, sources: &Sources<'_>, merge: Merge<'_>, terminals: Terminals) -> Status {
+fn status_of_merge<R: Locks + Host>(
+    rt: &R,
+    sources: &Sources<'_>,
+    merge: Merge<'_>,
+    terminals: Terminals,
+) -> Status {
     if merge.compaction.is_none() {
         return status_of_sources(rt, sources, merge, terminals);
     }
@@ -158,9 +160,12 @@ fn report_lock<R: Eprint>(rt: &R, failure: &LockFailure<'_>) -> Status {
 }
 
 // Merges shards, if none of what names them failed, or what did is left out.
-fn status_of_sources<
-    R: Locks + Input + Clock + Print + Eprint + RandomSource + AllocGlobal + Clone + Drop,
->(rt: &R, sources: &Sources<'_>, merge: Merge<'_>, terminals: Terminals) -> Status {
+fn status_of_sources<R: Locks + Host>(
+    rt: &R,
+    sources: &Sources<'_>,
+    merge: Merge<'_>,
+    terminals: Terminals,
+) -> Status {
     match inputs_of(rt, sources, &[]) {
         Ok(inputs) if inputs.failed && !merge.skips_unreadable => Status::Failed,
         Ok(inputs) => {
@@ -175,9 +180,12 @@ fn status_of_sources<
 }
 
 // Merges shards; where they are removed then, under the locks of their folders.
-fn status_of_inputs<
-    R: Locks + Input + Clock + Print + Eprint + RandomSource + AllocGlobal + Clone + Drop,
->(rt: &R, paths: &[String], merge: Merge<'_>, terminals: Terminals) -> Status {
+fn status_of_inputs<R: Locks + Host>(
+    rt: &R,
+    paths: &[String],
+    merge: Merge<'_>,
+    terminals: Terminals,
+) -> Status {
     if merge.removes_inputs() {
         status_under_locks(rt, paths, merge, terminals)
     } else {
@@ -187,9 +195,12 @@ fn status_of_inputs<
 
 // Merges shards, and removes them, under the locks of their folders. Two runs, each of which writes
 // to the folder that the other one reads, would else remove each other's results.
-fn status_under_locks<
-    R: Locks + Input + Clock + Print + Eprint + RandomSource + AllocGlobal + Clone + Drop,
->(rt: &R, paths: &[String], merge: Merge<'_>, terminals: Terminals) -> Status {
+fn status_under_locks<R: Locks + Host>(
+    rt: &R,
+    paths: &[String],
+    merge: Merge<'_>,
+    terminals: Terminals,
+) -> Status {
     let mut locks = Vec::new(rt.alloc());
     let status = match lock_folders(rt, paths, merge.target.path, &mut locks) {
         Ok(()) => status_of_files(rt, paths, merge, terminals),
@@ -201,10 +212,12 @@ fn status_under_locks<
     status
 }
 
-fn status_of_files<
-    'a,
-    R: Files + Input + Clock + Print + Eprint + RandomSource + AllocGlobal + Clone + Drop,
->(rt: &R, paths: &'a [String], merge: Merge<'a>, terminals: Terminals) -> Status {
+fn status_of_files<'a, R: Host>(
+    rt: &R,
+    paths: &'a [String],
+    merge: Merge<'a>,
+    terminals: Terminals,
+) -> Status {
     let files: Result<Vec<&'a str>, AllocError> = paths
         .iter()
         .map(|path| path.as_str())

@@ -3,6 +3,7 @@
 
 pub mod expiry;
 pub mod failure;
+pub mod host;
 pub mod infos;
 pub mod input_failure;
 pub mod messages;

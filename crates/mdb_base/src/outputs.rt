@@ -1,21 +1,17 @@
 //! What commands read of files whole, and write to paths.
 
 use crate::failure::Failure;
+use crate::host::Host;
 use mdb_report::fault::Fault;
 use record_report::shown::ShownText;
 use shard_files::beside::leftovers;
 use shard_files::files::{Contents, STANDARD_STREAM, read_sections, read_shard, write};
 use std::alloc::{AllocError, Global};
 use std::fs;
-use std::random::RandomSource;
 use std::rt::Files;
 
 /// Writes bytes to a path, or to standard output, and reports what is left there.
-pub fn put<'a, R: Files + Print + Eprint + RandomSource + AllocGlobal + Clone + Drop>(
-    rt: &R,
-    output: &'a str,
-    bytes: &[u8],
-) -> Result<(), Failure<'a>> {
+pub fn put<'a, R: Host>(rt: &R, output: &'a str, bytes: &[u8]) -> Result<(), Failure<'a>> {
     let written = write(rt, rt.alloc(), output, bytes);
     if output != STANDARD_STREAM {
         report_leftovers(rt, output);
@@ -28,7 +24,7 @@ pub fn put<'a, R: Files + Print + Eprint + RandomSource + AllocGlobal + Clone + 
 
 /// Names the new files that runs that were ended have left beside a target, or beside the file that
 /// it leads to.
-pub fn report_leftovers<R: Files + Eprint + AllocGlobal + Clone + Drop>(rt: &R, target: &str) {
+pub fn report_leftovers<R: Host>(rt: &R, target: &str) {
     let found = match fs::canonicalize(rt, target) {
         Ok(file) => leftovers(rt, file.as_str()),
         Err(_) => leftovers(rt, target),

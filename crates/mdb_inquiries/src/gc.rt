@@ -9,6 +9,7 @@ use crate::inputs::Inputs;
 use crate::origins::Origins;
 use crate::sections::{TakesFiles, TakesXorbs, check_memory, read_files, read_xorbs};
 use mdb_base::failure::Failure;
+use mdb_base::host::Host;
 use mdb_base::progress::{Progress, Stage};
 use mdb_base::request::Collection;
 use mdb_base::shard_file::ShardFile;
@@ -40,7 +41,7 @@ const HALVINGS: u32 = 64;
 
 /// Prints what does not fit together in shards. Nothing is printed before all of them have been read.
 /// If standard error is a terminal, it says there how far it has come.
-pub fn collect_garbage<R: Files + Input + Clock + Print + Eprint + AllocGlobal>(
+pub fn collect_garbage<R: Host>(
     rt: &R,
     inputs: &Inputs,
     collection: Collection,

@@ -3,6 +3,7 @@
 use crate::inputs::Inputs;
 use mdb_base::expiry::report_expired_in;
 use mdb_base::failure::Failure;
+use mdb_base::host::Host;
 use mdb_base::outputs::{contents_of, sections_of};
 use mdb_base::progress::{Progress, Stage};
 use mdb_base::request::PrintOptions;
@@ -18,12 +19,12 @@ use shard_files::files::{Contents, open_sized, read_ends, read_shard};
 use std::alloc::Global;
 use std::io;
 use std::io::{BufWriter, ErrorKind, Write};
-use std::rt::{Clock, Files};
+use std::rt::Files;
 use xet_core_structures::error::CoreError;
 
 /// Prints what each of some shards answers, and reports on standard error what fails. If that is a
 /// terminal, it says there how far it has come.
-pub fn inspect<R: Files + Input + Clock + Print + Eprint + AllocGlobal>(
+pub fn inspect<R: Host>(
     rt: &R,
     inputs: &Inputs,
     inquiry: &Inquiry,
@@ -98,7 +99,7 @@ fn report_checked<R: Eprint>(
 }
 
 // The status with which the run ends after totals are printed, or, as an error, ends at once.
-fn inspect_all<R: Files + Input + Clock + Eprint + AllocGlobal, W: Write>(
+fn inspect_all<R: Host, W: Write>(
     rt: &R,
     inputs: &Inputs,
     inquiry: &Inquiry,

@@ -3,6 +3,7 @@
 use crate::inputs::{InputFailure, Inputs};
 use crate::sections::{TakesFiles, TakesXorbs, read_files, read_xorbs};
 use mdb_base::failure::Failure;
+use mdb_base::host::Host;
 use mdb_base::outputs::put;
 use mdb_base::progress::{Progress, Stage};
 use mdb_base::request::{OverviewOptions, Sources};
@@ -16,7 +17,6 @@ use mdb_report::brief::Brief;
 use mdb_report::fault::Fault;
 use record_report::line::Style;
 use std::alloc::AllocError;
-use std::random::RandomSource;
 use std::rt::{Clock, Files};
 use xet_core_structures::file_structs::MDBFileInfo;
 use xet_core_structures::merklehash::MerkleHash;
@@ -52,7 +52,7 @@ struct HashPart {
 
 /// Writes an overview of shards. What cannot be read is reported on standard error, and in the page.
 /// If standard error is a terminal, it says there how far it has come.
-pub fn report<'a, R: Files + Clock + Print + Eprint + RandomSource + AllocGlobal + Clone + Drop>(
+pub fn report<'a, R: Host>(
     rt: &R,
     inputs: &'a Inputs,
     sources: &Sources<'a>,
@@ -70,7 +70,7 @@ pub fn report<'a, R: Files + Clock + Print + Eprint + RandomSource + AllocGlobal
     }
 }
 
-fn write_page<'a, R: Files + Clock + Print + Eprint + RandomSource + AllocGlobal + Clone + Drop>(
+fn write_page<'a, R: Host>(
     rt: &R,
     inputs: &'a Inputs,
     sources: &Sources<'a>,

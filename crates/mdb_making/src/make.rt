@@ -11,6 +11,7 @@ use crate::record_lines::shard_of_lines;
 use crate::record_removal::remove_records;
 use mdb_base::expiry::{new_expiry, with_expiry_if_any};
 use mdb_base::failure::Failure;
+use mdb_base::host::Host;
 use mdb_base::input_failure::combine_failure_in;
 use mdb_base::outputs::{bytes_in_file, put, sections_of};
 use mdb_base::request::{MakeCommand, NewExpiry, Target};
@@ -22,14 +23,13 @@ use shard_bytes::minimal::{
 };
 use shard_files::files::STANDARD_STREAM;
 use std::alloc::Global;
-use std::random::RandomSource;
 use std::rt::Files;
 use xet_core_structures::file_structs::KeptParts;
 use xet_core_structures::merklehash::MerkleHash;
 
 /// Writes the shard that a command makes to a target. Reports on standard error what runs that were
 /// ended have left there. Standard output is a terminal or not.
-pub fn make<'a, R: Files + Input + Print + Eprint + RandomSource + AllocGlobal + Clone + Drop>(
+pub fn make<'a, R: Host>(
     rt: &R,
     making: &MakeCommand<'a>,
     target: Target<'a>,

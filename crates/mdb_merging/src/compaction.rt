@@ -4,6 +4,7 @@
 use crate::input_removal::{HashedFile, ReadInput, remove_inputs};
 use crate::merge::{contents_of_all, merge_with_expiry};
 use mdb_base::failure::Failure;
+use mdb_base::host::Host;
 use mdb_base::input_failure::in_memory;
 use mdb_base::outputs::{path_in, put};
 use mdb_base::progress::{Progress, Stage};
@@ -16,8 +17,7 @@ use shard_files::files::{Contents, read_to_end, sync_folder};
 use shard_files::stamp::FileId;
 use std::alloc::{AllocError, Global};
 use std::fs::OpenFile;
-use std::random::RandomSource;
-use std::rt::{Clock, Files};
+use std::rt::Files;
 use std::{fs, io};
 use xet_core_structures::error::Result as ShardResult;
 use xet_core_structures::merklehash::{HMACKey, MerkleHash, keyed_hash};
@@ -35,10 +35,7 @@ struct Group<'a> {
 /// `max_size` bytes; a larger one is a group of its own. Each merge is written to a folder, by the
 /// hash of its bytes, and its path is printed. After a failure the merges before it stay. Only once
 /// the device has all merges are inputs removed, if they are to be.
-pub fn merge_groups<
-    'a,
-    R: Files + Input + Clock + Print + Eprint + RandomSource + AllocGlobal + Clone + Drop,
->(
+pub fn merge_groups<'a, R: Host>(
     rt: &R,
     files: &[&'a str],
     merge: Merge<'a>,
@@ -116,10 +113,7 @@ fn add_to_group<'a>(
 
 // Merges the shards in some files, and writes the merge to a folder. Adds what was read to the
 // inputs, if they are to be removed.
-fn write_group<
-    'a,
-    R: Files + Input + Clock + Print + Eprint + RandomSource + AllocGlobal + Clone + Drop,
->(
+fn write_group<'a, R: Host>(
     rt: &R,
     files: &[&'a str],
     merge: Merge<'a>,
@@ -165,7 +159,7 @@ fn note_inputs<'a>(
 }
 
 // Writes a shard to a folder, by the hash of its bytes, and prints its path.
-fn put_by_hash<'a, R: Files + Print + Eprint + RandomSource + AllocGlobal + Clone + Drop>(
+fn put_by_hash<'a, R: Host>(
     rt: &R,
     folder: &'a str,
     hash_key: HMACKey,

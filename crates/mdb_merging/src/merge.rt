@@ -13,6 +13,7 @@ use crate::rounds::merge_in_rounds;
 use crate::skipping::without_unreadable;
 use mdb_base::expiry::{new_expiry, report_expired_in, with_expiry_if_any, without_expired};
 use mdb_base::failure::Failure;
+use mdb_base::host::Host;
 use mdb_base::infos::{infos_of, keys_in};
 use mdb_base::input_failure::{
     combine_failure_in, disagreement_failure, disagreement_under, failure_on_all,
@@ -32,18 +33,14 @@ use shard_files::files::{Contents, STANDARD_STREAM, is_worth_reading, open_sized
 use shard_files::free_memory::free_memory;
 use std::alloc::{AllocError, Global};
 use std::fs;
-use std::random::RandomSource;
-use std::rt::{Clock, Files};
+use std::rt::Files;
 use xet_core_structures::merklehash::HMACKey;
 
 /// Writes the merge of the shards in some files to a target. With `by_key` it writes a merge of
 /// those under each key to the folder at the target's path, by the digits of the key; with `memory`
 /// it takes about so much. If standard error is a terminal, it says there how far it has come. The
 /// status says whether files were left out that can't be read.
-pub fn merge_files<
-    'a,
-    R: Files + Input + Clock + Print + Eprint + RandomSource + AllocGlobal + Clone + Drop,
->(
+pub fn merge_files<'a, R: Host>(
     rt: &R,
     files: &[&'a str],
     merge: Merge<'a>,
@@ -65,10 +62,7 @@ pub fn merge_files<
 }
 
 // Writes the merge of the shards in some files, of which those that can't be read may be left out.
-fn merge_readable<
-    'a,
-    R: Files + Input + Clock + Print + Eprint + RandomSource + AllocGlobal + Clone + Drop,
->(
+fn merge_readable<'a, R: Host>(
     rt: &R,
     files: &[&'a str],
     merge: Merge<'a>,
@@ -88,10 +82,12 @@ fn merge_readable<
 }
 
 // Writes the merge of the shards in some files, none of which is left out.
-fn merge_remaining<
-    'a,
-    R: Files + Input + Clock + Print + Eprint + RandomSource + AllocGlobal + Clone + Drop,
->(rt: &R, files: &[&'a str], merge: Merge<'a>, progress: &mut Progress) -> Result<(), Failure<'a>> {
+fn merge_remaining<'a, R: Host>(
+    rt: &R,
+    files: &[&'a str],
+    merge: Merge<'a>,
+    progress: &mut Progress,
+) -> Result<(), Failure<'a>> {
     match (merge.compaction, merge.memory) {
         // There are no groups, so there is nothing to do.
         (Some(_), _) if files.is_empty() => Ok(()),
@@ -103,10 +99,12 @@ fn merge_remaining<
 }
 
 // Writes the merge of shards that are all in memory at once.
-fn merge_in_memory<
-    'a,
-    R: Files + Input + Clock + Print + Eprint + RandomSource + AllocGlobal + Clone + Drop,
->(rt: &R, files: &[&'a str], merge: Merge<'a>, progress: &mut Progress) -> Result<(), Failure<'a>> {
+fn merge_in_memory<'a, R: Host>(
+    rt: &R,
+    files: &[&'a str],
+    merge: Merge<'a>,
+    progress: &mut Progress,
+) -> Result<(), Failure<'a>> {
     if exceed_memory(rt, files) {
         return Err(failure_on_all(files, Fault::NoRoomAtOnce));
     }
@@ -165,16 +163,18 @@ fn size_at<R: Files + AllocGlobal>(rt: &R, path: &str) -> u64 {
 }
 
 // Reads the shards, merges them and writes the merge.
-fn read_and_merge<
-    'a,
-    R: Files + Input + Clock + Print + Eprint + RandomSource + AllocGlobal + Clone + Drop,
->(rt: &R, files: &[&'a str], merge: Merge<'a>, progress: &mut Progress) -> Result<(), Failure<'a>> {
+fn read_and_merge<'a, R: Host>(
+    rt: &R,
+    files: &[&'a str],
+    merge: Merge<'a>,
+    progress: &mut Progress,
+) -> Result<(), Failure<'a>> {
     let contents = contents_of_all(rt, files, merge, progress)?;
     progress.show(rt, Stage::Merging(files.len()));
     merge_contents(rt, files, contents.as_slice(), merge, progress)
 }
 
-fn merge_contents<'a, R: Files + Print + Eprint + RandomSource + AllocGlobal + Clone + Drop>(
+fn merge_contents<'a, R: Host>(
     rt: &R,
     files: &[&'a str],
     contents: &[Contents],
@@ -194,7 +194,7 @@ fn merge_contents<'a, R: Files + Print + Eprint + RandomSource + AllocGlobal + C
 }
 
 /// What is read of each file. All are read once, since standard input and pipes cannot be read again.
-pub fn contents_of_all<'a, R: Files + Input + Clock + Eprint + AllocGlobal>(
+pub fn contents_of_all<'a, R: Host>(
     rt: &R,
     files: &[&'a str],
     merge: Merge<'a>,
@@ -221,7 +221,7 @@ pub fn contents_of_all<'a, R: Files + Input + Clock + Eprint + AllocGlobal>(
 }
 
 // Merges the inputs under each key, and writes each merge to a folder, by the digits of its key.
-fn merge_by_key<'a, R: Files + Print + Eprint + RandomSource + AllocGlobal + Clone + Drop>(
+fn merge_by_key<'a, R: Host>(
     rt: &R,
     files: &[&'a str],
     inputs: &[&[u8]],
@@ -239,7 +239,7 @@ fn merge_by_key<'a, R: Files + Print + Eprint + RandomSource + AllocGlobal + Clo
 }
 
 // Merges the inputs under one key, and writes the merge to a folder.
-fn write_under<'a, R: Files + Print + Eprint + RandomSource + AllocGlobal + Clone + Drop>(
+fn write_under<'a, R: Host>(
     rt: &R,
     files: &[&'a str],
     inputs: &[&[u8]],

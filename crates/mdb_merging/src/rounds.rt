@@ -15,6 +15,7 @@ use crate::by_key::{distinct_keys, path_under, values_under};
 use crate::merge::report_size;
 use mdb_base::expiry::report_expired;
 use mdb_base::failure::Failure;
+use mdb_base::host::Host;
 use mdb_base::input_failure::{failure_in_files, in_memory};
 use mdb_base::outputs::report_leftovers;
 use mdb_base::progress::{Progress, Stage};
@@ -30,7 +31,7 @@ use shard_files::files::{Place, STANDARD_STREAM, is_worth_reading, place_at, ren
 use std::alloc::{AllocError, AllocFailed, Global};
 use std::fs::OpenFile;
 use std::random::RandomSource;
-use std::rt::{Clock, Files};
+use std::rt::Files;
 use std::{fs, io};
 use xet_core_structures::error::CoreError;
 use xet_core_structures::merklehash::HMACKey;
@@ -40,10 +41,7 @@ const LEAST_MEMORY: u64 = 1 << 20;
 
 /// Writes the merge of the shards in some files to a target, in about so many bytes of memory. With
 /// `by_key` it writes a merge of those under each key to the folder at the target's path.
-pub fn merge_in_rounds<
-    'a,
-    R: Files + Input + Clock + Print + Eprint + RandomSource + AllocGlobal + Clone + Drop,
->(
+pub fn merge_in_rounds<'a, R: Host>(
     rt: &R,
     files: &[&'a str],
     merge: Merge<'a>,
@@ -66,10 +64,7 @@ pub fn merge_in_rounds<
 }
 
 // Writes the merge of the shards under one key to a folder.
-fn write_under<
-    'a,
-    R: Files + Input + Clock + Print + Eprint + RandomSource + AllocGlobal + Clone + Drop,
->(
+fn write_under<'a, R: Host>(
     rt: &R,
     shards: &[ShardFile<'a>],
     keys: &[HMACKey],
@@ -100,7 +95,7 @@ fn keys_of(alloc: Global, shards: &[ShardFile<'_>]) -> Result<Vec<HMACKey>, Allo
 }
 
 // Reads header and footer of each file.
-fn open_all<'a, R: Files + Input + Clock + Eprint + AllocGlobal>(
+fn open_all<'a, R: Host>(
     rt: &R,
     files: &[&'a str],
     merge: Merge<'a>,
@@ -139,10 +134,7 @@ fn open_all<'a, R: Files + Input + Clock + Eprint + AllocGlobal>(
 }
 
 // Writes the merge of shards to a path: to a new file beside it, which is renamed over it.
-fn write_merge<
-    'a,
-    R: Files + Input + Clock + Print + Eprint + RandomSource + AllocGlobal + Clone + Drop,
->(
+fn write_merge<'a, R: Host>(
     rt: &R,
     shards: &[ShardFile<'a>],
     merge: Merge<'a>,
@@ -181,7 +173,7 @@ fn write_merge<
 }
 
 // Writes the merge of shards to a new file, and waits until the device has it.
-fn fill<'a, R: Files + Input + Clock + Eprint + RandomSource + AllocGlobal>(
+fn fill<'a, R: Host>(
     rt: &R,
     shards: &[ShardFile<'a>],
     merge: Merge<'a>,

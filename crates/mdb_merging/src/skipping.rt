@@ -1,6 +1,7 @@
 //! Files that a merge leaves out, since their shards can't be read.
 
 use mdb_base::failure::Failure;
+use mdb_base::host::Host;
 use mdb_base::input_failure::{combine_failure, in_memory};
 use mdb_base::outputs::contents_of;
 use mdb_base::progress::{Progress, Stage};
@@ -9,12 +10,12 @@ use shard_bytes::merge::merge_bytes;
 use shard_files::files::STANDARD_STREAM;
 use std::alloc::Global;
 use std::fs;
-use std::rt::{Clock, Files};
+use std::rt::Files;
 use xet_core_structures::record_reader::FormatVersion;
 
 /// The files that can be merged, each by itself. The others are reported. One file is in memory at a
 /// time. What is no regular file can be read only once, so it is not tried.
-pub fn without_unreadable<'a, R: Files + Input + Clock + Eprint + AllocGlobal>(
+pub fn without_unreadable<'a, R: Host>(
     rt: &R,
     files: &[&'a str],
     progress: &mut Progress,

@@ -7,6 +7,7 @@ use crate::merge::report_findings;
 use crate::rounds::findings::Findings;
 use mdb_base::expiry::{earlier_of, shard_expiry};
 use mdb_base::failure::Failure;
+use mdb_base::host::Host;
 use mdb_base::input_failure::{
     failure_in_files, failure_of_two_keys, failure_on_all, in_memory, lacks_files, union_failure,
     unreadable_file,
@@ -23,7 +24,7 @@ use shard_bytes::check::Section;
 use shard_bytes::merge::merge_bytes;
 use std::alloc::{AllocError, Global};
 use std::io::{Read, Seek, Write};
-use std::rt::{Clock, Files};
+use std::rt::Files;
 use xet_core_structures::error::CoreError;
 use xet_core_structures::merklehash::MerkleHash;
 
@@ -54,11 +55,7 @@ struct Rounds<'a, F: Read + Write + Seek + Drop> {
 }
 
 /// Writes the merge of shards in about so many bytes of memory, and returns its file.
-pub fn merge_parts<
-    'a,
-    R: Files + Input + Clock + Eprint + AllocGlobal,
-    F: Read + Write + Seek + Drop,
->(
+pub fn merge_parts<'a, R: Host, F: Read + Write + Seek + Drop>(
     rt: &R,
     shards: &[ShardFile<'a>],
     merge: Merge<'a>,
@@ -99,7 +96,7 @@ fn in_memory_for<'a, T>(target: &'a str, made: Result<T, AllocError>) -> Result<
 }
 
 impl<'a, F: Read + Write + Seek + Drop> Rounds<'a, F> {
-    fn merge_section<R: Files + Input + Clock + Eprint + AllocGlobal>(
+    fn merge_section<R: Host>(
         &mut self,
         rt: &R,
         section: Section,
