@@ -7,9 +7,8 @@ ghost use Rattle.xet_core_structures.specs.WrittenShard.{IsBytesWithoutExpiry};
 ghost use Rattle.mdb_base.specs.Expiries.{shard_expiry, earlier_of, IsEarliest, IsNewExpiry, NoNewExpiry};
 ghost use Rattle.mdb_base.specs.Writing.{HasExpiry, RefusesExpiry};
 
-use crate::failure::Failure;
+use crate::failure::{Failure, Subject};
 use crate::infos::infos_of;
-use crate::input_failure::in_memory;
 use crate::messages::say;
 use crate::progress::Progress;
 use crate::request::NewExpiry;
@@ -112,7 +111,7 @@ pub fn without_expired<'a, R: Files + Eprint + AllocGlobal>(
                 let _ = rt.eprintln(format_args!("{file}: left out, it has expired"));
             }
         } else {
-            in_memory(files, remaining.push(*file))?;
+            Subject::of_all(files).in_memory(remaining.push(*file))?;
         }
     }
     Ok(remaining)

@@ -20,6 +20,38 @@ pub enum Subject<'a> {
     CommandLine,
 }
 
+impl<'a> Subject<'a> {
+    /// Some files together.
+    pub fn of_all(files: &[&'a str]) -> Subject<'a> {
+        match files {
+            [only] => Subject::File(only),
+            [first, second] => Subject::Pair(first, second),
+            [first, ..] => Subject::Files(first, files.len()),
+            [] => Subject::StandardOutput,
+        }
+    }
+
+    /// A path to which is written, or standard output if it is `-`.
+    pub fn of_target(path: &'a str) -> Subject<'a> {
+        if path == STANDARD_STREAM {
+            Subject::StandardOutput
+        } else {
+            Subject::File(path)
+        }
+    }
+
+    /// What was made, unless memory was lacking: that is a failure on the subject.
+    pub fn in_memory<T, E: Drop>(self, made: Result<T, E>) -> Result<T, Failure<'a>> {
+        match made {
+            Ok(made) => Ok(made),
+            Err(_) => Err(Failure {
+                subject: self,
+                fault: Fault::OutOfMemory,
+            }),
+        }
+    }
+}
+
 /// A failure: its one line is the subject and what is wrong.
 #[derive(Drop)]
 pub struct Failure<'a> {
@@ -69,10 +101,9 @@ impl<'a> Failure<'a> {
     pub fn on_target(path: &'a str, fault: Fault) -> Failure<'a>
         ensures { result.fault ≡ fault }
     {
-        if path == STANDARD_STREAM {
-            Failure::on_output(fault)
-        } else {
-            Failure::on_file(path, fault)
+        Failure {
+            subject: Subject::of_target(path),
+            fault,
         }
     }
 

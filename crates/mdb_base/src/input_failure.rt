@@ -156,20 +156,9 @@ pub fn union_failure<'a>(alloc: Global, files: &[&'a str], inputs: &[&[u8]]) -> 
 pub fn failure_on_all<'a>(files: &[&'a str], fault: Fault) -> Failure<'a>
     ensures { result.fault ≡ fault }
 {
-    let subject = match files {
-        [only] => Subject::File(only),
-        [first, second] => Subject::Pair(first, second),
-        [first, ..] => Subject::Files(first, files.len()),
-        [] => Subject::StandardOutput,
-    };
-    Failure { subject, fault }
-}
-
-/// What was made of all inputs, unless memory was lacking.
-pub fn in_memory<'a, T, E: Drop>(files: &[&'a str], made: Result<T, E>) -> Result<T, Failure<'a>> {
-    match made {
-        Ok(made) => Ok(made),
-        Err(_) => Err(failure_on_all(files, Fault::OutOfMemory)),
+    Failure {
+        subject: Subject::of_all(files),
+        fault,
     }
 }
 

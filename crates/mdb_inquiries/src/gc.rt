@@ -7,8 +7,8 @@
 
 use crate::inputs::Inputs;
 use crate::origins::Origins;
-use crate::sections::{TakesFiles, TakesXorbs, check_memory, read_files, read_xorbs};
-use mdb_base::failure::Failure;
+use crate::sections::{TakesFiles, TakesXorbs, read_files, read_xorbs};
+use mdb_base::failure::{Failure, Subject};
 use mdb_base::host::Host;
 use mdb_base::progress::{Progress, Stage};
 use mdb_base::request::Collection;
@@ -118,8 +118,9 @@ pub fn open_all<'a, R: Files + AllocGlobal>(
 ) -> Result<Vec<ShardFile<'a>>, Failure<'a>> {
     let mut opened = Vec::new(rt.alloc());
     for path in &inputs.paths {
-        let shard = ShardFile::open(rt, path.as_str())?;
-        check_memory(&shard, opened.push(shard))?;
+        let path = path.as_str();
+        let shard = ShardFile::open(rt, path)?;
+        Subject::File(path).in_memory(opened.push(shard))?;
     }
     Ok(opened)
 }
@@ -154,10 +155,8 @@ fn garbage_from<'a, R: Files + Clock + Eprint + AllocGlobal>(
         read_xorbs(rt, shard, &mut xorbs)?;
     }
     let to = xorbs.garbage.range.to;
-    match xorbs.garbage.finish() {
-        Ok(found) => Ok((found, to)),
-        Err(_) => Err(Failure::on_words(Fault::OutOfMemory)),
-    }
+    let found = Subject::CommandLine.in_memory(xorbs.garbage.finish())?;
+    Ok((found, to))
 }
 
 // Prints findings, each with the path of the first shard that has its record.
@@ -190,10 +189,7 @@ fn origins_of<'a, 'f, R: Files + Clock + Eprint + AllocGlobal>(
     found: &'f [GarbageFinding],
     progress: &mut Progress,
 ) -> Result<Origins<'f>, Failure<'a>> {
-    let mut origins = match Origins::new(rt.alloc(), found) {
-        Ok(origins) => origins,
-        Err(_) => return Err(Failure::on_words(Fault::OutOfMemory)),
-    };
+    let mut origins = Subject::CommandLine.in_memory(Origins::new(rt.alloc(), found))?;
     let all = shards.len();
     for (read, shard) in shards.iter().enumerate() {
         if origins.left == 0 {

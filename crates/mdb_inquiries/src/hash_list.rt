@@ -1,6 +1,6 @@
 //! Hashes that a file or standard input lists.
 
-use mdb_base::failure::Failure;
+use mdb_base::failure::{Failure, Subject};
 use mdb_base::request::{HashList, MakeCommand, Request};
 use mdb_base::words::is_among;
 use mdb_report::fault::Fault;
@@ -89,7 +89,7 @@ fn add_from<'a, R: Files + Input + AllocGlobal>(
             continue;
         }
         match hash_in(line) {
-            Some(hash) => push(list.path, hashes, hash)?,
+            Some(hash) => Subject::File(list.path).in_memory(hashes.push(hash))?,
             None => return Err(Failure::on_file(list.path, Fault::NoHash(number))),
         }
     }
@@ -101,15 +101,4 @@ fn hash_in(line: &[u8]) -> Option<MerkleHash> {
         return None;
     };
     MerkleHash::from_hex(text).ok()
-}
-
-fn push<'a>(
-    list: &'a str,
-    hashes: &mut Vec<MerkleHash>,
-    hash: MerkleHash,
-) -> Result<(), Failure<'a>> {
-    match hashes.push(hash) {
-        Ok(()) => Ok(()),
-        Err(_) => Err(Failure::on_file(list, Fault::OutOfMemory)),
-    }
 }

@@ -2,7 +2,7 @@
 
 use crate::inputs::{InputFailure, Inputs};
 use crate::sections::{TakesFiles, TakesXorbs, read_files, read_xorbs};
-use mdb_base::failure::Failure;
+use mdb_base::failure::{Failure, Subject};
 use mdb_base::host::Host;
 use mdb_base::outputs::put;
 use mdb_base::progress::{Progress, Stage};
@@ -14,7 +14,6 @@ use mdb_overview::overview::Overview;
 use mdb_overview::page::page_of;
 use mdb_overview::sharing::ChunkHashes;
 use mdb_report::brief::Brief;
-use mdb_report::fault::Fault;
 use record_report::line::Style;
 use std::alloc::AllocError;
 use std::rt::{Clock, Files};
@@ -78,14 +77,17 @@ fn write_page<'a, R: Host>(
     progress: &mut Progress,
 ) -> Result<Status, Failure<'a>> {
     let alloc = rt.alloc();
-    let mut named = unless_out_of_memory(Vec::from_slice(alloc, sources.words.as_slice()))?;
+    let mut named = Subject::CommandLine.in_memory(Vec::from_slice(
+        alloc,
+        sources.words.as_slice(),
+    ))?;
     if let Some(list) = sources.list {
-        unless_out_of_memory(named.push(list))?;
+        Subject::CommandLine.in_memory(named.push(list))?;
     }
     let mut overview = Overview::new(alloc, named, reporting.now);
     for failure in &inputs.failures {
         let InputFailure { path, reason } = failure;
-        unless_out_of_memory(overview.add_failure(alloc, path, reason))?;
+        Subject::CommandLine.in_memory(overview.add_failure(alloc, path, reason))?;
     }
     let opened = open_all(rt, inputs, &mut overview)?;
     let parts = parts_of(opened.as_slice(), reporting.memory);
@@ -94,22 +96,14 @@ fn write_page<'a, R: Host>(
         let part = HashPart { rest, parts };
         read_part(rt, files.as_slice(), &mut overview, part, progress)?;
     }
-    unless_out_of_memory(overview.sort())?;
+    Subject::CommandLine.in_memory(overview.sort())?;
     overview.failures.sort_unstable();
-    let page = unless_out_of_memory(page_of(alloc, &overview))?;
+    let page = Subject::CommandLine.in_memory(page_of(alloc, &overview))?;
     put(rt, reporting.output, page.as_bytes())?;
     if overview.failures.is_empty() {
         Ok(Status::Done)
     } else {
         Ok(Status::Failed)
-    }
-}
-
-// What was done, unless memory was lacking.
-fn unless_out_of_memory<'a, T, E: Drop>(done: Result<T, E>) -> Result<T, Failure<'a>> {
-    match done {
-        Ok(value) => Ok(value),
-        Err(_) => Err(Failure::on_words(Fault::OutOfMemory)),
     }
 }
 
@@ -121,7 +115,7 @@ fn leave_out<'a, R: Eprint + AllocGlobal>(
 ) -> Result<(), Failure<'a>> {
     let _ = report_failure(rt, Style::Text, &failure);
     let Failure { subject, fault } = failure;
-    unless_out_of_memory(overview.add_failure(rt.alloc(), &subject, &fault))
+    Subject::CommandLine.in_memory(overview.add_failure(rt.alloc(), &subject, &fault))
 }
 
 fn open_all<'a, R: Files + Eprint + AllocGlobal>(
@@ -132,7 +126,7 @@ fn open_all<'a, R: Files + Eprint + AllocGlobal>(
     let mut opened = Vec::new(rt.alloc());
     for path in &inputs.paths {
         match open_shard(rt, path.as_str()) {
-            Ok(shard) => unless_out_of_memory(opened.push(shard))?,
+            Ok(shard) => Subject::CommandLine.in_memory(opened.push(shard))?,
             Err(failure) => leave_out(rt, overview, failure)?,
         }
     }
@@ -144,7 +138,12 @@ fn open_shard<'a, R: Files + AllocGlobal>(
     path: &'a str,
 ) -> Result<BriefShard<'a>, Failure<'a>> {
     let file = ShardFile::open(rt, path)?;
-    let brief = unless_out_of_memory(Brief::of_info(rt.alloc(), path, &file.info, file.size()))?;
+    let brief = Subject::CommandLine.in_memory(Brief::of_info(
+        rt.alloc(),
+        path,
+        &file.info,
+        file.size(),
+    ))?;
     Ok(BriefShard { file, brief })
 }
 
@@ -179,9 +178,9 @@ fn read_all<'a, R: Files + Clock + Eprint + AllocGlobal>(
         let BriefShard { file, mut brief } = shard;
         match read_records(rt, &file, &mut brief, HashPart { rest: 0, parts }) {
             Ok(found) => {
-                unless_out_of_memory(hashes.add_shard(alloc, found.as_slice()))?;
-                unless_out_of_memory(overview.shards.push(brief))?;
-                unless_out_of_memory(files.push(file))?;
+                Subject::CommandLine.in_memory(hashes.add_shard(alloc, found.as_slice()))?;
+                Subject::CommandLine.in_memory(overview.shards.push(brief))?;
+                Subject::CommandLine.in_memory(files.push(file))?;
             }
             Err(failure) => {
                 progress.clear(rt);
@@ -189,7 +188,7 @@ fn read_all<'a, R: Files + Clock + Eprint + AllocGlobal>(
             }
         }
     }
-    unless_out_of_memory(hashes.count(&mut overview.sharing))?;
+    Subject::CommandLine.in_memory(hashes.count(&mut overview.sharing))?;
     Ok(files)
 }
 
@@ -237,9 +236,9 @@ fn read_part<'a, R: Files + Clock + Eprint + AllocGlobal>(
     for (read, file) in files.iter().enumerate() {
         progress.show_after_pause(rt, Stage::Reading { read, all });
         let found = xorbs_of(rt, file, part)?;
-        unless_out_of_memory(hashes.add_shard(alloc, found.hashes.as_slice()))?;
+        Subject::CommandLine.in_memory(hashes.add_shard(alloc, found.hashes.as_slice()))?;
     }
-    unless_out_of_memory(hashes.count(&mut overview.sharing))
+    Subject::CommandLine.in_memory(hashes.count(&mut overview.sharing))
 }
 
 fn xorbs_of<'a, R: Files + AllocGlobal>(

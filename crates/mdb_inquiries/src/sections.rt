@@ -2,7 +2,7 @@
 
 ghost use Rattle.xet_core_structures.specs.XorbRecord.{HasItsChunks};
 
-use mdb_base::failure::Failure;
+use mdb_base::failure::{Failure, Subject};
 use mdb_base::shard_file::ShardFile;
 use mdb_report::fault::{Fault, section_fault};
 use mdb_report::section::SectionReader;
@@ -37,7 +37,7 @@ pub fn read_files<'a, R: Files + AllocGlobal, T: TakesFiles>(
     let mut section = section_at(rt, shard, shard.info.metadata.file_info_offset, version)?;
     for _ in 0..u64::MAX {
         match section.next_file(rt.alloc()) {
-            Ok(Some(file)) => check_memory(shard, taker.take_file(&file))?,
+            Ok(Some(file)) => Subject::File(shard.path).in_memory(taker.take_file(&file))?,
             Ok(None) => break,
             Err(error) => {
                 return Err(Failure::on_file(shard.path, section_fault(Section::Files, error)));
@@ -57,7 +57,7 @@ pub fn read_xorbs<'a, R: Files + AllocGlobal, T: TakesXorbs>(
     let mut section = section_at(rt, shard, offset, FormatVersion::V3)?;
     for _ in 0..u64::MAX {
         match section.next_xorb(rt.alloc()) {
-            Ok(Some(xorb)) => check_memory(shard, taker.take_xorb(&xorb))?,
+            Ok(Some(xorb)) => Subject::File(shard.path).in_memory(taker.take_xorb(&xorb))?,
             Ok(None) => break,
             Err(error) => {
                 return Err(Failure::on_file(shard.path, section_fault(Section::Xorbs, error)));
@@ -65,17 +65,6 @@ pub fn read_xorbs<'a, R: Files + AllocGlobal, T: TakesXorbs>(
         }
     }
     Ok(())
-}
-
-/// What was added of a shard, unless memory was lacking.
-pub fn check_memory<'a, E: Drop>(
-    shard: &ShardFile<'a>,
-    added: Result<(), E>,
-) -> Result<(), Failure<'a>> {
-    match added {
-        Ok(()) => Ok(()),
-        Err(_) => Err(Failure::on_file(shard.path, Fault::OutOfMemory)),
-    }
 }
 
 fn section_at<'a, R: Files + AllocGlobal>(

@@ -10,7 +10,7 @@ ghost use Rattle.mdb_report.specs.Faults.{IsExportFault, IsMinimalFault};
 use crate::record_lines::shard_of_lines;
 use crate::record_removal::remove_records;
 use mdb_base::expiry::{new_expiry, with_expiry_if_any};
-use mdb_base::failure::Failure;
+use mdb_base::failure::{Failure, Subject};
 use mdb_base::host::Host;
 use mdb_base::input_failure::combine_failure_in;
 use mdb_base::outputs::{bytes_in_file, put, sections_of};
@@ -159,10 +159,7 @@ fn subset<'a, R: Files + Input + Eprint + AllocGlobal>(
         Err(error) => return Err(Failure::on_file(file, fault_of(alloc, bytes, error))),
     };
     let expiry = new_expiry(alloc, expiry, &[file], &[bytes])?;
-    match with_expiry_if_any(alloc, subset, expiry) {
-        Ok(subset) => Ok(subset),
-        Err(_) => Err(Failure::on_file(file, Fault::OutOfMemory)),
-    }
+    Subject::File(file).in_memory(with_expiry_if_any(alloc, subset, expiry))
 }
 
 // Reports each listed hash that no xorb of the shard has, and fails if there is one.

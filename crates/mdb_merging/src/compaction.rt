@@ -3,9 +3,8 @@
 
 use crate::input_removal::{HashedFile, ReadInput, remove_inputs};
 use crate::merge::{contents_of_all, merge_with_expiry};
-use mdb_base::failure::Failure;
+use mdb_base::failure::{Failure, Subject};
 use mdb_base::host::Host;
-use mdb_base::input_failure::in_memory;
 use mdb_base::outputs::{path_in, put};
 use mdb_base::progress::{Progress, Stage};
 use mdb_base::request::{Compaction, Merge};
@@ -50,7 +49,7 @@ pub fn merge_groups<'a, R: Host>(
     for group in &groups {
         let shards = group.files.as_slice();
         let result = write_group(rt, shards, merge, compaction, &mut inputs, progress)?;
-        in_memory(files, results.push(result))?;
+        Subject::of_all(files).in_memory(results.push(result))?;
     }
     if !compaction.remove_inputs {
         return Ok(());
@@ -77,7 +76,7 @@ fn groups_of<'a, R: Files + AllocGlobal>(
     let mut groups: Vec<Group<'a>> = Vec::new(alloc);
     for file in files {
         let shard = ShardFile::open(rt, file)?;
-        in_memory(files, add_to_group(alloc, &mut groups, max_size, &shard))?;
+        Subject::of_all(files).in_memory(add_to_group(alloc, &mut groups, max_size, &shard))?;
     }
     Ok(groups)
 }
@@ -127,7 +126,7 @@ fn write_group<'a, R: Host>(
         .iter()
         .map(|contents| contents.bytes.as_slice())
         .collect(rt.alloc());
-    let shards = in_memory(files, shards)?;
+    let shards = Subject::of_all(files).in_memory(shards)?;
     progress.show(rt, Stage::Merging(files.len()));
     let bytes = merge_with_expiry(rt, files, shards.as_slice(), merge, progress)?;
     if compaction.remove_inputs {
@@ -151,9 +150,7 @@ fn note_inputs<'a>(
             stamp,
             hash: keyed_hash(hash_key, contents.bytes.as_slice()),
         };
-        if inputs.push(ReadInput { path: *file, seen }).is_err() {
-            return Err(Failure::on_file(file, Fault::OutOfMemory));
-        }
+        Subject::File(file).in_memory(inputs.push(ReadInput { path: *file, seen }))?;
     }
     Ok(())
 }
@@ -166,9 +163,7 @@ fn put_by_hash<'a, R: Host>(
     bytes: &[u8],
 ) -> Result<FileId, Failure<'a>> {
     let hash = keyed_hash(hash_key, bytes);
-    let Ok(path) = path_of_hash(rt.alloc(), folder, &hash) else {
-        return Err(Failure::on_file(folder, Fault::OutOfMemory));
-    };
+    let path = Subject::File(folder).in_memory(path_of_hash(rt.alloc(), folder, &hash))?;
     let path = path.as_str();
     if fs::symlink_metadata(rt, path).is_err() {
         if let Err(failure) = put(rt, path, bytes) {

@@ -12,12 +12,12 @@ use crate::compaction::merge_groups;
 use crate::rounds::merge_in_rounds;
 use crate::skipping::without_unreadable;
 use mdb_base::expiry::{new_expiry, report_expired_in, with_expiry_if_any, without_expired};
-use mdb_base::failure::Failure;
+use mdb_base::failure::{Failure, Subject};
 use mdb_base::host::Host;
 use mdb_base::infos::{infos_of, keys_in};
 use mdb_base::input_failure::{
     combine_failure_in, disagreement_failure, disagreement_under, failure_on_all,
-    failure_on_malformed, in_memory, lacks_files,
+    failure_on_malformed, lacks_files,
 };
 use mdb_base::outputs::{contents_of, put};
 use mdb_base::progress::{Progress, Stage};
@@ -185,7 +185,7 @@ fn merge_contents<'a, R: Host>(
         .iter()
         .map(|contents| contents.bytes.as_slice())
         .collect(rt.alloc());
-    let inputs = in_memory(files, inputs)?;
+    let inputs = Subject::of_all(files).in_memory(inputs)?;
     if merge.by_key {
         return merge_by_key(rt, files, inputs.as_slice(), merge, progress);
     }
@@ -213,9 +213,7 @@ pub fn contents_of_all<'a, R: Host>(
         }
         let bytes = contents.bytes.as_slice();
         report_expired_in(rt, Style::Text, file, bytes, merge.now, progress);
-        if all.push(contents).is_err() {
-            return Err(Failure::on_file(file, Fault::OutOfMemory));
-        }
+        Subject::File(file).in_memory(all.push(contents))?;
     }
     Ok(all)
 }
@@ -230,8 +228,8 @@ fn merge_by_key<'a, R: Host>(
 ) -> Result<(), Failure<'a>> {
     let alloc = rt.alloc();
     let infos = infos_of(alloc, files, inputs)?;
-    let keys = in_memory(files, keys_in(alloc, infos.as_slice()))?;
-    let distinct = in_memory(files, distinct_keys(alloc, keys.as_slice()))?;
+    let keys = Subject::of_all(files).in_memory(keys_in(alloc, infos.as_slice()))?;
+    let distinct = Subject::of_all(files).in_memory(distinct_keys(alloc, keys.as_slice()))?;
     for key in &distinct {
         write_under(rt, files, inputs, keys.as_slice(), key, merge, progress)?;
     }
@@ -250,9 +248,9 @@ fn write_under<'a, R: Host>(
 ) -> Result<(), Failure<'a>> {
     let alloc = rt.alloc();
     let folder = merge.target.path;
-    let files_under = in_memory(files, values_under(alloc, files, keys, key))?;
-    let inputs_under = in_memory(files, values_under(alloc, inputs, keys, key))?;
-    let path = in_memory(files, path_under(alloc, folder, key))?;
+    let files_under = Subject::of_all(files).in_memory(values_under(alloc, files, keys, key))?;
+    let inputs_under = Subject::of_all(files).in_memory(values_under(alloc, inputs, keys, key))?;
+    let path = Subject::of_all(files).in_memory(path_under(alloc, folder, key))?;
     let bytes = merge_with_expiry(
         rt,
         files_under.as_slice(),

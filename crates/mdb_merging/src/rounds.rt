@@ -14,9 +14,9 @@ mod parts;
 use crate::by_key::{distinct_keys, path_under, values_under};
 use crate::merge::report_size;
 use mdb_base::expiry::report_expired;
-use mdb_base::failure::Failure;
+use mdb_base::failure::{Failure, Subject};
 use mdb_base::host::Host;
-use mdb_base::input_failure::{failure_in_files, in_memory};
+use mdb_base::input_failure::failure_in_files;
 use mdb_base::outputs::report_leftovers;
 use mdb_base::progress::{Progress, Stage};
 use mdb_base::request::Merge;
@@ -55,8 +55,8 @@ pub fn merge_in_rounds<'a, R: Host>(
         return write_merge(rt, shards, merge, merge.target.path, memory, progress);
     }
     let alloc = rt.alloc();
-    let keys = in_memory(files, keys_of(alloc, shards))?;
-    let distinct = in_memory(files, distinct_keys(alloc, keys.as_slice()))?;
+    let keys = Subject::of_all(files).in_memory(keys_of(alloc, shards))?;
+    let distinct = Subject::of_all(files).in_memory(distinct_keys(alloc, keys.as_slice()))?;
     for key in &distinct {
         write_under(rt, shards, keys.as_slice(), key, merge, memory, progress)?;
     }
@@ -74,12 +74,9 @@ fn write_under<'a, R: Host>(
     progress: &mut Progress,
 ) -> Result<(), Failure<'a>> {
     let folder = merge.target.path;
-    let Ok(under) = values_under(rt.alloc(), shards, keys, key) else {
-        return Err(Failure::on_file(folder, Fault::OutOfMemory));
-    };
-    let Ok(path) = path_under(rt.alloc(), folder, key) else {
-        return Err(Failure::on_file(folder, Fault::OutOfMemory));
-    };
+    let named = Subject::File(folder);
+    let under = named.in_memory(values_under(rt.alloc(), shards, keys, key))?;
+    let path = named.in_memory(path_under(rt.alloc(), folder, key))?;
     write_merge(rt, under.as_slice(), merge, path.as_str(), memory, progress)
 }
 
@@ -114,7 +111,7 @@ fn open_all<'a, R: Host>(
         match load_bytes(alloc, ends.as_slice()) {
             Ok(info) => {
                 report_expired(rt, Style::Text, file, &info, merge.now, progress);
-                in_memory(files, opened.push(ShardFile::new(file, info, stamp)))?;
+                Subject::of_all(files).in_memory(opened.push(ShardFile::new(file, info, stamp)))?;
             }
             Err(error) if first_failure.is_none() => {
                 let fault = fault_of(alloc, ends.as_slice(), error);

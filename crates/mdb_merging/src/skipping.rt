@@ -1,8 +1,8 @@
 //! Files that a merge leaves out, since their shards can't be read.
 
-use mdb_base::failure::Failure;
+use mdb_base::failure::{Failure, Subject};
 use mdb_base::host::Host;
-use mdb_base::input_failure::{combine_failure, in_memory};
+use mdb_base::input_failure::combine_failure;
 use mdb_base::outputs::contents_of;
 use mdb_base::progress::{Progress, Stage};
 use mdb_report::fault::Fault;
@@ -25,7 +25,7 @@ pub fn without_unreadable<'a, R: Host>(
         let all = files.len();
         progress.show_after_pause(rt, Stage::Reading { read, all });
         match failure_of_file(rt, file) {
-            None => in_memory(files, readable.push(*file))?,
+            None => Subject::of_all(files).in_memory(readable.push(*file))?,
             Some(failure) if matches!(failure.fault, Fault::OutOfMemory) => return Err(failure),
             Some(failure) => {
                 progress.clear(rt);

@@ -6,10 +6,10 @@ ghost use Rattle.mdb_base.specs.Expiries.{shard_expiry, IsEarliest};
 use crate::merge::report_findings;
 use crate::rounds::findings::Findings;
 use mdb_base::expiry::{earlier_of, shard_expiry};
-use mdb_base::failure::Failure;
+use mdb_base::failure::{Failure, Subject};
 use mdb_base::host::Host;
 use mdb_base::input_failure::{
-    failure_in_files, failure_of_two_keys, failure_on_all, in_memory, lacks_files, union_failure,
+    failure_in_files, failure_of_two_keys, failure_on_all, lacks_files, union_failure,
     unreadable_file,
 };
 use mdb_base::progress::{Progress, Stage};
@@ -64,10 +64,10 @@ pub fn merge_parts<'a, R: Host, F: Read + Write + Seek + Drop>(
     progress: &mut Progress,
 ) -> Result<F, Failure<'a>> {
     let alloc = rt.alloc();
-    let named = merge.target.path;
-    let files = in_memory_for(named, paths_of(alloc, shards))?;
-    let mut cursors = in_memory_for(named, cursors_of(alloc, shards, Section::Files))?;
-    let mut xorbs = in_memory_for(named, cursors_of(alloc, shards, Section::Xorbs))?;
+    let target = Subject::of_target(merge.target.path);
+    let files = target.in_memory(paths_of(alloc, shards))?;
+    let mut cursors = target.in_memory(cursors_of(alloc, shards, Section::Files))?;
+    let mut xorbs = target.in_memory(cursors_of(alloc, shards, Section::Xorbs))?;
     let key_failure = other_key(rt, files.as_slice(), shards, merge.strictness)?;
     let later_bytes = bytes_left(xorbs.as_slice());
     let mut rounds = Rounds {
@@ -85,14 +85,6 @@ pub fn merge_parts<'a, R: Host, F: Read + Write + Seek + Drop>(
     rounds.later_bytes = 0;
     rounds.merge_section(rt, Section::Xorbs, xorbs.as_mut_slice(), progress)?;
     rounds.finish(rt, shards, memory, progress)
-}
-
-// What was made for a target, unless memory was lacking.
-fn in_memory_for<'a, T>(target: &'a str, made: Result<T, AllocError>) -> Result<T, Failure<'a>> {
-    match made {
-        Ok(made) => Ok(made),
-        Err(_) => Err(Failure::on_target(target, Fault::OutOfMemory)),
-    }
 }
 
 impl<'a, F: Read + Write + Seek + Drop> Rounds<'a, F> {
@@ -142,7 +134,7 @@ impl<'a, F: Read + Write + Seek + Drop> Rounds<'a, F> {
             .iter()
             .map(|bytes| bytes.as_slice())
             .collect(alloc);
-        let inputs = in_memory(self.files.as_slice(), inputs)?;
+        let inputs = Subject::of_all(self.files.as_slice()).in_memory(inputs)?;
         self.merge_inputs(rt, section, inputs.as_slice())
     }
 
