@@ -1,5 +1,5 @@
 -- The order of hashes is total, and only equal hashes tie.
-use Rattle.std.proofs.Common.{◌≡◌, ℕ, true, ap, refl, subst}
+use Rattle.std.proofs.Common.{◌≡◌, ℕ, true, ap, subst}
 use Rattle.std.specs.Bool.{Decides}
 use Rattle.std.specs.Ordering.{nat_cmp, eq_by_cmp}
 use Rattle.std.specs.Cmp.{IsTotalOrder, Equal-is}
@@ -8,7 +8,6 @@ use Rattle.std.proofs.lemmas.Bool.Decides.{Decides-and, Decides-like, Decides-eq
 use Rattle.std.proofs.lemmas.Cmp.{then_total, on_total, nat_cmp_total, eq_by_cmp_equiv}
 use Rattle.std.proofs.lemmas.Map.Lookups.{exact_pairs, exact_unsigned}
 use Rattle.xet_base.specs.declared.merklehash.DataHash.{DataHash}
-use Rattle.xet_base.specs.contracts.merklehash.DataHashOrd as derived
 use Rattle.xet_base.specs.Hash.{hash_cmp, hash_eq}
 
 pub hash_cmp-IsTotalOrder : IsTotalOrder hash_cmp
@@ -34,7 +33,3 @@ same_key a b = (
   λ tied. hash_cmp-IsAntisymmetric a b ((Equal-is (hash_cmp a b)).0 tied),
   λ same. subst (λ c. eq_by_cmp hash_cmp a c ≡ true) same ((eq_by_cmp_equiv hash_cmp-IsTotalOrder).refl a),
 )
-
--- the derived order of `DataHash` is this one
-pub derived_order : (derived.TheImpl.ghosts).cmp ≡ hash_cmp
-derived_order = refl

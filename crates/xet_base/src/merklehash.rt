@@ -1,10 +1,13 @@
 //! Hashes: four 64-bit words, their order, bytes and text.
 
-ghost use Rattle.std.specs.Prelude.{◌≡◌, ◌+◌, ◌*◌, ◌<◌, ◌≤◌, ◌↔◌, ◌++◌, length, IsTrue, IsOk, IsSome, IfOk, IfSome, IfErr, OnOk, Ok, Some, string_bytes, slice_index, map, All};
+ghost use Rattle.std.specs.Prelude.{◌≡◌, ◌+◌, ◌*◌, ◌<◌, ◌≤◌, ◌↔◌, ◌++◌, length, IsTrue, IsOk, IsSome, IfOk, IfSome, IfErr, OnOk, Ok, Some, string_bytes, slice_index, map, flat_map, All};
 ghost use Rattle.std.specs.Char.{to_ascii_lowercase};
+ghost use Rattle.std.specs.Cmp.{IsTotalOrder};
+ghost use Rattle.std.specs.Hash as fed;
 ghost use Rattle.std.specs.Str.{str_to_ascii_lowercase};
+ghost use Rattle.std.specs.declared.cmp.Ordering.TheVariants.{Equal};
 ghost use Rattle.xet_base.specs.Bytes.{u64_bytes};
-ghost use Rattle.xet_base.specs.Hash.{IsHash, words_of, hash_bytes, IsEligible};
+ghost use Rattle.xet_base.specs.Hash.{IsHash, words_of, hash_bytes, hash_cmp, IsEligible};
 ghost use Rattle.xet_base.specs.KeyedHash.{hmac};
 ghost use Rattle.xet_base.specs.Blake3.{keyed_hash};
 ghost use Rattle.xet_base.specs.Hex.{hex_digit, hex_digits, hash_hex, IsHexDigit, IsHexText, Spells};
@@ -14,6 +17,7 @@ use crate::fields::split_u64;
 use crate::keyed_hash::{blake3_bytes, keyed_bytes, keyed_bytes_four};
 use std::alloc::{AllocError, Global};
 use std::fmt;
+use std::hash::Hash;
 use std::ops::Index;
 use thiserror::Error;
 
@@ -55,6 +59,26 @@ pub fn hash_is_global_dedup_eligible(hash: &MerkleHash) -> bool
 {
     hash.word3 % MDB_SHARD_GLOBAL_DEDUP_CHUNK_MODULUS == 0
 }
+
+/// `cmp` and `partial_cmp` order hashes by word 0, then 1, 2 and 3. The order is total, and only
+/// equal hashes compare as equal. The function does nothing; its contract is the law.
+pub fn hashes_are_ordered_by_words()
+    ensures words { (a b : DataHash) → ⟦<DataHash as Ord>⟧.cmp a b ≡ hash_cmp a b }
+    ensures partial { (a b : DataHash)
+        → ⟦<DataHash as PartialOrd>⟧.partial_cmp a b ≡ Some (hash_cmp a b) }
+    ensures total { IsTotalOrder ⟦<DataHash as Ord>⟧.cmp }
+    ensures ties { (a b : DataHash) → (⟦<DataHash as Ord>⟧.cmp a b ≡ Equal) ↔ (a ≡ b) }
+{}
+
+/// Hashes are equal by `==` if and only if all their words are equal, and `hash` feeds these words
+/// to a hasher in order, so equal hashes have equal hash values. The function does nothing; its
+/// contract is the law.
+pub fn hashes_are_equal_by_words()
+    ensures equality { (a b : DataHash) → IsTrue (⟦<DataHash as PartialEq>⟧.eq a b) ↔ (a ≡ b) }
+    ensures words { (a b : DataHash) → (a ≡ b) ↔ (words_of a ≡ words_of b) }
+    ensures hashing { (a : DataHash)
+        → ⟦<DataHash as Hash>⟧.hash_input a ≡ flat_map fed.u64 (words_of a) }
+{}
 
 /// BLAKE3's keyed hash of the bytes. Allocates nothing.
 pub fn keyed_hash(key: HMACKey, bytes: &[u8]) -> DataHash

@@ -4,26 +4,23 @@
 ghost use Rattle.xet_records.specs.XorbRecord.{xorb_records, IsXorb};
 ghost use Rattle.xet_records.specs.declared.record_reader.FormatVersion.{FormatVersion};
 ghost use Rattle.xet_records.specs.FileRecord.{file_records, file_records_in};
-ghost use Rattle.std.specs.Prelude.{◌≡◌, ◌↔◌, ◌<◌, ◌^◌, ℕ, Bool, List, [], ◌∷◌, ◌++◌, flat_map, map, All, Contains, Option, None, Some, IfSome, IsTrue, unwrap_or};
-ghost use Rattle.std.specs.Cmp.{IsTotalOrder};
-ghost use Rattle.std.specs.declared.cmp.Ordering.TheVariants.{Equal};
+ghost use Rattle.std.specs.Prelude.{◌≡◌, ◌↔◌, ◌<◌, ◌^◌, ℕ, Bool, List, [], ◌∷◌, ◌++◌, map, All, Contains, Option, None, IfSome, IsTrue, unwrap_or};
 ghost use Rattle.std.specs.declared.result.Result.{Result};
 ghost use Rattle.std.specs.FinMap.{values};
-ghost use Rattle.std.specs.Hash as fed;
 ghost use Rattle.std.specs.List.{AllZip};
 ghost use Rattle.std.specs.List.Sorted.{IsStrictlySortedBy};
 ghost use Rattle.xet_base.specs.declared.merklehash.DataHash.{DataHash};
 ghost use Rattle.xet_base.specs.declared.error.CoreError.{CoreError};
 ghost use Rattle.xet_base.specs.Errors.{variant_number};
 ghost use Rattle.xet_base.specs.Blake3.{keyed_hash};
-ghost use Rattle.xet_base.specs.Hash.{IsHash, hash_bytes, hash_cmp, words_of};
+ghost use Rattle.xet_base.specs.Hash.{IsHash, hash_bytes};
 ghost use Rattle.xet_base.specs.Hex.{hash_hex, IsHexText, Spells};
 ghost use Rattle.xet_base.specs.KeyedHash.{hmac, no_key};
 ghost use Rattle.xet_base.specs.Source.{Source};
 ghost use Rattle.xet_core_structures.specs.declared.set_operations.MergePlan.{MergePlan};
 ghost use Rattle.xet_core_structures.specs.TwoShards.ByteResults.{keyed_info, keyed_layout, HaveResult, UnitesBytes};
 ghost use Rattle.xet_core_structures.specs.Records.ByteUnion.{IsByteUnion, HasPartsOf};
-ghost use Rattle.xet_core_structures.specs.Records.Equality.{error_eq, derived_eq, derived_partial_cmp, derived_cmp, derived_input};
+ghost use Rattle.xet_core_structures.specs.Records.Equality.{error_eq};
 ghost use Rattle.xet_core_structures.specs.Trees.ExportTrees.{FitsOptions, IsExportOf, shard_with_aux_if};
 ghost use Rattle.xet_core_structures.specs.Records.ShardContents.{Holds, HoldsShard, IsReadInOneWay, IsTruncated, IsMalformed};
 ghost use Rattle.xet_core_structures.specs.Trees.MergeTrees.{leaves, HasUnion, InputIs, TreeWrites, TreeRefusal, HaveXorbs, IsMerge, IsMergeUnder, MergeRefused};
@@ -55,6 +52,7 @@ pub use exports::{
 };
 pub use minimal::{minimal_shards_are_written_again, subsets_keep_eligible_chunks};
 pub use sizes::results_are_bounded;
+pub use xet_base::merklehash::{hashes_are_equal_by_words, hashes_are_ordered_by_words};
 
 /// Each two shards have exactly one union.
 pub fn unions_exist()
@@ -172,23 +170,6 @@ pub fn hex_is_read()
     ensures named { (hash : DataHash) → IsHexText (hash_hex hash) × Spells (hash_hex hash) hash }
     ensures alone { (text : List ℕ) (a b : DataHash) → IsHash a → IsHash b
         → Spells text a → Spells text b → a ≡ b }
-{}
-
-/// `cmp` and `partial_cmp` order hashes by word 0, then 1, 2 and 3. The order is total, and only
-/// equal hashes compare as equal.
-pub fn hashes_are_ordered_by_words()
-    ensures words { (a b : DataHash) → derived_cmp a b ≡ hash_cmp a b }
-    ensures partial { (a b : DataHash) → derived_partial_cmp a b ≡ Some (hash_cmp a b) }
-    ensures total { IsTotalOrder derived_cmp }
-    ensures ties { (a b : DataHash) → (derived_cmp a b ≡ Equal) ↔ (a ≡ b) }
-{}
-
-/// Hashes are equal by `==` if and only if all their words are equal, and `hash` feeds these words
-/// to a hasher in order, so equal hashes have equal hash values.
-pub fn hashes_are_equal_by_words()
-    ensures equality { (a b : DataHash) → IsTrue (derived_eq a b) ↔ (a ≡ b) }
-    ensures words { (a b : DataHash) → (a ≡ b) ↔ (words_of a ≡ words_of b) }
-    ensures hashing { (a : DataHash) → derived_input a ≡ flat_map fed.u64 (words_of a) }
 {}
 
 /// Errors are equal by `==` if and only if their variants are equal, and this is an equivalence
