@@ -7,7 +7,7 @@ ghost use Rattle.xet_records.specs.FileRow.{segment_row, FitsSegment};
 ghost use Rattle.xet_records.specs.FileRecord.{rows_after};
 
 use crate::file_structs::{FileDataSequenceEntry, FileDataSequenceHeader, HashRow};
-use crate::row_copier::{CopyResult, copy_all_rows, copy_row};
+use crate::row_copier::{CopyResult, copy_row, copy_rows};
 use std::io::Write;
 use xet_base::input::ByteInput;
 
@@ -26,7 +26,7 @@ pub fn copy_file_rows<M, I: ByteInput<M>, W: Write>(
     ensures bound { IfOk result (λ size. size ≤ 4294967295 * header.num_entries) }
 {
     let size = copy_segments::<M, I, W>(input, writer, header.num_entries)?;
-    copy_all_rows::<HashRow, M, I, W>(input, writer, header.optional_rows())?;
+    copy_rows::<HashRow, M, I, W>(input, writer, header.optional_rows())?;
     Ok(size)
 }
 

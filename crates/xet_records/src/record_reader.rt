@@ -204,8 +204,9 @@ pub fn read_record<R: SectionRecord, M, I: ByteInput<M>>(
     Ok(Some(R::read_rows_after(alloc, input, header, before)?))
 }
 
-// How many rows were read of a section that may still have so many; 0 of a record by itself.
-pub(crate) fn rows_before(rows_left: u64) -> u64
+/// How many rows were read of a section that may still have `rows_left`; 0 for a record that is
+/// read by itself.
+pub fn rows_before(rows_left: u64) -> u64
     ensures { result ≡ MAX_ROWS - rows_left }
 {
     ROW_LIMIT.saturating_sub(rows_left)

@@ -92,20 +92,6 @@ pub fn write_copied_row<T: Row, W: Write>(row: &T, writer: &mut W) -> CopyResult
 pub fn copy_rows<T: Row, M, I: ByteInput<M>, W: Write>(
     input: &mut I,
     writer: &mut W,
-    count: u32,
-) -> CopyResult<()>
-    ensures { MatchResult result
-        (λ _. (rows : List T) × CopiesRows T.row_bytes T.Fits T.as_read
-        (I.reads input.old input.new) (W.contents writer.old) (W.contents writer.new) count rows)
-        (CopyFails I.reads I.fails input.old input.new (48 * count)) }
-{
-    copy_all_rows::<T, M, I, W>(input, writer, u64::from(count))
-}
-
-// The same of a number of rows that may not fit `u32`.
-pub(crate) fn copy_all_rows<T: Row, M, I: ByteInput<M>, W: Write>(
-    input: &mut I,
-    writer: &mut W,
     count: u64,
 ) -> CopyResult<()>
     ensures { MatchResult result

@@ -32,9 +32,9 @@ pub const EMPTY_SIZE: u64 = 344;
 /// The most rows that a section may have.
 pub const ROW_LIMIT: u64 = u32::MAX as u64;
 
-// The rows that memory is taken for before any is read. What the bytes announce takes no more:
-// lists grow by what was read.
-pub(crate) const ROWS_AT_FIRST: u64 = 16;
+/// The most rows that memory is taken for before any is read, whatever a header announces. Lists
+/// grow by what was read.
+pub const ROWS_AT_FIRST: u64 = 16;
 
 /// A list of rows, which contracts see as a list. Converting from and into a `Vec` does not
 /// allocate.
@@ -83,11 +83,9 @@ impl<T> Rows<T> {
         }
     }
 
-    // The empty list, with memory for so many rows. An allocation fails only if there are any.
-    pub(crate) fn with_capacity(
-        alloc: Global,
-        rows: usize,
-    ) -> std::result::Result<Rows<T>, AllocError>
+    /// The empty list, with memory for so many rows. `AllocError` if there are any, and it fails to
+    /// allocate.
+    pub fn with_capacity(alloc: Global, rows: usize) -> std::result::Result<Rows<T>, AllocError>
         ensures empty { IfOk result (λ made. made ≡ []) }
         ensures some { IfErr result (λ _. 0 < rows) }
     {

@@ -200,8 +200,8 @@ impl FileDataSequenceHeader {
         }
     }
 
-    // The number of rows of all optional parts.
-    pub(crate) fn optional_rows(&self) -> u64
+    /// The number of rows of all optional parts.
+    pub fn optional_rows(&self) -> u64
         ensures rows { result ≡ optional_rows_after self.now }
         ensures bound { result ≤ self.now.num_entries + 2 }
     {

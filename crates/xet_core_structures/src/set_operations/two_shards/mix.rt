@@ -108,10 +108,10 @@ fn copy_either<R: Row, S: ShardSource, T: ShardSource, W: Write>(
         result }
 {
     if count_1 == 0 {
-        copy_rows::<R, OfSource, T, W>(r2, out, count_2)?;
+        copy_rows::<R, OfSource, T, W>(r2, out, u64::from(count_2))?;
         return Ok(());
     }
-    copy_rows::<R, OfSource, S, W>(r1, out, count_1)?;
+    copy_rows::<R, OfSource, S, W>(r1, out, u64::from(count_1))?;
     skip_rows::<R, OfSource, T>(r2, count_2)?;
     Ok(())
 }

@@ -1,6 +1,6 @@
 use Rattle.std.proofs.Common.{List}
 use Rattle.xet_records.specs.Copying.{CopiesRows}
-use Rattle.xet_records.proofs.row_copier.copy_all_rows.Given as goal
+use Rattle.xet_records.proofs.row_copier.copy_rows.Given as goal
 
 abbrev pub invariant-loop-row : goal.invariant-loop-row
 invariant-loop-row g l =

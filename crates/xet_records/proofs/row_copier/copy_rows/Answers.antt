@@ -1,7 +1,7 @@
 use Rattle.std.proofs.Common.{[], ◌∷◌, ◌+◌, ◌*◌, ◌≤◌, ◌++◌, length, flat_map, arith}
 use Rattle.std.proofs.lemmas.Result.{err_from_is_err_and}
 use Rattle.xet_records.proofs.Copying.{none_copied, more_copied, copy_fails_later}
-use Rattle.xet_records.proofs.row_copier.copy_all_rows.Goals as goal
+use Rattle.xet_records.proofs.row_copier.copy_rows.Goals as goal
 
 pub loop-row-init : goal.loop-row-init
 loop-row-init g c = ([], none_copied _ _ _ _ _ (g.met.I.ByteInput.reads_nothing _))
