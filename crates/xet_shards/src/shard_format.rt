@@ -8,7 +8,7 @@ pub(crate) mod write;
 
 pub use ends::footer::MDBShardFileFooter;
 pub use ends::header::MDBShardFileHeader;
-pub use ends::info::MDBShardInfo;
+pub use ends::info::{MDBShardInfo, read_header};
 pub use xet_records::rows::{CHUNK_ROW_SIZE, START_ROW_SIZE};
 
 /// The size of a shard's header, in bytes.

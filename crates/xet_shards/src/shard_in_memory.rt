@@ -32,7 +32,7 @@ mod chunk_query;
 mod file_store;
 mod sums;
 mod union_rows;
-pub(crate) mod xorb_store;
+mod xorb_store;
 
 use chunk_query::chunk_hash_dedup_query;
 use file_store::FileStore;
@@ -50,6 +50,7 @@ use xet_records::file_structs::{FileDataSequenceEntry, MDBFileInfo};
 use xet_records::rows::{CHUNK_ROW_SIZE, EMPTY_SIZE, ROW_LIMIT, ROW_SIZE, START_ROW_SIZE};
 use xet_records::xorb_structs::MDBXorbInfo;
 use xorb_store::XorbStore;
+pub use xorb_store::is_well_formed as is_well_formed_xorb;
 
 /// A shard in memory: file records and xorb records, each under its hash, and a lookup from the
 /// chunk hashes of these xorbs to a location of such a chunk.
@@ -179,7 +180,7 @@ impl MDBInMemoryShard {
     }
 
     /// Whether a file has an auxiliary row, which version 2 does not have.
-    pub(crate) fn has_aux_rows(&self) -> bool
+    pub fn has_aux_rows(&self) -> bool
         ensures { result ≡ has_aux_rows self.now.content }
     {
         have_aux_rows(self.file_content())

@@ -15,8 +15,7 @@ ghost use Rattle.xet_shards.specs.StreamingShard.MinimalReading.{ReadsViews, Sto
 
 use super::file_start::{FileStart, is_start, read_starts, starts_of};
 use super::minimal_shard::MDBMinimalShard;
-use crate::shard_format::ends::info::read_header;
-use crate::shard_format::{MDBShardFileHeader, MDBShardInfo};
+use crate::shard_format::{MDBShardFileHeader, MDBShardInfo, read_header};
 use bytes::BytesMut;
 use std::alloc::Global;
 use std::collections::BTreeSet;

@@ -56,7 +56,7 @@ impl MDBShardFileHeader {
     }
 
     /// The version in which the shard's sections are read.
-    pub(crate) fn format_version(&self) -> FormatVersion
+    pub fn format_version(&self) -> FormatVersion
         ensures { result ≡ version_of self.now.version }
     {
         FormatVersion::of_header(self.version)

@@ -278,11 +278,12 @@ fn read_ends<S: ShardSource>(alloc: Global, source: &mut S) -> Result<MDBShardIn
 }
 
 /// Reads a header from the source's position on.
+///
+/// `ShardVersion` if the first 32 bytes are not the tag of a shard, or the version is neither 2 nor
+/// 3. `UnexpectedEof` if the source ends before the tag or the header does. Else the error is the
+/// source's, or `OutOfMemory` if an allocation fails.
 #[tactic(auto, unfolding(crate::specs::Write::Layout::shard_header_bytes))]
-pub(crate) fn read_header<S: ShardSource>(
-    alloc: Global,
-    source: &mut S,
-) -> Result<MDBShardFileHeader>
+pub fn read_header<S: ShardSource>(alloc: Global, source: &mut S) -> Result<MDBShardFileHeader>
     ensures read { IfOk result
         (λ h. ReadsBytes (S.meaning source.old) (S.meaning source.new) (shard_header_bytes h)) }
     ensures known { IfOk result

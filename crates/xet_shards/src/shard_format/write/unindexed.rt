@@ -14,8 +14,7 @@ ghost use Rattle.xet_shards.specs.Write.WrittenShard.{HasFilesIn};
 
 use crate::shard_format::ends::info::write_maps;
 use crate::shard_format::ends::options::LayoutOptions;
-use crate::shard_in_memory::MDBInMemoryShard;
-use crate::shard_in_memory::xorb_store::is_well_formed;
+use crate::shard_in_memory::{MDBInMemoryShard, is_well_formed_xorb};
 use std::alloc::Global;
 use std::collections::BTreeMap;
 use std::marker::Model;
@@ -86,7 +85,7 @@ impl UnindexedShard {
         ensures err { OnErr result (self.new ≡ self.old) }
         ensures admitted { Admits (CanAddXorb self.old xorb_block) result }
     {
-        if !is_well_formed(&xorb_block) {
+        if !is_well_formed_xorb(&xorb_block) {
             return Err(CoreError::InvalidArguments);
         }
         let rows = within_limit(self.rows_with_xorb(&xorb_block))?;
