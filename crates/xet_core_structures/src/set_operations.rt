@@ -1,16 +1,18 @@
 //! Union and difference of shards as bytes, and trees of unions.
 
-ghost use Rattle.std.specs.Prelude.{◌≡◌, ◌≢◌, ◌⊎◌, ◌<◌, ◌≤◌, Some, length, map, slice_get, IsErrAnd, MatchResult, List};
+ghost use Rattle.std.specs.Prelude.{◌≡◌, ◌≢◌, ◌⊎◌, ◌<◌, ◌≤◌, Some, length, map, slice_get, IfOk, IsErrAnd, MatchResult, List};
+ghost use Rattle.std.specs.Cow.{cow_slice_items, IsOwnedSlice};
 ghost use Rattle.xet_shards.specs.Content.Shard.{Shard};
 ghost use Rattle.xet_shards.specs.Write.WrittenShard.{IsBytesWithoutExpiry};
 ghost use Rattle.xet_core_structures.specs.TwoShards.ByteResults.{key_of, UnitesBytes, BytesRefusal};
 ghost use Rattle.xet_core_structures.specs.TwoShards.SetOutcomes.{Unites, Subtracts};
 ghost use Rattle.xet_core_structures.specs.TwoShards.Streams.{streams};
-ghost use Rattle.xet_core_structures.specs.Trees.MergeTrees.{LeafWrites, LeafRefusal, TreeWrites, TreeRefusal, IsMerge, MergeRefused};
+ghost use Rattle.xet_core_structures.specs.Trees.MergeTrees.{HasUnion, LeafWrites, LeafRefusal, TreeWrites, TreeRefusal, IsMerge, MergeRefused};
 
 mod two_shards;
 
 use std::alloc::Global;
+use std::borrow::CowSlice;
 use std::io::Write;
 pub use two_shards::mix::mix_rows;
 use two_shards::record_operation::{OfDifference, OfUnion};
@@ -118,26 +120,42 @@ fn merge(alloc: Global, plan: &MergePlan, inputs: &[&[u8]]) -> Result<Vec<u8>>
         (λ bytes. TreeWrites (map (λ x. x.now) inputs.now) plan.now bytes.items)
         (TreeRefusal (map (λ x. x.now) inputs.now) plan.now) }
 {
+    match merge_or_lend(alloc, plan, inputs)? {
+        CowSlice::Borrowed(input) => Ok(Vec::from_slice(alloc, input)?),
+        CowSlice::Owned(bytes) => Ok(bytes),
+    }
+}
+
+// What a tree gives, of which a leaf is lent: a union reads its inputs where they lie.
+fn merge_or_lend<'a>(
+    alloc: Global,
+    plan: &MergePlan,
+    inputs: &[&'a [u8]],
+) -> Result<CowSlice<'a, u8>>
+    ensures bytes { MatchResult result
+        (λ bytes. TreeWrites (map (λ x. x.now) inputs.now) plan.now (cow_slice_items bytes))
+        (TreeRefusal (map (λ x. x.now) inputs.now) plan.now) }
+    ensures lent { HasUnion plan.now → IfOk result IsOwnedSlice }
+{
     match plan {
-        MergePlan::Leaf(index) => copy_input(alloc, inputs, *index),
+        MergePlan::Leaf(index) => Ok(CowSlice::Borrowed(input_at(inputs, *index)?)),
         MergePlan::Both(left, right) => {
-            let left = merge(alloc, left, inputs)?;
-            let right = merge(alloc, right, inputs)?;
-            unite_bytes(alloc, &left, &right)
+            let left = merge_or_lend(alloc, left, inputs)?;
+            let right = merge_or_lend(alloc, right, inputs)?;
+            Ok(CowSlice::Owned(unite_bytes(alloc, &left, &right)?))
         }
     }
 }
 
-// A copy of the input at an index.
-fn copy_input(alloc: Global, inputs: &[&[u8]], index: usize) -> Result<Vec<u8>>
+fn input_at<'a>(inputs: &[&'a [u8]], index: usize) -> Result<&'a [u8]>
     ensures { MatchResult result
-        (λ bytes. LeafWrites (map (λ x. x.now) inputs.now) index bytes.items)
+        (λ input. LeafWrites (map (λ x. x.now) inputs.now) index input.now)
         (LeafRefusal (map (λ x. x.now) inputs.now) index) }
 {
     if index >= inputs.len() {
         return Err(CoreError::InvalidArguments);
     }
-    Ok(Vec::from_slice(alloc, inputs[index])?)
+    Ok(inputs[index])
 }
 
 // The bytes of the union of two shards. Writing to a vector fails only if it is out of memory.

@@ -1,8 +1,5 @@
--- Sources in memory, which do not fail, the union of two byte strings, and a tree whose two sides are written.
-use Rattle.std.proofs.Common.{◌≡◌, ◌⊎◌, inl, inr, ℕ, List, [], ◌++◌, Some, Ok, Err, ap, ◌∙◌, subst, arith}
-use Rattle.std.specs.Prelude.{MatchResult}
-use Rattle.std.specs.declared.result.Result.{Result}
-use Rattle.std.specs.declared.vec.Vec.{Vec}
+-- Sources in memory, which do not fail, and the union of two byte strings.
+use Rattle.std.proofs.Common.{◌≡◌, inl, inr, ℕ, List, [], ◌++◌, Some, ap, ◌∙◌, subst, arith}
 use Rattle.xet_base.specs.declared.error.CoreError.{CoreError}
 use Rattle.xet_base.specs.declared.error.CoreError.TheVariants.{ShardVersion}
 use Rattle.xet_base.specs.declared.source.MemorySource.{MemorySource}
@@ -12,9 +9,7 @@ use Rattle.xet_base.specs.Source.{FailedBy}
 use Rattle.xet_shards.specs.declared.shard_format.ends.info.MDBShardInfo.{MDBShardInfo}
 use Rattle.xet_shards.specs.Ends.Ends.{HasHeaderAndFooter, LoadFails, FormatCase, IsUnsupported, IsTooShort}
 use Rattle.xet_shards.specs.Ends.Ends.FormatCase.{unsupported_format, too_few_bytes}
-use Rattle.xet_core_structures.specs.declared.set_operations.MergePlan.{MergePlan}
 use Rattle.xet_core_structures.specs.Records.ByteUnion.{IsByteUnion}
-use Rattle.xet_core_structures.specs.Trees.MergeTrees.{TreeWrites, TreeRefusal}
 use Rattle.xet_core_structures.specs.TwoShards.ByteResults.{keyed_layout, key_of, HaveResult, WritesResult, InputsFail, UnionRefusal, UnitesBytes, BytesRefusal, LoadRefusal}
 
 bare_version : (e : CoreError) → IsBareShardVersion e → IsShardVersion e
@@ -48,15 +43,3 @@ module _ (x y x_read y_read : List ℕ) (i j : MDBShardInfo) (x_is : x_read ≡ 
   bytes_refused old_1 new_1 old_2 new_2 e (inl failed) = absurd (omega (arith, failed.0))
   bytes_refused old_1 new_1 old_2 new_2 e (inr (inl failed)) = absurd (omega (arith, failed.0))
   bytes_refused old_1 new_1 old_2 new_2 e (inr (inr (none, none_too, refusal))) = inr (inr (i, j, i_ends, j_ends, subst (λ p. p) (λ k. UnionRefusal (x_is k) i (y_is k) j e) refusal))
-
--- both sides of a tree are written, and their union is, or it is refused
-pub both_sides : {Z : Type 0} (inputs : List (List ℕ)) (left right : MergePlan) (x y x_read y_read : List ℕ) (r : Result (Vec ℕ Z) CoreError)
-    → TreeWrites inputs left x → TreeWrites inputs right y → x_read ≡ x → y_read ≡ y
-    → MatchResult r (λ bytes. UnitesBytes x_read y_read bytes.items) (BytesRefusal x_read y_read)
-    → MatchResult r (λ bytes. (x y : List ℕ) × TreeWrites inputs left x × TreeWrites inputs right y × UnitesBytes x y bytes.items)
-    (λ e. TreeRefusal inputs left e
-    ⊎ ((x : List ℕ) × TreeWrites inputs left x × (TreeRefusal inputs right e ⊎ ((y : List ℕ) × TreeWrites inputs right y × BytesRefusal x y e))))
-both_sides inputs left right x y x_read y_read (Ok bytes) x_written y_written x_is y_is unites =
-    (x, y, x_written, y_written, subst (λ p. p) (λ k. UnitesBytes (x_is k) (y_is k) bytes.items) unites)
-both_sides inputs left right x y x_read y_read (Err e) x_written y_written x_is y_is refusal =
-    inr (x, x_written, inr (y, y_written, subst (λ p. p) (λ k. BytesRefusal (x_is k) (y_is k) e) refusal))
