@@ -26,8 +26,8 @@ use Rattle.shard_merging.proofs.InARow.InARow.{ArePartsOf, parts_of, parts_in_a_
 use Rattle.xet_shards.proofs.Export.KeyedExport.{footer_last}
 use Rattle.shard_bytes.specs.InARow.{IsLayoutIn, FailsIn, IsConcatenationIn, Concatenates}
 use Rattle.shard_bytes.specs.Outcomes.{InMemory}
-use Rattle.shard_bytes.specs.Steps.Versions.{IsNumberedIn}
-use Rattle.shard_bytes.specs.Versions.{have_aux_rows, has_new_files}
+use Rattle.shard_bytes.specs.Steps.Versions.{IsNumberedIn, has_new_files}
+use Rattle.shard_bytes.specs.Versions.{have_aux_rows}
 
 -- a failed allocation stays one
 pub lacks_still : (e r : CoreError) → ((r ≡ OutOfMemory) × IsWriteError e) ⊎ ((r ≡ e) × (¬ IsWriteError e)) → e ≡ OutOfMemory → r ≡ OutOfMemory

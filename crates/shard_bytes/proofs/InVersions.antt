@@ -24,8 +24,8 @@ use Rattle.xet_shards.specs.declared.shard_writer.LayoutOptions.{LayoutOptions}
 use Rattle.xet_shards.proofs.Export.KeyedExport.{footer_last}
 use Rattle.xet_shards.proofs.Read.Readback.{file_section_in}
 use Rattle.std.specs.FinMap.{values}
-use Rattle.shard_bytes.specs.Steps.Versions.{IsLayoutWith, IsNumberedIn}
-use Rattle.shard_bytes.specs.Versions.{has_new_files, AreBytesIn3, LaidOutIn, NotLaidOutIn}
+use Rattle.shard_bytes.specs.Steps.Versions.{IsLayoutWith, IsNumberedIn, has_new_files}
+use Rattle.shard_bytes.specs.Versions.{AreBytesIn3, LaidOutIn, NotLaidOutIn}
 use Rattle.shard_bytes.specs.Merging.{IsMergePlan, MergesBytes, RefusesMerge, MergesRange, RefusesRange}
 use Rattle.shard_bytes.proofs.AuxRows.{section_ever}
 use Rattle.shard_bytes.proofs.Merging.{plan_covers}

@@ -12,8 +12,6 @@ use Rattle.xet_core_structures.specs.MinimalShard.{MinimalShard, mark_starts, is
 use Rattle.xet_core_structures.specs.Shard.{xorb_hash_of}
 use Rattle.xet_core_structures.specs.View.{as_kept, LacksVerification, IsIoOther}
 use Rattle.shard_bytes.specs.Outcomes.{InMemory}
-use Rattle.shard_bytes.specs.declared.minimal.Filter.{Filter}
-use Rattle.shard_bytes.specs.declared.minimal.Filter.TheVariants.{All as all_hashes, Listed as listed}
 use Rattle.shard_bytes.specs.declared.minimal.KeptXorbs.{KeptXorbs}
 use Rattle.shard_bytes.specs.declared.minimal.KeptXorbs.TheVariants.{All as all_xorbs, Listed}
 use Rattle.shard_bytes.specs.declared.minimal.Subset.{Subset}
@@ -42,11 +40,6 @@ MinimalBytes kept now bytes out =
 abbrev pub Keeps : KeptXorbs → DataHash → Type 0
 Keeps all_xorbs hash = ⊤
 Keeps (Listed hashes) hash = Contains hashes.items hash
-
--- whether a filter accepts a hash
-abbrev pub Accepts : Filter → DataHash → Type 0
-Accepts all_hashes hash = ⊤
-Accepts (listed hashes) hash = Contains hashes.items.items hash
 
 -- one of the xorbs has the hash
 abbrev pub HasXorb : MinimalShard → DataHash → Type 0

@@ -23,11 +23,6 @@ use Rattle.shard_bytes.specs.Outcomes.{InMemory}
 abbrev pub have_aux_rows : List MDBFileInfo → Bool
 have_aux_rows files = list_any (λ r. has_aux_ext r.metadata.file_flags) files
 
--- whether a version does not have one of the files
-abbrev pub has_new_files : FormatVersion → List MDBFileInfo → Bool
-has_new_files V2 files = have_aux_rows files
-has_new_files V3 files = false
-
 -- the layout options that header and footer name, in version 2
 abbrev pub options_in_2 : MDBShardInfo → LayoutOptions
 options_in_2 info = record (options_of info) { version = V2 }

@@ -5,7 +5,8 @@ ghost use Rattle.xet_core_structures.specs.declared.merklehash.DataHash.{DataHas
 ghost use Rattle.xet_core_structures.specs.FileRecord.{file_records};
 ghost use Rattle.shard_merging.specs.InARow.{ShardPart, bytes_of_part, IsPartUnder, files_in};
 ghost use Rattle.xet_core_structures.specs.SectionReading.{IsSection};
-ghost use Rattle.shard_bytes.specs.Versions.{have_aux_rows, has_new_files};
+ghost use Rattle.shard_bytes.specs.Versions.{have_aux_rows};
+ghost use Rattle.shard_bytes.specs.Steps.Versions.{has_new_files};
 
 use xet_core_structures::file_structs::{FileDataSequenceHeader, MDBFileInfo};
 use xet_core_structures::record_bytes::row;

@@ -2,8 +2,8 @@
 
 ghost use Rattle.std.specs.Prelude.{◌≡◌, ◌⊎◌, ◌↔◌, length, IfOk, IsTrue, MatchResult, map};
 ghost use Rattle.xet_core_structures.specs.Shard.{xorb_hash_of};
-ghost use Rattle.shard_bytes.specs.Minimal.{RefusesMinimal, MinimalBytes, RefusesMinimalBytes, Accepts, AreLacked, LackXorbs, SubsetBytes, EligibleIn};
-ghost use Rattle.shard_bytes.specs.Steps.Minimal.{FiltersAs};
+ghost use Rattle.shard_bytes.specs.Minimal.{RefusesMinimal, MinimalBytes, RefusesMinimalBytes, AreLacked, LackXorbs, SubsetBytes, EligibleIn};
+ghost use Rattle.shard_bytes.specs.Steps.Minimal.{FiltersAs, Accepts};
 ghost use Rattle.shard_bytes.specs.Outcomes.{InMemory};
 ghost use Rattle.shard_bytes.specs.Sizes.{IsMinimalSize};
 ghost use Rattle.shard_bytes.specs.Versions.{LaidOutIn, NotLaidOutIn};

@@ -10,8 +10,7 @@ ghost use Rattle.shard_merging.specs.Trees.Filling.{Fills};
 ghost use Rattle.xet_core_structures.specs.WithOptions.{FitsSection};
 ghost use Rattle.xet_records.specs.declared.record_reader.FormatVersion.TheVariants.{V3};
 ghost use Rattle.xet_shards.specs.declared.shard_writer.LayoutOptions.{LayoutOptions};
-ghost use Rattle.shard_bytes.specs.Steps.Versions.{IsLayoutWith, IsNumberedIn};
-ghost use Rattle.shard_bytes.specs.Versions.{has_new_files};
+ghost use Rattle.shard_bytes.specs.Steps.Versions.{IsLayoutWith, IsNumberedIn, has_new_files};
 
 use crate::aux_rows::has_aux_rows;
 use shard_merging::put_number;

@@ -10,7 +10,8 @@ use Rattle.shard_bytes.specs.Agreeing.{FillsAgreeing, FillsJoin, RefusesAgreeing
 use Rattle.shard_bytes.specs.Sizes.{IsResultSize, HasFillSize}
 use Rattle.shard_bytes.proofs.Agreeing.{join_made}
 use Rattle.xet_c.specs.declared.agree.XetDisagreement.{XetDisagreement}
-use Rattle.xet_c.specs.Agreeing.{ShowsFirst, ShowsFill, MergesIfAgreeing}
+use Rattle.xet_c.specs.Agreeing.{ShowsFirst, MergesIfAgreeing}
+use Rattle.xet_c.specs.Steps.Agreeing.{ShowsFill}
 use Rattle.xet_c.proofs.Outcomes.{delivers}
 
 some_shown : (all : List Disagreement) (old new : XetDisagreement) (count : ℕ) → 0 < length all → ShowsFirst all old new count → 0 < count

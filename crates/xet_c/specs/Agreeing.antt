@@ -1,5 +1,5 @@
 -- How disagreements of shards, and a merge of those that agree, are shown.
-use Rattle.std.specs.Prelude.{◌≡◌, ◌⊎◌, ℕ, ◌<◌, Bool, true, false, List, [], ◌∷◌, length, map, Option, None, Some, Ok, Err}
+use Rattle.std.specs.Prelude.{◌≡◌, ◌⊎◌, ℕ, ◌<◌, Bool, true, false, List, [], ◌∷◌, length, map, Option, None, Some}
 use Rattle.shard_merging.specs.declared.merging.agreement.Disagreement.{Disagreement}
 use Rattle.shard_merging.specs.declared.merging.agreement.MalformedRecord.{MalformedRecord}
 use Rattle.shard_merging.specs.declared.merging.agreement.RecordHash.{RecordHash}
@@ -8,16 +8,13 @@ use Rattle.xet_core_structures.specs.declared.error.CoreError.{CoreError}
 use Rattle.xet_core_structures.specs.declared.error.CoreError.TheVariants.{InvalidArguments}
 use Rattle.xet_core_structures.specs.declared.record_reader.FormatVersion.{FormatVersion}
 use Rattle.shard_merging.specs.Agreement.Agreement.{HoldShards, IsFirstMalformed, InputsAgree, HasAllDisagreements}
-use Rattle.xet_core_structures.specs.Errors.{CoreResult, variant_number}
 use Rattle.xet_core_structures.specs.Hash.{words_of}
-use Rattle.shard_merging.specs.declared.merging.agreement.AgreeingFill.{AgreeingFill}
-use Rattle.shard_merging.specs.declared.merging.agreement.AgreeingFill.TheVariants.{Bytes, Disagreements, Malformed}
 use Rattle.shard_merging.specs.Trees.InVersions.{MadeIn}
 use Rattle.xet_core_structures.specs.Version.{IsVersion, number_of}
 use Rattle.shard_bytes.specs.Agreeing.{IsMergeOfAgreeing, HoldNoneAgreeing, RefusesAgreeing}
 use Rattle.shard_bytes.specs.Merging.{MergesBytes}
 use Rattle.xet_c.specs.declared.agree.XetDisagreement.{XetDisagreement}
-use Rattle.xet_c.specs.Output.{Answers, Delivers, Refuses}
+use Rattle.xet_c.specs.Output.{Delivers, Refuses}
 
 -- a hash, whether it is that of a xorb, and the numbers of two shards
 abbrev pub c_record : RecordHash → ℕ → ℕ → XetDisagreement
@@ -81,15 +78,3 @@ MergesIfAgreeingIn number inputs before after written old new count result =
     × MergesIfAgreeing version inputs before after written old new count result)
     ⊎ ((¬ IsVersion number) × Refuses InvalidArguments before after written result × (count ≡ 0)
     × (new ≡ old))
-
--- how a merge to an output of so many bytes is shown
-abbrev pub ShowsFill : CoreResult AgreeingFill → ℕ → ℕ → (old new : XetDisagreement) → ℕ → ℕ
-    → Type 0
-ShowsFill (Ok (Bytes size)) room written old new count result =
-    Answers room written result size × (count ≡ 0) × (new ≡ old)
-ShowsFill (Ok (Disagreements all)) room written old new count result =
-    (written ≡ 0) × ShowsFirst all.items old new count × (result ≡ 20)
-ShowsFill (Ok (Malformed m)) room written old new count result =
-    (written ≡ 0) × (count ≡ 0) × (new ≡ c_malformed m) × (result ≡ 21)
-ShowsFill (Err e) room written old new count result =
-    (written ≡ 0) × (count ≡ 0) × (new ≡ old) × (result ≡ variant_number e)

@@ -6,6 +6,7 @@ pub mod InARow
 pub mod Output
 pub mod Parts
 pub mod Recording
+pub mod Steps
 pub mod Text
 pub mod Versions
 pub mod Walking

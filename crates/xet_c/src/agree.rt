@@ -8,7 +8,8 @@ ghost use Rattle.shard_merging.specs.declared.merging.agreement.MalformedRecord.
 ghost use Rattle.shard_merging.specs.Agreement.Agreement.{HasAllDisagreements, HoldShards, IsFirstMalformed, InputsRefusal, WellFormedRefusal};
 ghost use Rattle.xet_core_structures.specs.Errors.{variant_number};
 ghost use Rattle.shard_bytes.specs.Sizes.{IsResultSize};
-ghost use Rattle.xet_c.specs.Agreeing.{c_record, c_disagreement, c_malformed, AreAllDisagreements, ShowsFirst, ShowsMalformed, MergesIfAgreeing, MergesIfAgreeingIn, ShowsFill};
+ghost use Rattle.xet_c.specs.Agreeing.{c_record, c_disagreement, c_malformed, AreAllDisagreements, ShowsFirst, ShowsMalformed, MergesIfAgreeing, MergesIfAgreeingIn};
+ghost use Rattle.xet_c.specs.Steps.Agreeing.{ShowsFill};
 ghost use Rattle.xet_c.specs.Output.{Outcome};
 
 use crate::output::{XET_DISAGREE, XET_MALFORMED, answer, deliver, error_number};

@@ -1,5 +1,5 @@
 -- Steps towards what `Versions` defines, which only contracts inside the crate speak of.
-use Rattle.std.specs.Prelude.{◌≡◌, ℕ, ◌≤◌, false, List, length}
+use Rattle.std.specs.Prelude.{◌≡◌, ℕ, ◌≤◌, Bool, false, List, length}
 use Rattle.xet_core_structures.specs.declared.file_structs.MDBFileInfo.{MDBFileInfo}
 use Rattle.xet_core_structures.specs.declared.xorb_structs.MDBXorbInfo.{MDBXorbInfo}
 use Rattle.xet_core_structures.specs.Layout.{layout_of}
@@ -7,7 +7,12 @@ use Rattle.shard_merging.specs.Steps.InVersions.{with_number_2}
 use Rattle.xet_records.specs.declared.record_reader.FormatVersion.{FormatVersion}
 use Rattle.xet_records.specs.declared.record_reader.FormatVersion.TheVariants.{V2, V3}
 use Rattle.xet_shards.specs.declared.shard_writer.LayoutOptions.{LayoutOptions}
-use Rattle.shard_bytes.specs.Versions.{has_new_files}
+use Rattle.shard_bytes.specs.Versions.{have_aux_rows}
+
+-- whether a version does not have one of the files
+abbrev pub has_new_files : FormatVersion → List MDBFileInfo → Bool
+has_new_files V2 files = have_aux_rows files
+has_new_files V3 files = false
 
 -- bytes in version 3, if they have a header, with the number of a version in it
 abbrev pub IsNumberedIn : FormatVersion → List ℕ → List ℕ → Type 0

@@ -30,7 +30,8 @@ use Rattle.xet_core_structures.specs.declared.set_operations.MergePlan.{MergePla
 use Rattle.xet_core_structures.specs.declared.set_operations.MergePlan.TheVariants.{Leaf, Both'}
 use Rattle.shard_merging.specs.declared.merging.ranges.HashRange.{HashRange}
 use Rattle.shard_merging.specs.declared.merging.rows.SectionRows.{SectionRows}
-use Rattle.shard_merging.specs.Records.Ranges.{IsRestriction, is_from, is_within, ranges_between, AreCuts, records_passing}
+use Rattle.shard_merging.specs.Records.Ranges.{IsRestriction, is_from, is_within, ranges_between, AreCuts}
+use Rattle.shard_merging.specs.Steps.Placed.{records_passing}
 use Rattle.xet_core_structures.specs.Records.RecordPairs.{key_of_record}
 use Rattle.xet_core_structures.specs.Records.ShardContents.{IsSectionOf, HasShard, files_at, xorbs_at}
 use Rattle.shard_merging.specs.Trees.RangeTrees.{IsRangeOf, RangeWrites}

@@ -13,7 +13,8 @@ use Rattle.xet_base.proofs.HashOrder.{hash_cmp-IsAntisymmetric}
 use Rattle.xet_records.specs.RecordKind.{RecordKind}
 use Rattle.xet_shards.specs.Write.WithOptions.{Ascends}
 use Rattle.shard_merging.specs.declared.merging.ranges.HashRange.{HashRange}
-use Rattle.shard_merging.specs.Records.Ranges.{is_from, is_before, is_within, ranges_between, AreCuts, records_passing}
+use Rattle.shard_merging.specs.Records.Ranges.{is_from, is_before, is_within, ranges_between, AreCuts}
+use Rattle.shard_merging.specs.Steps.Placed.{records_passing}
 use Rattle.xet_core_structures.specs.Records.RecordPairs.{key_of_record, ComeBefore, ComeFrom}
 use Rattle.shard_merging.proofs.Records.Ranges.{ascends_append}
 use Rattle.shard_merging.proofs.Records.RangesInARow.{is_less, hash_cmp-reverse, not_true, from_through}

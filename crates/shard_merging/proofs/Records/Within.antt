@@ -18,7 +18,8 @@ use Rattle.xet_shards.proofs.Content.Unions.{same_shard}
 use Rattle.xet_shards.proofs.ShardInMemory.FileUnions.{holds_in_map}
 use Rattle.xet_shards.proofs.ShardInMemory.Sums.{all_of_map, sub-sum}
 use Rattle.xet_core_structures.specs.Records.RecordPairs.{key_of_record, with_hash}
-use Rattle.shard_merging.specs.Records.Ranges.{IsRestriction, IsPartOf, records_passing}
+use Rattle.shard_merging.specs.Records.Ranges.{IsRestriction, IsPartOf}
+use Rattle.shard_merging.specs.Steps.Placed.{records_passing}
 use Rattle.xet_core_structures.specs.Steps.ByteResults.{Records}
 use Rattle.xet_core_structures.proofs.Records.ListMaps.{list_map, get-list_map, shard_of}
 use Rattle.shard_merging.proofs.Records.Parts.{cond-is_some, join_of_parts, parts_agree}

@@ -14,11 +14,11 @@ use Rattle.xet_shards.specs.Write.Section.{total_rows}
 use Rattle.xet_shards.proofs.Write.Sections.{files_laws}
 use Rattle.shard_merging.specs.declared.merging.trees.parts.PlacedShard.{PlacedShard}
 use Rattle.shard_merging.specs.declared.merging.ranges.HashRange.{HashRange}
-use Rattle.shard_merging.specs.Records.Ranges.{IsPartOf, is_within, records_passing}
+use Rattle.shard_merging.specs.Records.Ranges.{IsPartOf, is_within}
 use Rattle.xet_core_structures.specs.Records.ShardContents.{Holds}
 use Rattle.xet_core_structures.specs.Steps.ByteResults.{Records}
 use Rattle.shard_merging.specs.Steps.Parts.{PlacesShard, IsUnited}
-use Rattle.shard_merging.specs.Steps.Placed.{PlacesAll}
+use Rattle.shard_merging.specs.Steps.Placed.{PlacesAll, records_passing}
 use Rattle.shard_merging.specs.Trees.RangeTrees.{IsRangeOf}
 use Rattle.xet_core_structures.specs.TwoShards.ByteResults.{keyed_layout, keyed_info, key_of}
 use Rattle.xet_core_structures.specs.TwoShards.Readable.{IsBytesUnderKey}

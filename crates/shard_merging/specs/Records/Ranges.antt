@@ -1,14 +1,11 @@
 -- The records of a shard whose hashes pass a test, such as being in a range.
 use Rattle.std.specs.Prelude.{◌≡◌, ⊤, Bool, true, not, ◌&&◌, List, [], ◌∷◌, Option, None, Some, if◌then◌else◌}
 use Rattle.std.specs.FinMap.{FinMap, get}
-use Rattle.std.specs.List.{filter}
 use Rattle.std.specs.Ordering.{is_lt}
 use Rattle.xet_base.specs.declared.merklehash.DataHash.{DataHash}
 use Rattle.xet_base.specs.Hash.{hash_cmp}
-use Rattle.xet_records.specs.RecordKind.{RecordKind}
 use Rattle.xet_shards.specs.Content.Shard.{Shard}
 use Rattle.shard_merging.specs.declared.merging.ranges.HashRange.{HashRange}
-use Rattle.xet_core_structures.specs.Records.RecordPairs.{key_of_record}
 
 -- a map is the restriction of another to the hashes that pass a test
 abbrev pub IsRestriction : {X : Type 0} → (DataHash → Bool) → FinMap hash_cmp X → FinMap hash_cmp X → Type 0
@@ -32,10 +29,6 @@ is_before (Some k) q = is_lt (hash_cmp q k)
 -- whether a hash is within a range
 abbrev pub is_within : HashRange → DataHash → Bool
 is_within range q = is_from range.from q && is_before range.to q
-
--- the records of a list whose hashes pass a test
-abbrev pub records_passing : {H R : Type 0} → RecordKind H R → (DataHash → Bool) → List R → List R
-records_passing K passes rs = filter (λ r. passes (key_of_record K r)) rs
 
 -- whether a hash is not above another, if there is one
 abbrev pub is_up_to : Option DataHash → DataHash → Bool

@@ -1,6 +1,6 @@
 -- Records of sections in memory that stay where they are.
-use Rattle.std.specs.Prelude.{◌≡◌, ◌⊎◌, ⊤, ℕ, ◌<◌, List, [], ◌∷◌, drop, Contains, Option, Some}
-use Rattle.std.specs.List.{AllZip}
+use Rattle.std.specs.Prelude.{◌≡◌, ◌⊎◌, ⊤, ℕ, ◌<◌, Bool, List, [], ◌∷◌, drop, Contains, Option, Some}
+use Rattle.std.specs.List.{AllZip, filter}
 use Rattle.std.specs.declared.cmp.Ordering.TheVariants.{Less}
 use Rattle.xet_base.specs.declared.merklehash.DataHash.{DataHash}
 use Rattle.xet_base.specs.Hash.{hash_cmp}
@@ -21,6 +21,10 @@ use Rattle.xet_records.specs.Limits.{MAX_ROWS}
 abbrev pub CountsRows : ℕ → ℕ → Type 0
 CountsRows total counted =
     (counted ≡ total) ⊎ ((MAX_ROWS < total) × (MAX_ROWS < counted))
+
+-- the records of a list whose hashes pass a test
+abbrev pub records_passing : {H R : Type 0} → RecordKind H R → (DataHash → Bool) → List R → List R
+records_passing K passes rs = filter (λ r. passes (key_of_record K r)) rs
 
 module _ {H R : Type 0} (K : RecordKind H R) where
   -- a header, and bytes from the rows after it on, are those of a record, as reading returns it

@@ -1,6 +1,6 @@
 use Rattle.std.proofs.Common.{sym, ap, ◌∙◌}
 use Rattle.shard_merging.specs.InARow.{files_in}
-use Rattle.shard_bytes.specs.Versions.{has_new_files}
+use Rattle.shard_bytes.specs.Steps.Versions.{has_new_files}
 use Rattle.shard_bytes.proofs.aux_rows.have_new_files.Goals as goal
 
 pub returns-in-V2 : goal.returns-in-V2

@@ -2,7 +2,8 @@ use Rattle.std.proofs.Common.{◌↔◌, IsTrue, ℕ, List, [], ◌++◌, length
 use Rattle.xet_core_structures.specs.Layout.{layout_of}
 use Rattle.xet_core_structures.specs.MinimalShard.{mark_starts, is_start, minimal_options}
 use Rattle.xet_core_structures.specs.Shard.{xorb_hash_of}
-use Rattle.shard_bytes.specs.Minimal.{Accepts, Keeps}
+use Rattle.shard_bytes.specs.Minimal.{Keeps}
+use Rattle.shard_bytes.specs.Steps.Minimal.{Accepts}
 use Rattle.shard_bytes.proofs.Keeping.{IsKept-wider, both_so}
 use Rattle.shard_bytes.specs.Sizes.{IsMinimalSize}
 use Rattle.shard_bytes.proofs.MemoryErrors.{not_copied}

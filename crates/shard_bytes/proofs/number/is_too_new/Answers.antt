@@ -1,5 +1,5 @@
 use Rattle.std.proofs.Common.{sym, ap, ◌∙◌}
-use Rattle.shard_bytes.specs.Versions.{has_new_files}
+use Rattle.shard_bytes.specs.Steps.Versions.{has_new_files}
 use Rattle.shard_bytes.proofs.number.is_too_new.Goals as goal
 
 pub returns-in-V2 : goal.returns-in-V2

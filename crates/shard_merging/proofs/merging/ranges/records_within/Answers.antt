@@ -1,8 +1,8 @@
 use Rattle.std.proofs.Common.{◌≤◌, length, rules, sym, ap, ◌∙◌, subst}
 use Rattle.std.specs.List.{filter}
 use Rattle.std.proofs.lemmas.List.{take_all}
-use Rattle.shard_merging.specs.Records.Ranges.{is_within, records_passing}
-use Rattle.shard_merging.specs.Steps.Placed.{Places, PlacesAll, hash_at}
+use Rattle.shard_merging.specs.Records.Ranges.{is_within}
+use Rattle.shard_merging.specs.Steps.Placed.{Places, PlacesAll, hash_at, records_passing}
 use Rattle.shard_merging.proofs.Records.Within.{zipped_those}
 use Rattle.shard_merging.proofs.Trees.PlacedUnions.{key_placed}
 use Rattle.shard_merging.proofs.merging.ranges.records_within.Goals as goal

@@ -1,0 +1,3 @@
+-- Words that only contracts inside the crate and proofs speak of.
+
+pub mod Agreeing
