@@ -7,6 +7,7 @@ use Rattle.xet_core_structures.specs.declared.file_structs.KeptParts.{KeptParts}
 use Rattle.xet_core_structures.specs.Ends.{HasHeaderAndFooter}
 use Rattle.xet_core_structures.specs.KeyedExport.{ExpiresTooLate}
 use Rattle.xet_core_structures.specs.KeyedHash.{no_key}
+use Rattle.xet_core_structures.specs.View.{IsIoOther}
 use Rattle.shard_bytes.specs.declared.export.Export.{Export}
 use Rattle.shard_bytes.specs.declared.check.Finding.{Finding}
 use Rattle.shard_bytes.specs.declared.check.Finding.TheVariants.{Malformed, Differs, Reordered, Size}
@@ -72,7 +73,8 @@ IsExportFault export bytes error fault = IsFaultOf bytes error fault
 -- the fault of a minimal shard that is refused: a file without verification rows, which are to be
 -- kept, or an auxiliary row that the version does not have, or that of any other error
 abbrev pub IsMinimalFault : KeptParts → List ℕ → CoreError → Fault → Type 0
-IsMinimalFault kept bytes error NoVerification =
-    (error ≢ InvalidArguments) × (kept.verification ≡ true)
+IsMinimalFault kept bytes error NoVerification = IsIoOther error × (kept.verification ≡ true)
 IsMinimalFault kept bytes error HasAuxRow = error ≡ InvalidArguments
-IsMinimalFault kept bytes error fault = (error ≢ InvalidArguments) × IsFaultOf bytes error fault
+IsMinimalFault kept bytes error fault =
+    (error ≢ InvalidArguments) × (¬ (IsIoOther error × (kept.verification ≡ true)))
+    × IsFaultOf bytes error fault

@@ -1,7 +1,8 @@
 //! Why a command failed, in words.
 
-ghost use Rattle.std.specs.Prelude.{◌≡◌, ◌≢◌, ◌⊎◌, ◌↔◌, ℕ, All, Contains, IfSome, IsTrue, MatchOption, MatchResult};
+ghost use Rattle.std.specs.Prelude.{◌≡◌, ◌⊎◌, ◌↔◌, ℕ, All, Contains, IfSome, IsTrue, MatchOption, MatchResult};
 ghost use Rattle.xet_core_structures.specs.KeyedExport.{ExpiresTooLate};
+ghost use Rattle.xet_core_structures.specs.View.{IsIoOther};
 ghost use Rattle.shard_bytes.specs.Checking.{IsFinding};
 ghost use Rattle.mdb_report.specs.Faults.{IsFaultOf, IsFaultOfRecord, MayBeCause, KeepsFrom, IsBlocking, IsUnderKey, IsUnderNoKey, IsExportFault, IsMinimalFault};
 
@@ -413,7 +414,7 @@ pub fn minimal_fault(alloc: Global, bytes: &[u8], kept: KeptParts, error: CoreEr
 
 // Whether the error of a minimal shard is that of a file without verification rows.
 fn lacks_verification(error: &CoreError) -> bool
-    ensures { IsTrue result → error.now ≢ CoreError.InvalidArguments }
+    ensures { IsTrue result ↔ IsIoOther error.now }
 {
     match error {
         CoreError::Io(error) => error.kind() == io::ErrorKind::Other,
