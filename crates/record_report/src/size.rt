@@ -14,8 +14,8 @@ const UNITS: &[(u64, &str)] = &[
     (1 << 10, "KiB"),
 ];
 
-/// A number of bytes: its digits, or, for people, its tenths of the greatest unit that it reaches, to
-/// the nearest.
+/// A number of bytes. It is printed in digits or, for people, in the greatest unit of which it has at
+/// least one, rounded to a tenth.
 #[derive(Clone, Copy)]
 pub struct Size {
     pub bytes: u64,
@@ -39,7 +39,8 @@ impl fmt::Display for Size {
             return write!(f, "{bytes}");
         }
         for (unit, name) in UNITS {
-            if bytes >= *unit {
+            // What is less by a twentieth of the unit before would be rounded to 1024.0 of that.
+            if bytes.saturating_add(*unit / 20480) >= *unit {
                 let tenths = tenths_of(bytes, *unit);
                 let (whole, tenth) = (tenths / 10, tenths % 10);
                 return write!(f, "{whole}.{tenth} {name}");
