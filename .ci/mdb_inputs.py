@@ -16,6 +16,10 @@ def word_that_is_no_text(place):
     run = place.run("merge", "both.mdb", b"a\xff.mdb", "-o", "out.mdb")
     wants("status of a merge", (run.returncode, run.stderr) == (1, said))
     wants("nothing is written", "out.mdb" not in place.names())
+    run = place.run("merge", "both.mdb", b"a\xff.mdb", "--skip-unreadable", "-o", "out.mdb")
+    wants("it is left out", (run.returncode, run.stderr) == (4, said) and "out.mdb" in place.names())
+    run = place.run("merge", "both.mdb", "--skip-unreadable", "-o", b"a\xff.mdb")
+    wants("a target is not", (run.returncode, run.stderr) == (1, said) and "a\\xff.mdb" not in place.names())
 
 
 def standard_input_is_a_shard(place):

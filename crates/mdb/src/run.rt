@@ -30,11 +30,7 @@ pub fn run<R: Env + Locks + Host>(rt: &R, terminals: Terminals) -> u8
 {
     match read_words(rt) {
         Ok(words) => status_of_words(rt, &words, terminals).number(),
-        Err(error) => report_failure(
-            rt,
-            Style::Text,
-            &Failure::on_words(Fault::from(error)),
-        ).number(),
+        Err(error) => report_text(rt, &Failure::on_words(Fault::from(error))).number(),
     }
 }
 
@@ -85,50 +81,34 @@ fn status_of<R: Locks + Host>(
             };
             match inputs {
                 Ok(inputs) => inspect(rt, &inputs, inquiry, *printing, terminals),
-                Err(_) => report_failure(
-                    rt,
-                    printing.style,
-                    &Failure::on_words(Fault::OutOfMemory),
-                ),
+                Err(_) => report_no_memory(rt, printing.style),
             }
         }
         Request::Collect(sources, collection) => match inputs_of(rt, sources, unreadable) {
             Ok(inputs) => collect_garbage(rt, &inputs, *collection, terminals),
-            Err(_) => report_failure(rt, collection.style, &Failure::on_words(Fault::OutOfMemory)),
+            Err(_) => report_no_memory(rt, collection.style),
         },
         Request::Report(_, reporting) if is_among(unreadable, reporting.output) => {
-            report_failure(
-                rt,
-                Style::Text,
-                &Failure::on_file(reporting.output, Fault::NoText),
-            )
+            report_text(rt, &Failure::on_file(reporting.output, Fault::NoText))
         }
         Request::Report(sources, reporting) => match inputs_of(rt, sources, unreadable) {
             Ok(inputs) => report(rt, &inputs, sources, *reporting, terminals),
-            Err(_) => report_failure(rt, Style::Text, &Failure::on_words(Fault::OutOfMemory)),
+            Err(_) => report_no_memory(rt, Style::Text),
         },
         Request::Make(making, target) => {
             if let Some(word) = unreadable.first() {
-                return report_failure(
-                    rt,
-                    Style::Text,
-                    &Failure::on_file(word.as_str(), Fault::NoText),
-                );
+                return report_text(rt, &Failure::on_file(word.as_str(), Fault::NoText));
             }
             match make(rt, making, *target, terminals.output) {
                 Ok(()) => Status::Done,
                 Err(failure) => status_of_failure(rt, &failure),
             }
         }
+        Request::Merge(_, merge) if is_among(unreadable, merge.target.path) => {
+            report_text(rt, &Failure::on_file(merge.target.path, Fault::NoText))
+        }
         Request::Merge(sources, merge) => {
-            if let Some(word) = unreadable.first() {
-                return report_failure(
-                    rt,
-                    Style::Text,
-                    &Failure::on_file(word.as_str(), Fault::NoText),
-                );
-            }
-            status_of_merge(rt, sources, *merge, terminals)
+            status_of_merge(rt, sources, unreadable, *merge, terminals)
         }
     }
 }
@@ -137,16 +117,17 @@ fn status_of<R: Locks + Host>(
 fn status_of_merge<R: Locks + Host>(
     rt: &R,
     sources: &Sources<'_>,
+    unreadable: &[String],
     merge: Merge<'_>,
     terminals: Terminals,
 ) -> Status {
     if merge.compaction.is_none() {
-        return status_of_sources(rt, sources, merge, terminals);
+        return status_of_sources(rt, sources, unreadable, merge, terminals);
     }
     let folder = merge.target.path;
     match FolderLock::take(rt, folder) {
         Ok(lock) => {
-            let status = status_of_sources(rt, sources, merge, terminals);
+            let status = status_of_sources(rt, sources, unreadable, merge, terminals);
             lock.release(rt);
             status
         }
@@ -163,10 +144,11 @@ fn report_lock<R: Eprint>(rt: &R, failure: &LockFailure<'_>) -> Status {
 fn status_of_sources<R: Locks + Host>(
     rt: &R,
     sources: &Sources<'_>,
+    unreadable: &[String],
     merge: Merge<'_>,
     terminals: Terminals,
 ) -> Status {
-    match inputs_of(rt, sources, &[]) {
+    match inputs_of(rt, sources, unreadable) {
         Ok(inputs) if inputs.failed && !merge.skips_unreadable => Status::Failed,
         Ok(inputs) => {
             let status = status_of_inputs(rt, inputs.paths.as_slice(), merge, terminals);
@@ -175,7 +157,7 @@ fn status_of_sources<R: Locks + Host>(
                 false => status,
             }
         }
-        Err(_) => report_failure(rt, Style::Text, &Failure::on_words(Fault::OutOfMemory)),
+        Err(_) => report_no_memory(rt, Style::Text),
     }
 }
 
@@ -227,8 +209,18 @@ fn status_of_files<'a, R: Host>(
             Ok(status) => status,
             Err(failure) => status_of_failure(rt, &failure),
         },
-        Err(_) => report_failure(rt, Style::Text, &Failure::on_words(Fault::OutOfMemory)),
+        Err(_) => report_no_memory(rt, Style::Text),
     }
+}
+
+// Reports a failure of a command that prints no JSON.
+fn report_text<R: Eprint + AllocGlobal>(rt: &R, failure: &Failure<'_>) -> Status {
+    report_failure(rt, Style::Text, failure)
+}
+
+// Reports that there is no memory for what the words name.
+fn report_no_memory<R: Eprint + AllocGlobal>(rt: &R, style: Style) -> Status {
+    report_failure(rt, style, &Failure::on_words(Fault::OutOfMemory))
 }
 
 // The status of a command that made nothing, or only a part.
@@ -240,6 +232,6 @@ fn status_of_failure<R: Eprint + AllocGlobal>(rt: &R, failure: &Failure<'_>) -> 
         let _ = rt.eprintln(failure);
         Status::Found
     } else {
-        report_failure(rt, Style::Text, failure)
+        report_text(rt, failure)
     }
 }
