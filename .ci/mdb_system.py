@@ -254,6 +254,7 @@ def check_says_how_much_it_looked_at(place):
     names = ("both.mdb", "text.mdb", "one_file.mdb")
     counted = (3, wrong, b"3 shards, 1 with findings\n")
     wants("a check", on_terminal(place, "check", *names) == counted)
+    wants("of one", on_terminal(place, "check", "both.mdb") == (0, b"", b"1 shard, 0 with findings\n"))
     wants("quietly", on_terminal(place, "check", "-q", *names) == (3, wrong, b""))
     none = b"missing: No such file or directory (os error 2)\n"
     counted = (1, b"", none + b"2 shards, 0 with findings, 1 not read\n")

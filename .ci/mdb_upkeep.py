@@ -365,6 +365,11 @@ def quiet_says_nothing(place):
     for quiet, says in (((), True), (("-q",), False), (("--quiet",), False)):
         status, _, said = on_terminal(place, "merge", "many", "-o", "out.mdb", *quiet)
         wants(f"what is said with {quiet}", (status, bool(said)) == (0, says))
+    # Paths are what is asked for.
+    os.mkdir(place.path("to"))
+    words = ("merge", "many", "--to", "to", "--max-size", "1M", "--hash-key", KEY)
+    loud, quiet = (place.run(*words, *it).stdout for it in ((), ("-q",)))
+    wants("paths", loud == quiet != b"")
 
 
 ROWS = (

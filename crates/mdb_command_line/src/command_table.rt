@@ -185,7 +185,7 @@ const QUIET: Argument = lettered!(
     QUIET,
     id::QUIET,
     Nothing,
-    "Says nothing of how far it has come"
+    "Prints no progress or counts on a terminal"
 );
 
 const NO_AUX: Argument = flag!(NO_AUX, "Leaves the files' auxiliary rows out");
@@ -445,7 +445,7 @@ const MAKINGS: &[Row] = &[
             ),
             flag!(
                 SKIP_UNREADABLE,
-                "Leaves files out that can't be read or are no whole shards, names them, and ends with status 4"
+                "Leaves out and names files that can't be read or are no whole shards; if there are any, the status is 4"
             ),
             EXPIRED_BY,
             option!(

@@ -91,7 +91,8 @@ fn report_checked<R: Eprint>(
         unreadable,
         ..
     } = tally;
-    let _ = rt.eprint(format_args!("{shards} shards, {with_findings} with findings"));
+    let noun = if shards == 1 { "shard" } else { "shards" };
+    let _ = rt.eprint(format_args!("{shards} {noun}, {with_findings} with findings"));
     if *unreadable > 0 {
         let _ = rt.eprint(format_args!(", {unreadable} not read"));
     }
@@ -208,7 +209,8 @@ fn inspect_file<'a, R: Files + Input + Eprint + AllocGlobal, W: Write>(
     }
 }
 
-// What is read of a file to answer from its bytes. The chunks of the global index are in the sections.
+// What is read of a file to answer from its bytes. The chunks of the global index are in the
+// sections.
 fn contents_for<'a, R: Files + Input + AllocGlobal>(
     rt: &R,
     file: &'a str,
