@@ -88,7 +88,7 @@ def page_is_shown(place):
     wants("a title", "<title>Shards of in</title>" in written)
     # Records are counted, also of the shard without tables.
     for words in (
-        "Shards of in", "Not counted: 1, which could not.", "Could not be read: 1",
+        "Shards of in", "Not counted: 1, which could not be read.", "Could not be read: 1",
         "no shard: its first 32 bytes are no tag 1 in/text.mdb", 'in/<b>"&"\\u{1b}.mdb', "Expiries by day",
         "Files 7", "512 B to 1 KiB", "2023-11-14", "no expiry", "At 2023-11-14T22:13:20Z (1700000000)",
         "Expired by then: 2.",
@@ -130,7 +130,10 @@ def failures_are_grouped(place):
     cut = "its last 200 bytes are no footer: it was cut or lengthened 1,000 "
     cut += " ".join(f"in/cut{number:04}.mdb" for number in range(3)) + " 997 more in/cut0003.mdb"
     none = "no shard: its first 32 bytes are no tag 4 " + " ".join(f"in/text{number}.mdb" for number in range(3))
-    for words in ("Could not be read: 1,034", "Not counted: 1,034", cut, none, "1 more in/text3.mdb", "12 other reasons"):
+    for words in (
+        "Could not be read: 1,034", "Not counted: 1,034, which could not be read.", cut, none, "1 more in/text3.mdb",
+        "12 other reasons",
+    ):
         wants(words, words in text)
     wants("others are counted", "in/cut0102.mdb and 897 more" in text and "in/cut0103" not in text)
     wants("the commonest comes first", text.index(cut) < text.index(none) < text.index("version 10: this program"))

@@ -126,7 +126,7 @@ pub fn expiry_at<R: Files + AllocGlobal>(rt: &R, file: &str) -> Option<u64> {
     shard_expiry(&load_bytes(rt.alloc(), ends.as_slice()).ok()?)
 }
 
-/// What is said of a file that is used though its shard has expired.
+/// The message that the shard in a file which is read has expired.
 #[derive(Drop, Serialize)]
 struct ExpiredShard<'a> {
     shard: &'a str,

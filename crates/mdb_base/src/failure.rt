@@ -21,7 +21,7 @@ pub enum Subject<'a> {
 }
 
 impl<'a> Subject<'a> {
-    /// Some files together.
+    /// All of some files; standard output, if there are none.
     pub fn of_all(files: &[&'a str]) -> Subject<'a> {
         match files {
             [only] => Subject::File(only),
@@ -40,7 +40,7 @@ impl<'a> Subject<'a> {
         }
     }
 
-    /// What was made, unless memory was lacking: that is a failure on the subject.
+    /// What was made. Any error is a lack of memory, and a failure on the subject.
     pub fn in_memory<T, E: Drop>(self, made: Result<T, E>) -> Result<T, Failure<'a>> {
         match made {
             Ok(made) => Ok(made),

@@ -1,4 +1,4 @@
-//! What the commands take of the system.
+//! What the commands need of the system.
 
 use std::random::RandomSource;
 use std::rt::{Clock, Files};

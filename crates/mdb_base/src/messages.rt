@@ -1,11 +1,11 @@
-//! What is said on standard error, in the style of what is printed.
+//! Messages on standard error, in the style of what is printed.
 
 use record_report::line::{Style, json_of};
 use serde::Serialize;
 use std::fmt::Display;
 
-/// Says a value on standard error: as text, or as one JSON value in a line. It is text, too, if there
-/// is no memory for the JSON.
+/// Prints a value on standard error and a line's end: as JSON, if the style is that and there is
+/// memory for it, else as text. That it can't be printed is ignored.
 pub fn say<R: Eprint + AllocGlobal, T: Display + Serialize>(rt: &R, style: Style, value: &T) {
     if let Style::Json = style
         && let Ok(json) = json_of(rt.alloc(), value)

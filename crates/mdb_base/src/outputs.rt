@@ -1,4 +1,4 @@
-//! What commands read of files whole, and write to paths.
+//! Files that commands read whole, and what they write to paths.
 
 use crate::failure::Failure;
 use crate::host::Host;
@@ -56,7 +56,7 @@ pub fn contents_of<'a, R: Files + Input + AllocGlobal>(
     }
 }
 
-/// The same of a shard that may end after its sections.
+/// The same of a shard that may end after its sections, so that it needs no footer.
 pub fn sections_of<'a, R: Files + Input + AllocGlobal>(
     rt: &R,
     file: &'a str,

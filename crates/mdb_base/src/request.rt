@@ -29,7 +29,7 @@ pub enum Request<'a> {
 }
 
 impl Request<'_> {
-    /// How it is said what fails.
+    /// How failures are printed.
     pub fn style(&self) -> Style {
         match self {
             Request::Inspect(_, _, printing) => printing.style,
@@ -103,7 +103,7 @@ pub struct Sources<'a> {
     pub hashes: Option<HashList<'a>>,
     /// The byte that ends a path in the list.
     pub end: u8,
-    /// How it is said what can't be read.
+    /// How failures to read what is named are printed.
     pub style: Style,
     /// Whether the folders in a folder are read too.
     pub recursive: bool,

@@ -22,7 +22,7 @@ use xet_core_structures::shard_format::MDBShardInfo;
 /// How often a block is enlarged to hold a record that is longer than it.
 const DOUBLINGS: u32 = 40;
 
-/// The bytes that are read at first behind a share that ends before the goal of a round.
+/// How many bytes are read first behind a share that ends before the goal of a round.
 const FIRST_STEP: u64 = 4096;
 
 /// Why a round ends without a part of the merge.
@@ -184,9 +184,9 @@ impl<'a> Cursor<'a> {
         end.min(self.shard.stamp.size).saturating_sub(self.offset)
     }
 
-    /// The next records in `size` bytes, or one that is longer, and the mark behind the last whole one.
-    /// While they are before `goal` more are read, in at most `extra` bytes, of which what is read is
-    /// taken.
+    /// The next records in `size` bytes, or one that is longer, and the mark behind the last whole
+    /// one. While that is before `goal`, more is read, in at most `extra` bytes, from which what was
+    /// read is then subtracted.
     pub fn read<R: Files + AllocGlobal>(
         &self,
         rt: &R,

@@ -1,9 +1,8 @@
 //! Finding what does not fit together in the records of shards, with only a part of them in memory.
 //!
-//! The search takes one range of xorb hashes after another, in ascending order. For each range it
-//! reads all files, and keeps the segments that name a xorb in the range; then it reads all xorbs.
-//! If it would keep too much, it lowers the end of the range. Then it reads the files again, up to the
-//! last that is the first one with a record that does not fit.
+//! The search takes one range of xorb hashes after another, in ascending order. For each it reads all
+//! files, keeps the segments that name a xorb in the range, and then reads all xorbs. If that is too
+//! much, the range ends earlier. Then it reads shards again, to name the first that has each finding.
 
 use crate::inputs::Inputs;
 use crate::origins::Origins;

@@ -203,11 +203,11 @@ impl Inputs {
 // What was found in a folder, or in several.
 #[derive(Drop)]
 struct Found {
-    // The regular files, also behind links, whose names are those of shards.
+    /// The regular files, also behind links, whose names are those of shards.
     shards: Vec<String>,
-    // Shards, and what may be folders to read, whose names are no UTF-8.
+    /// Shards, and what may be folders to read, whose names are no UTF-8.
     unreadable: Vec<String>,
-    // Folders that are still to be read.
+    /// Folders that are still to be read.
     folders: Vec<String>,
 }
 
@@ -264,7 +264,7 @@ impl Found {
     }
 }
 
-// Whether there is a folder at a path, and no link to one: links may lead round in a circle.
+// Whether there is a folder at a path, and no link to one: links may lead in a circle.
 fn is_folder_itself<R: Files>(rt: &R, path: &str) -> bool {
     match fs::symlink_metadata(rt, path) {
         Ok(there) => there.is_dir(),

@@ -160,8 +160,8 @@ fn parts_of(opened: &[BriefShard<'_>], memory: u64) -> u64 {
         .saturating_add(1)
 }
 
-// Reads the records of all shards, and counts the hashes of the first part. Those that can be read are
-// left.
+// Reads the records of all shards, and counts the hashes of the first part. Returns the shards that
+// could be read.
 fn read_all<'a, R: Files + Clock + Eprint + AllocGlobal>(
     rt: &R,
     opened: Vec<BriefShard<'a>>,
@@ -192,8 +192,8 @@ fn read_all<'a, R: Files + Clock + Eprint + AllocGlobal>(
     Ok(files)
 }
 
-// Counts the records of a shard: its xorbs and their chunks, whose hashes of a part it returns, and its
-// files where its table does not say how many there are.
+// Counts the records of a shard: its xorbs and their chunks, whose hashes of a part it returns, and
+// its files where its table does not say how many there are.
 fn read_records<'a, R: Files + AllocGlobal>(
     rt: &R,
     file: &ShardFile<'a>,

@@ -1,4 +1,4 @@
-//! Reading all records of a shard's sections, of which one is in memory at a time.
+//! Reading all records of a shard's sections, with one in memory at a time.
 
 ghost use Rattle.xet_core_structures.specs.XorbRecord.{HasItsChunks};
 
@@ -27,7 +27,7 @@ pub trait TakesXorbs {
         requires { HasItsChunks xorb.now };
 }
 
-/// Adds each file of a shard.
+/// Adds each file of a shard. It fails if the shard can't be read, or if memory is lacking.
 pub fn read_files<'a, R: Files + AllocGlobal, T: TakesFiles>(
     rt: &R,
     shard: &ShardFile<'a>,
@@ -47,7 +47,7 @@ pub fn read_files<'a, R: Files + AllocGlobal, T: TakesFiles>(
     Ok(())
 }
 
-/// Adds each xorb of a shard.
+/// Adds each xorb of a shard. It fails if the shard can't be read, or if memory is lacking.
 pub fn read_xorbs<'a, R: Files + AllocGlobal, T: TakesXorbs>(
     rt: &R,
     shard: &ShardFile<'a>,

@@ -39,7 +39,7 @@ use xet_core_structures::merklehash::HMACKey;
 /// Writes the merge of the shards in some files to a target. With `by_key` it writes a merge of
 /// those under each key to the folder at the target's path, by the digits of the key; with `memory`
 /// it takes about so much. If standard error is a terminal, it says there how far it has come. The
-/// status says whether files were left out that can't be read.
+/// status is `Partial` if files that can't be read were left out, else `Done`.
 pub fn merge_files<'a, R: Host>(
     rt: &R,
     files: &[&'a str],

@@ -13,8 +13,9 @@ use std::fs;
 use std::rt::Files;
 use xet_core_structures::record_reader::FormatVersion;
 
-/// The files that can be merged, each by itself. The others are reported. One file is in memory at a
-/// time. What is no regular file can be read only once, so it is not tried.
+/// The files that can be merged, each by itself. The others are reported. One file is in memory at
+/// a time. What is no regular file can be read only once, so it is not tried. It fails only if memory
+/// is lacking.
 pub fn without_unreadable<'a, R: Host>(
     rt: &R,
     files: &[&'a str],

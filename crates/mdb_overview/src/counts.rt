@@ -18,7 +18,7 @@ pub fn count_one(counts: &mut Counts, number: u64) -> Result<(), AllocError>
     Ok(())
 }
 
-/// Counts a number so many times more. It fails only if memory is lacking.
+/// Counts a number `more` times more, up to the greatest `u64`. It fails only if memory is lacking.
 pub(crate) fn add_count(counts: &mut Counts, number: u64, more: u64) -> Result<(), AllocError> {
     let count = counts.get(&number).copied().unwrap_or(0);
     counts.insert(number, count.saturating_add(more))?;

@@ -10,7 +10,7 @@ const MOST_REASONS: usize = 20;
 
 const MOST_PATHS: usize = 100;
 
-/// How many paths are seen before the others are asked for.
+/// How many paths of a reason are shown before the list of the others is opened.
 const FIRST_PATHS: usize = 3;
 
 /// What could not be read for one reason.
@@ -20,8 +20,9 @@ struct Group<'o> {
     paths: Vec<&'o str>,
 }
 
-/// Prints a table of what could not be read, the commonest reason first, if there is any. The list has
-/// to be sorted.
+/// Prints a table of what could not be read, the commonest reason first, if there is any. The
+/// failures have to be sorted: those of one reason follow one another. It fails only if memory is
+/// lacking.
 pub(crate) fn print_failures(
     alloc: Global,
     page: &mut String,
@@ -73,7 +74,7 @@ fn new_group<'o>(alloc: Global, reason: &'o str, path: &'o str) -> Result<Group<
     Ok(Group { reason, paths })
 }
 
-// Prints a row: the first paths are seen, the others once they are asked for.
+// Prints a row: the first paths, and the others in a list that the reader can open.
 fn print_group(alloc: Global, page: &mut String, group: &Group<'_>) -> Result<(), AllocError> {
     let paths = group.paths.as_slice();
     let reason = escape_text(alloc, group.reason)?;

@@ -14,8 +14,9 @@ use std::alloc::{AllocError, Global};
 /// The most sources that are named.
 const MOST_SOURCES: usize = 8;
 
-/// The page of an overview, as HTML with all that it needs. The shards are shown in their order, those
-/// after the first 200 together, and so what failed. It fails only if memory is lacking.
+/// The page of an overview, as HTML with all that it needs. The shards are shown in their order,
+/// those after the first 200 together; the failures, which have to be sorted, by reason. It fails
+/// only if memory is lacking.
 pub fn page_of(alloc: Global, overview: &Overview<'_>) -> Result<String, AllocError> {
     let mut page = String::from_str(alloc, HEAD)?;
     let title = title_of(alloc, overview)?;
@@ -69,7 +70,7 @@ fn print_total(
         let number = grouped_length(overview.failures.as_slice());
         write!(
             page,
-            "<p class=\"partial\">Of the shards that could be read. Not counted: {number}, which could not.</p>\n"
+            "<p class=\"partial\">Not counted: {number}, which could not be read.</p>\n"
         )?;
     }
     page.push_str("<dl>\n")?;
@@ -102,7 +103,7 @@ fn print_number(page: &mut String, name: &str, number: Option<u64>) -> Result<()
     )
 }
 
-// Prints a size in the unit that it reaches and, where that is more than a byte, in bytes.
+// Prints a size in its unit and, where that is not the byte, in bytes too.
 fn print_size(alloc: Global, page: &mut String, name: &str, bytes: u64) -> Result<(), AllocError> {
     let size = format!(in alloc; "{}", Size::new(bytes, true))?;
     write!(page, "<div><dt>{name}</dt><dd>{size}")?;

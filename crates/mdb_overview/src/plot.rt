@@ -25,7 +25,7 @@ pub(crate) struct Column {
 }
 
 impl Column {
-    // A number of the column as a text.
+    // A number of the column, as text.
     fn shown(&self, alloc: Global, value: Option<u64>) -> Result<String, AllocError> {
         match value {
             Some(bytes) if self.is_size => format!(in alloc; "{}", Size::new(bytes, true)),

@@ -47,7 +47,7 @@ pub(crate) fn print_sizes(
         },
     ];
     let about =
-        "Each column has a scale of its own. A size is from the first number on, below the second.";
+        "Each column has a scale of its own. A row has the sizes from its first number to below its second.";
     print_plot(
         alloc,
         page,

@@ -5,8 +5,11 @@ use mdb_report::brief::Brief;
 use std::alloc::{AllocError, Global};
 use std::collections::BTreeMap;
 
-/// How many shards have how many digits, in binary, of their number of bytes, and their bytes together.
-/// A number that would pass the greatest one stays there.
+/// The units in which classes are named, each 1024 of the one before.
+const UNITS: &[&str] = &["B", "KiB", "MiB", "GiB", "TiB", "PiB", "EiB"];
+
+/// For each class, the number of shards in it, and how many bytes they have together. A number that
+/// would pass the greatest `u64` stays there.
 #[derive(Drop)]
 pub(crate) struct SizeClasses {
     pub(crate) shards: Counts,
@@ -27,7 +30,8 @@ pub(crate) fn sizes_of(alloc: Global, shards: &[Brief<'_>]) -> Result<SizeClasse
     Ok(sizes)
 }
 
-/// The number of a size's binary digits: a size of class n is below 2 to the n, and not below half of it.
+/// The class of a size in bytes: the number of its binary digits. A size of class n is below 2 to
+/// the n, and not below half of it.
 pub(crate) fn class_of(bytes: u64) -> u64 {
     u64::from(u64::BITS.saturating_sub(bytes.leading_zeros()))
 }
@@ -45,7 +49,7 @@ pub(crate) fn classes_in(shards: &[Brief<'_>]) -> Option<(u64, u64)> {
     range
 }
 
-/// The sizes of a class, as `64 KiB to 128 KiB`.
+/// The sizes of a class, as `64 KiB to 128 KiB`. It fails only if memory is lacking.
 pub(crate) fn label_of(alloc: Global, class: u64) -> Result<String, AllocError> {
     match class.checked_sub(1) {
         Some(below) => {
@@ -56,9 +60,6 @@ pub(crate) fn label_of(alloc: Global, class: u64) -> Result<String, AllocError> 
         None => String::from_str(alloc, "0 B"),
     }
 }
-
-/// The units, each 1024 of the one before.
-const UNITS: &[&str] = &["B", "KiB", "MiB", "GiB", "TiB", "PiB", "EiB"];
 
 // 2 to the n as a number of a unit.
 fn power_of_two(n: u64) -> (u64, &'static str) {

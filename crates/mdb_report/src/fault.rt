@@ -247,8 +247,8 @@ pub fn section_fault(section: Section, error: CoreError) -> Fault
     }
 }
 
-/// The same for a call that refuses records which no shard may have: one of these, if nothing else may be
-/// the cause.
+/// The same for a call that refuses records which no shard may have: the first of these, if nothing
+/// else may be the cause.
 pub fn fault_of_record(alloc: Global, bytes: &[u8], error: CoreError) -> Fault
     ensures { IsFaultOfRecord bytes.now error result }
 {

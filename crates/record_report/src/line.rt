@@ -15,7 +15,7 @@ use std::io::Write;
 pub enum Style {
     /// As text, with sizes in bytes.
     Text,
-    /// As text, with sizes in the greatest unit that they reach.
+    /// As text, with sizes in units, as `1.5 KiB`.
     Human,
     /// As one JSON value a line.
     Json,
@@ -70,8 +70,8 @@ impl<'a> Layout<'a> {
     }
 }
 
-/// Prints a value and a line's end. Each style prints the same value. A value is printed for people by
-/// its alternate form.
+/// Prints a value and a line's end. Each style prints the same value: `Human` by its alternate
+/// form, `{:#}`. It fails if the output does, or if memory for JSON is lacking.
 pub fn print<T: Display + Serialize, W: Write>(
     alloc: Global,
     value: &T,

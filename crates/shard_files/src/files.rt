@@ -67,7 +67,8 @@ pub fn read_shard<R: Files + Input + AllocGlobal>(rt: &R, path: &str) -> io::Res
     stream_contents(alloc, &mut file)
 }
 
-/// The same of a shard that may end after its sections: all that begins with a header is read.
+/// The same of a shard that may end after its sections, so that it needs no footer: all that begins
+/// with a header is read.
 pub fn read_sections<R: Files + Input + AllocGlobal>(rt: &R, path: &str) -> io::Result<Contents> {
     if path == STANDARD_STREAM {
         stream_contents(rt.alloc(), &mut rt.reader())
