@@ -94,10 +94,10 @@ pub enum MergePlan {
     Both(Box<MergePlan>, Box<MergePlan>),
 }
 
-/// Unites the inputs at the leaves of a tree: a leaf is a copy of its input, and each inner node
-/// the union of what its left and its right side give. So inputs that agree and have no key give
-/// one string of bytes if the tree has a union, whatever its shape and whatever the order and the
-/// repetition of its leaves.
+/// Unites the inputs at the leaves of a tree: each inner node gives the union of what its left and
+/// its right side give, and a tree of one leaf a copy of its input. So inputs that agree and have
+/// no key give one string of bytes if the tree has a union, whatever its shape and whatever the
+/// order and the repetition of its leaves.
 ///
 /// The error is that of the first leaf or union that fails, left sides first: `InvalidArguments` if
 /// a leaf has no input; of a union `ShardVersion` or `UnexpectedEof` if the header or the footer of
