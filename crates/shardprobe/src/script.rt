@@ -1,14 +1,15 @@
 //! Running a script line by line. A row is a command, and behind ` => ` what it has to print.
 
 use crate::probe::Probe;
+use crate::repeats::write_out;
 use crate::stop::Stop;
 use script_lines::lines::{is_skipped, split_words, without_end};
 use std::alloc::{AllocError, Global};
 use std::io::{BufRead, BufReader, Read, Write};
 use std::{io, str};
 
-// The bytes of a line, and of what it prints, for which there is room before the first line is
-// read. So all that is allocated while a line runs is allocated by its command.
+// The bytes of a line, in short and in full, and of what it prints, for which there is room before
+// the first line is read. So all that is allocated while a line runs is allocated by its command.
 const ROOM: usize = 1 << 20;
 
 /// Runs the rows of `input`, one a line, and writes to `output` the headings, a line for each row
@@ -22,12 +23,13 @@ pub fn run_script<R: Read, W: Write>(
     let mut lines = BufReader::new(alloc, input)?;
     let mut script = Script::new(alloc)?;
     let mut line = Vec::with_capacity(alloc, ROOM)?;
+    let mut full = Vec::with_capacity(alloc, ROOM)?;
     for number in 1..u64::MAX {
         line.clear();
         if lines.read_until(b'\n', &mut line)? == 0 {
             break;
         }
-        script.run_line(number, without_end(line.as_slice()), output)?;
+        script.run_line(number, without_end(line.as_slice()), &mut full, output)?;
     }
     if script.compares {
         let rows = script.rows;
@@ -57,7 +59,13 @@ impl Script {
         })
     }
 
-    fn run_line<W: Write>(&mut self, number: u64, line: &[u8], output: &mut W) -> io::Result<()> {
+    fn run_line<W: Write>(
+        &mut self,
+        number: u64,
+        line: &[u8],
+        full: &mut Vec<u8>,
+        output: &mut W,
+    ) -> io::Result<()> {
         if is_skipped(line) {
             return Ok(());
         }
@@ -71,7 +79,10 @@ impl Script {
             self.compares = false;
             return Ok(());
         }
-        self.run_row(number, text, output)
+        match write_out(text, full) {
+            Ok(row) => self.run_row(number, row, output),
+            Err(stop) => writeln!(output, "line {number}: {stop}"),
+        }
     }
 
     fn run_row<W: Write>(&mut self, number: u64, row: &str, output: &mut W) -> io::Result<()> {
