@@ -8,6 +8,7 @@ mod minimal;
 mod numbers;
 mod probe;
 mod reading;
+mod records;
 mod repeats;
 mod rows;
 mod runs;
