@@ -95,14 +95,8 @@ impl Run<'_> {
             };
         }
         match (command, arguments) {
-            ("ranges", []) => Ok(show_ranges(info, out)?),
-            ("num_bytes", []) => {
-                let count = info.num_bytes(alloc)?;
-                Ok(writeln!(out, "{count}")?)
-            }
-            ("num_chunks", []) => {
-                let count = info.total_num_chunks();
-                Ok(writeln!(out, "{count}")?)
+            ("ranges" | "num_bytes" | "num_chunks" | "totals" | "key", []) => {
+                show_known(info, alloc, command, out)
             }
             ("read_files", []) => show!(read_all_file_info_sections),
             ("read_xorbs", []) => show!(read_all_xorb_blocks_full),
@@ -144,7 +138,8 @@ impl Run<'_> {
         show_answer(run, out)
     }
 
-    // Makes a call that puts what it finds of a hash, up to 8 rows or locations, into an array.
+    // Makes a call that takes a hash. What it finds, up to 8 rows or locations, most put into an
+    // array.
     fn look_up(
         &mut self,
         info: &MDBShardInfo,
@@ -165,6 +160,7 @@ impl Run<'_> {
             "file_index" => show_found!(get_file_info_index_by_hash, 0u32),
             "xorb_index" => show_found!(get_xorb_info_index_by_hash, 0u32),
             "chunk_index" => show_found!(get_xorb_info_index_by_chunk, (0u32, 0u32)),
+            "keyed" => show_line(&info.keyed_chunk_hash(&hash), out)?,
             _ => return Err(Stop::Unreadable),
         }
         Ok(())
@@ -174,6 +170,42 @@ impl Run<'_> {
 /// Prints what a call returns, if it does not fail.
 pub fn show_answer<T: Show + Drop>(answer: CoreResult<T>, out: &mut Vec<u8>) -> Result<(), Stop> {
     Ok(show_line(&answer?, out)?)
+}
+
+// Makes a call that takes nothing besides header and footer.
+fn show_known(
+    info: &MDBShardInfo,
+    alloc: Global,
+    command: &str,
+    out: &mut Vec<u8>,
+) -> Result<(), Stop> {
+    match command {
+        "num_bytes" => show_line(&info.num_bytes(alloc)?, out)?,
+        "num_chunks" => show_line(&info.total_num_chunks(), out)?,
+        "totals" => show_totals(info, out)?,
+        "key" => show_key(info, out)?,
+        _ => show_ranges(info, out)?,
+    }
+    Ok(())
+}
+
+fn show_totals(info: &MDBShardInfo, out: &mut Vec<u8>) -> io::Result<()> {
+    let files = info.num_file_entries();
+    let xorbs = info.num_xorb_entries();
+    let stored = info.stored_bytes();
+    let disk = info.stored_bytes_on_disk();
+    let materialized = info.materialized_bytes();
+    write!(out, "files {files} xorbs {xorbs} ")?;
+    writeln!(
+        out,
+        "stored {stored} disk {disk} materialized {materialized}"
+    )
+}
+
+fn show_key(info: &MDBShardInfo, out: &mut Vec<u8>) -> io::Result<()> {
+    let is_protected = info.chunk_hashes_protected();
+    write!(out, "protected {is_protected} ")?;
+    show_line(&info.chunk_hmac_key(), out)
 }
 
 fn show_ranges(info: &MDBShardInfo, out: &mut Vec<u8>) -> io::Result<()> {

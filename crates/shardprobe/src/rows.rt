@@ -10,7 +10,7 @@ use script_lines::records::{
     Form, parse_aux, parse_full_chunk, parse_full_segment, parse_metadata, parse_verification_row,
 };
 use script_lines::show::show_line;
-use script_lines::words::parse_optional_u64;
+use script_lines::words::{parse_hash, parse_optional_u64, parse_u32};
 use std::alloc::Global;
 use std::io::{ErrorKind, Read, Write};
 use xet_core_structures::error::CoreError;
@@ -128,6 +128,17 @@ fn write_value<W: Write>(
         ("xorb", xorb) => write_xorb(&parse_xorb(alloc, xorb, Form::Full)?, output),
         ("header", _) => Ok(MDBShardFileHeader::default().serialize(output)?),
         ("footer", _) => Ok(MDBShardFileFooter::default().serialize(output)?),
+        ("file_bookend", _) => Ok(FileDataSequenceHeader::bookend().serialize(output)?),
+        ("xorb_bookend", _) => Ok(XorbChunkSequenceHeader::bookend().serialize(output)?),
+        ("new_metadata", [hash]) => {
+            let row = FileMetadataExt::new(parse_hash(hash)?);
+            Ok(row.serialize(output)?)
+        }
+        ("new_xorb_header", [hash, count, bytes]) => {
+            let hash = parse_hash(hash)?;
+            let header = XorbChunkSequenceHeader::new(hash, parse_u32(count)?, parse_u32(bytes)?);
+            Ok(header.serialize(output)?)
+        }
         (_, [word]) => write_row_of(kind, word, output),
         _ => Err(Stop::Unreadable),
     }

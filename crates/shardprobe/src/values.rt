@@ -3,13 +3,16 @@
 use crate::probe::Probe;
 use crate::stop::Stop;
 use script_lines::refusal::Refusal;
-use script_lines::show::{show_joined, show_line};
+use script_lines::show::{show_bytes, show_joined, show_line};
 use script_lines::words::{parse_hash, parse_key, parse_u32, parse_u64};
 use std::alloc::Global;
 use std::io::{self, ErrorKind, Write};
-use xet_core_structures::error::CoreError;
-use xet_core_structures::merklehash::{MerkleHash, keyed_hash};
-use xet_core_structures::utils::{parse_shard_filename, shard_expiry_time, shard_file_name};
+use xet_core_structures::error::{CoreError, Result as CoreResult, Validate};
+use xet_core_structures::merklehash::{MerkleHash, hash_is_global_dedup_eligible, keyed_hash};
+use xet_core_structures::shard_format::MDBShardInfo;
+use xet_core_structures::utils::{
+    parse_shard_filename, shard_expiry_time, shard_file_name, truncate_hash,
+};
 
 impl Probe {
     /// Runs a command on hashes, names or errors. `false` if the words are no such command.
@@ -17,6 +20,9 @@ impl Probe {
         let alloc = self.alloc;
         match words {
             ["digits", hash] => show_digits(alloc, hash, out),
+            ["bytes_of", hash] => show_bytes_of(alloc, hash, out),
+            ["first_word", hash] => show_first_word(hash, out),
+            ["is_eligible", hash] => show_is_eligible(hash, out),
             ["from_hex", text @ ..] => show_from_hex(alloc, text, out),
             ["from_bytes", digits @ ..] => self.show_from_bytes(digits, out),
             ["hmac", key, hash] => show_hmac(key, hash, out),
@@ -24,7 +30,13 @@ impl Probe {
             ["name", hash] => show_name(alloc, hash, out),
             ["parse_name", text] => Ok(show_line(&parse_shard_filename(text), out)?),
             ["expiry", now, valid_seconds] => show_expiry(now, valid_seconds, out),
+            ["empty_size"] => Ok(show_line(&MDBShardInfo::non_content_byte_size(), out)?),
             ["error", kind, text @ ..] => show_error(alloc, kind, text, out),
+            ["equal_errors", first, second] => show_equal(alloc, first, second, out),
+            ["validated", "hash", hash] => show_validated(Ok(parse_hash(hash)?), out),
+            ["validated", "error", kind, text @ ..] => {
+                show_validated(Err(named_error(alloc, kind, text)?), out)
+            }
             ["error_of", "other", text] => Err(Stop::Refused(CoreError::other(alloc, text))),
             ["error_of", "invalid_shard", text] => {
                 Err(Stop::Refused(CoreError::invalid_shard(alloc, text)))
@@ -48,6 +60,19 @@ fn show_digits(alloc: Global, hash: &str, out: &mut Vec<u8>) -> Result<(), Stop>
     Ok(writeln!(out, "{digits}")?)
 }
 
+fn show_bytes_of(alloc: Global, hash: &str, out: &mut Vec<u8>) -> Result<(), Stop> {
+    Ok(show_bytes(alloc, &parse_hash(hash)?.as_bytes(), out)?)
+}
+
+fn show_first_word(hash: &str, out: &mut Vec<u8>) -> Result<(), Stop> {
+    Ok(show_line(&truncate_hash(&parse_hash(hash)?), out)?)
+}
+
+fn show_is_eligible(hash: &str, out: &mut Vec<u8>) -> Result<(), Stop> {
+    let is_eligible = hash_is_global_dedup_eligible(&parse_hash(hash)?);
+    Ok(writeln!(out, "{is_eligible}")?)
+}
+
 fn show_from_hex(alloc: Global, text: &[&str], out: &mut Vec<u8>) -> Result<(), Stop> {
     match MerkleHash::from_hex(text.first().copied().unwrap_or("")) {
         Ok(hash) => Ok(show_words(hash, out)?),
@@ -62,16 +87,36 @@ fn show_hmac(key: &str, hash: &str, out: &mut Vec<u8>) -> Result<(), Stop> {
 
 // Prints the name of an error's variant, as scripts have it, and its message.
 fn show_error(alloc: Global, kind: &str, text: &[&str], out: &mut Vec<u8>) -> Result<(), Stop> {
-    let text = text.first().copied().unwrap_or("");
-    let error = match bare_error(kind) {
-        Some(error) => error,
-        None if kind == "TruncatedHashCollision" => {
-            CoreError::TruncatedHashCollision(parse_u64(text)?)
-        }
-        None => error_with_text(kind, String::from_str(alloc, text)?)?,
-    };
+    let error = named_error(alloc, kind, text)?;
     let name = Refusal(&error);
     Ok(writeln!(out, "{name}: {error}")?)
+}
+
+// Prints whether two errors, of a word `NAME` or `NAME:TEXT` each, are equal.
+fn show_equal(alloc: Global, first: &str, second: &str, out: &mut Vec<u8>) -> Result<(), Stop> {
+    let (kind, text) = first.split_once(':').unwrap_or((first, ""));
+    let first = named_error(alloc, kind, &[text])?;
+    let (kind, text) = second.split_once(':').unwrap_or((second, ""));
+    let second = named_error(alloc, kind, &[text])?;
+    let is_equal = first == second;
+    Ok(writeln!(out, "{is_equal}")?)
+}
+
+// Prints the hash that is no error after all, or `none`.
+fn show_validated(answer: CoreResult<MerkleHash>, out: &mut Vec<u8>) -> Result<(), Stop> {
+    Ok(show_line(&answer.ok_for_format_error()?, out)?)
+}
+
+// The error of a name, with the word or the text that it has, if it has one.
+fn named_error(alloc: Global, kind: &str, text: &[&str]) -> Result<CoreError, Stop> {
+    let text = text.first().copied().unwrap_or("");
+    match bare_error(kind) {
+        Some(error) => Ok(error),
+        None if kind == "TruncatedHashCollision" => {
+            Ok(CoreError::TruncatedHashCollision(parse_u64(text)?))
+        }
+        None => error_with_text(kind, String::from_str(alloc, text)?),
+    }
 }
 
 // An error without a text.

@@ -6,10 +6,10 @@ use crate::stop::Stop;
 use bytes::Bytes;
 use script_lines::files_and_xorbs::{parse_file, parse_xorb};
 use script_lines::records::Form;
-use script_lines::show::{show_bytes, show_line};
-use script_lines::words::parse_u64;
+use script_lines::show::{Show, show_bytes, show_line};
+use script_lines::words::{parse_u32, parse_u64};
 use std::alloc::Global;
-use std::io::Write;
+use std::io::{self, Write};
 use xet_core_structures::error::Result as CoreResult;
 use xet_core_structures::file_structs::MDBFileInfoView;
 use xet_core_structures::xorb_structs::{MDBXorbInfoView, XorbChunkSequenceEntry};
@@ -65,6 +65,8 @@ fn show_file_view(
 ) -> Result<(), Stop> {
     match call {
         [] => show_answer(Ok(*view.header()), out),
+        ["fields"] => Ok(show_fields(view, out)?),
+        ["entry" | "verification" | "metadata", ..] => show_row(view, alloc, call, out),
         ["bytes"] => show_data(view, alloc, out),
         ["size", "with"] => show_size(view, true, out),
         ["size", "without"] => show_size(view, false, out),
@@ -72,6 +74,47 @@ fn show_file_view(
         ["serialize", "without"] => show_serialized(view, alloc, false, out),
         ["to_info"] => show_answer(view.to_info(alloc), out),
         ["copy"] => show_answer(view.try_clone()?.to_info(alloc), out),
+        _ => Err(Stop::Unreadable),
+    }
+}
+
+// Prints what the calls on a view return of the header.
+fn show_fields(view: &MDBFileInfoView, out: &mut Vec<u8>) -> io::Result<()> {
+    view.file_hash().show(out)?;
+    let flags = view.file_flags();
+    let count = view.num_entries();
+    let verification = view.contains_verification();
+    let metadata_ext = view.contains_metadata_ext();
+    writeln!(
+        out,
+        " flags {flags} entries {count} verification {verification} metadata {metadata_ext}"
+    )
+}
+
+// Prints a row of a view. `Unreadable` if there is none at the index: then the call may not be made.
+fn show_row(
+    view: &MDBFileInfoView,
+    alloc: Global,
+    call: &[&str],
+    out: &mut Vec<u8>,
+) -> Result<(), Stop> {
+    match call {
+        ["metadata"] => Ok(show_line(&view.metadata_ext(), out)?),
+        ["entry", index] => {
+            let index = parse_u32(index)? as usize;
+            if index >= view.num_entries() {
+                return Err(Stop::Unreadable);
+            }
+            Ok(show_line(&view.entry(index), out)?)
+        }
+        ["verification", index] => {
+            let index = parse_u32(index)? as usize;
+            let rows = view.to_info(alloc)?.verification.len();
+            if index >= rows {
+                return Err(Stop::Unreadable);
+            }
+            Ok(show_line(&view.verification(index), out)?)
+        }
         _ => Err(Stop::Unreadable),
     }
 }
@@ -104,12 +147,32 @@ fn show_xorb_view(
 ) -> Result<(), Stop> {
     match call {
         [] => show_answer(Ok(*view.header()), out),
+        ["fields"] => Ok(show_xorb_fields(view, out)?),
+        ["chunk", index] => show_chunk(view, parse_u32(index)?, out),
         ["serialize"] => show_serialized_xorb(view, alloc, out),
         ["mark", index] => show_marked(view, alloc, parse_u64(index)?, out),
         ["to_info"] => show_answer(view.to_info(alloc), out),
         ["copy"] => show_answer(view.try_clone()?.to_info(alloc), out),
         _ => Err(Stop::Unreadable),
     }
+}
+
+// Prints what the calls on a view return of the header, and the bytes of the record.
+fn show_xorb_fields(view: &MDBXorbInfoView, out: &mut Vec<u8>) -> io::Result<()> {
+    view.xorb_hash().show(out)?;
+    let count = view.num_entries();
+    let bytes = view.byte_size();
+    writeln!(out, " entries {count} bytes {bytes}")
+}
+
+// Prints a chunk of a view. `Unreadable` if there is none at the index: then the call may not be
+// made.
+fn show_chunk(view: &MDBXorbInfoView, index: u32, out: &mut Vec<u8>) -> Result<(), Stop> {
+    let index = index as usize;
+    if index >= view.num_entries() {
+        return Err(Stop::Unreadable);
+    }
+    Ok(show_line(&view.chunk(index), out)?)
 }
 
 fn show_serialized_xorb(
