@@ -23,14 +23,22 @@ def files(crate):
     return sorted(f"{at}/{name}" for it in folders for at, _, names in os.walk(it) for name in names)
 
 
+def texts(crate):
+    """Returns the texts of a crate's sources by their paths in its folder."""
+    return {os.path.relpath(it, f"{TOP}/crates/{crate}"): read(it) for it in files(crate)}
+
+
 def library(crate):
     return f"{TOP}/crates/{crate}/out/rlib/{crate}.rlib"
 
 
 def is_proved(crate):
-    """Whether a crate's library is there, and newer than its sources."""
+    """Whether a crate's library is there, and came there after its sources were written.
+
+    One that rt took over from another checkout was made earlier.
+    """
     made = library(crate)
-    return os.path.exists(made) and os.path.getmtime(made) >= max(map(os.path.getmtime, files(crate)))
+    return os.path.exists(made) and os.path.getctime(made) >= max(map(os.path.getmtime, files(crate)))
 
 
 def kit():
