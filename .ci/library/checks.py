@@ -29,7 +29,7 @@ class Checks:
             return
         except Exception as error:
             found = f"{check.__module__}.{check.__name__}: {type(error).__name__}: {error}"
-        passed, faults = found if isinstance(found, tuple) else (int(found is None), [found] if found else [])
+        passed, faults = found if isinstance(found, tuple) else (int(found is None), [] if found is None else [found])
         self.passed += passed
         self.faults += faults
 
