@@ -16,6 +16,8 @@ SONAME = f"libxet.so.{read(f'{TOP}/VERSION').split('.')[0]}"
 TESTS = ("test_vectors.py", "test_index.py", "test_ranges.py", "test_shard.py", "test_range_reads.py")
 # Those that need numpy, and a cluster.
 TABLES, CLUSTER = "test_tables.py", "test_cluster.py"
+# What some tests need and .ci/setup does not install: Debian lacks it, or starts it as a service.
+NOT_INSTALLED = ("pyarrow", "nginx")
 
 # The types of fields, in Rattle and in the Python module.
 TYPES = {
@@ -190,9 +192,8 @@ def run_tests(checks, file, named, python=sys.executable):
     """Returns how many Python tests of a file passed, and what is wrong with those that failed."""
     printed, why = ran(python, f"{MODULE}/tests/{file}", env=named)
     lines = printed.splitlines()
-    for it in lines:
-        if it.startswith("skipped "):
-            checks.skip(OutOfReach(it.removeprefix("skipped ")))
+    for test, tool in re.findall(r"^skipped (\w+): (\w+)", printed, re.M):
+        checks.skip((OutOfReach if tool in NOT_INSTALLED else Skip)(f"{test}: {tool} is not there"))
     # Workers of a cluster print as well, and some after the tests have ended.
     found = [it for it in (re.fullmatch(r"(\d+) passed, (\d+) failed", line) for line in lines) if it]
     counts = found[-1] if found else None

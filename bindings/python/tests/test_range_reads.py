@@ -15,6 +15,7 @@ import sys
 import tempfile
 import threading
 import time
+import unittest
 from http.client import HTTPException
 
 sys.dont_write_bytecode = True
@@ -277,28 +278,27 @@ def nginx(folder, port):
             server.terminate()
 
 
-if shutil.which("nginx"):
-    def test_nginx():
-        with tempfile.TemporaryDirectory() as folder:
-            # Its workers may be of another user.
-            os.chmod(folder, 0o755)
-            for name, content in (("a.mdb", SHARD), ("many.mdb", many_places()), ("none.mdb", shard_of())):
-                pathlib.Path(folder, name).write_bytes(content)
-            port = free_port()
-            with nginx(folder, port):
-                for it in ("1000", "2000", "5000", "3000"):
-                    remote = range_reads.RemoteShard(f"http://127.0.0.1:{port}/a.mdb")
-                    assert remote.find_file(hash_text(it)) == xet_shards.find_file(SHARD, hash_text(it))
-                    assert remote.file.requests <= 3
-                shared = f"{5000:016x}{6:016x}{0:032x}"
-                assert remote.find_file(shared) == xet_shards.find_file(SHARD, shared) is not None
-                remote = range_reads.RemoteShard(f"http://127.0.0.1:{port}/many.mdb")
-                assert remote.query_chunks([hash_text("21")]).count == 1
-                assert (remote.file.requests, remote.file.bytes) == (3, 248 + 9 * 16 + 8 * 96)
-                remote = range_reads.RemoteShard(f"http://127.0.0.1:{port}/none.mdb")
-                assert remote.find_file(hash_text("1000")) is None and remote.file.requests == 1
-else:
-    print("nginx is not there, so the server of these tests alone was asked for ranges")
+def test_nginx():
+    if not shutil.which("nginx"):
+        raise unittest.SkipTest("nginx is not there")
+    with tempfile.TemporaryDirectory() as folder:
+        # Its workers may be of another user.
+        os.chmod(folder, 0o755)
+        for name, content in (("a.mdb", SHARD), ("many.mdb", many_places()), ("none.mdb", shard_of())):
+            pathlib.Path(folder, name).write_bytes(content)
+        port = free_port()
+        with nginx(folder, port):
+            for it in ("1000", "2000", "5000", "3000"):
+                remote = range_reads.RemoteShard(f"http://127.0.0.1:{port}/a.mdb")
+                assert remote.find_file(hash_text(it)) == xet_shards.find_file(SHARD, hash_text(it))
+                assert remote.file.requests <= 3
+            shared = f"{5000:016x}{6:016x}{0:032x}"
+            assert remote.find_file(shared) == xet_shards.find_file(SHARD, shared) is not None
+            remote = range_reads.RemoteShard(f"http://127.0.0.1:{port}/many.mdb")
+            assert remote.query_chunks([hash_text("21")]).count == 1
+            assert (remote.file.requests, remote.file.bytes) == (3, 248 + 9 * 16 + 8 * 96)
+            remote = range_reads.RemoteShard(f"http://127.0.0.1:{port}/none.mdb")
+            assert remote.find_file(hash_text("1000")) is None and remote.file.requests == 1
 
 
 if __name__ == "__main__":
