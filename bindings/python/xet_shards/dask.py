@@ -1,4 +1,4 @@
-"""Merges of files of shards on a cluster of Dask. It needs the package `distributed`: xet_shards[dask]."""
+"""Merges of files of shards on a cluster of Dask. It needs the package `distributed`, the extra `dask` of this one."""
 from __future__ import annotations
 
 import contextlib
