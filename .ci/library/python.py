@@ -188,12 +188,17 @@ def run_cluster_tests(checks, named):
     return run_tests(checks, CLUSTER, named, python_for("import distributed", why))
 
 
+def note_skipped(checks, printed):
+    """Notes the tests that Python tests say they skipped."""
+    for test, tool in re.findall(r"^skipped (\w+): (\w+)", printed, re.M):
+        checks.skip((OutOfReach if tool in NOT_INSTALLED else Skip)(f"{test}: {tool} is not there"))
+
+
 def run_tests(checks, file, named, python=sys.executable):
     """Returns how many Python tests of a file passed, and what is wrong with those that failed."""
     printed, why = ran(python, f"{MODULE}/tests/{file}", env=named)
     lines = printed.splitlines()
-    for test, tool in re.findall(r"^skipped (\w+): (\w+)", printed, re.M):
-        checks.skip((OutOfReach if tool in NOT_INSTALLED else Skip)(f"{test}: {tool} is not there"))
+    note_skipped(checks, printed)
     # Workers of a cluster print as well, and some after the tests have ended.
     found = [it for it in (re.fullmatch(r"(\d+) passed, (\d+) failed", line) for line in lines) if it]
     counts = found[-1] if found else None

@@ -13,7 +13,7 @@ from . import commands
 from .c import CC, WARNINGS
 from .common import BINDINGS, TOP, OutOfReach, Skip, ran, read
 from .crates import kit
-from .python import SONAME, TESTS
+from .python import SONAME, TESTS, note_skipped
 from .rust import PROGRAM, write_program
 
 VERSION = read(f"{TOP}/VERSION").strip()
@@ -83,7 +83,7 @@ class Release:
     """A release that was made in a folder, unpacked in a room."""
 
     def __init__(self, folder, room, checks):
-        self.folder, self.room = folder, room
+        self.folder, self.room, self.checks = folder, room, checks
         self.hidden, self.path = hiding(checks)
         with tarfile.open(f"{folder}/{FOLDER}.tar.gz") as archive:
             archive.extractall(f"{room}/unpacked")
@@ -267,6 +267,7 @@ def run_python_tests(release):
         counts = re.search(r"^([1-9]\d*) passed, 0 failed$", printed, re.M)
         if why or not counts:
             return why or f"{name} over the wheel prints {printed}"
+        note_skipped(release.checks, printed)
         passed += int(counts[1])
     return passed, []
 
