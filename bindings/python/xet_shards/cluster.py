@@ -86,8 +86,8 @@ def merge(
 ) -> int:
     """Writes the merge of the files of one shard or more to a file, and returns its size.
 
-    The executor's processes need the paths, the folder of the output, and this package. It is anything with `submit`, as
-    a `ProcessPoolExecutor`, whose futures have `result` and `cancel`; without one, threads of this process serve, one
+    The executor's processes need the paths, the folder of the output, and this package. It is anything with `submit`,
+    as a `ProcessPoolExecutor`, whose futures have `result` and `cancel`; without one, threads of this process serve, one
     for each processor. `memory` is what one task may take, in bytes: there are as many ranges as it asks for, and at
     least `tasks`, which is the number of processors if it is left out. The parts are in a folder beside the output
     meanwhile, and are put together in this process, in mapped files. The output takes its name when it is whole, and
