@@ -3,7 +3,8 @@
 
 A lookup takes three requests at most: for both ends of the shard, which say where the tables are, for a table, and for
 the records to which its rows lead. Ends and tables are kept, so one more lookup in a table takes one request. The
-server has to know ranges, and several in one request, as nginx does; one that does not sends the whole shard, once.
+server has to know ranges, and several in one request, as nginx does; one that does not sends the whole shard, once. If
+it redirects a request, as hubs do, that takes one more, and what follows is asked at the other place.
 """
 from __future__ import annotations
 
@@ -17,7 +18,7 @@ from functools import cached_property
 from http.client import HTTPConnection, HTTPException, HTTPResponse, HTTPSConnection, parse_headers
 from io import BytesIO
 from typing import Dict, Iterable, Iterator, List, NamedTuple, Optional, Sequence, Tuple, Type
-from urllib.parse import urlsplit
+from urllib.parse import urljoin, urlsplit
 
 import xet_shards
 
@@ -25,6 +26,8 @@ import xet_shards
 HEADER, FOOTER, ROW, FILE_ROW, CHUNK_ROW = 48, 200, 48, 12, 16
 # Where the footer says where the xorb section starts.
 XORB_SECTION = slice(16, 24)
+# The statuses of a redirect, and how many in a row are followed.
+REDIRECTS, MOST_REDIRECTS = (301, 302, 303, 307, 308), 10
 
 # From where to where, without the last. A start below 0 counts from the end, which is then the other one.
 Range = Tuple[int, int]
@@ -48,14 +51,18 @@ class RemoteFile:
     """A file on a web server, of which ranges are read: how many bytes it has, and how many requests and bytes came."""
 
     def __init__(self, url: str) -> None:
-        parts = urlsplit(url)
-        kind: Type[HTTPConnection] = HTTPSConnection if parts.scheme == "https" else HTTPConnection
-        self._connection = kind(parts.netloc, timeout=60)
-        self._path = (parts.path or "/") + (f"?{parts.query}" if parts.query else "")
+        self._go_to(url)
         self._headers: Dict[str, str] = {}
         # The one part that a server sends that knows no ranges.
         self._whole: List[Part] = []
         self.size = self.requests = self.bytes = 0
+
+    def _go_to(self, url: str) -> None:
+        parts = urlsplit(url)
+        kind: Type[HTTPConnection] = HTTPSConnection if parts.scheme == "https" else HTTPConnection
+        self._connection = kind(parts.netloc, timeout=60)
+        self._url = url
+        self._path = (parts.path or "/") + (f"?{parts.query}" if parts.query else "")
 
     def read(self, *ranges: Range) -> List[bytes]:
         """Returns the bytes in some ranges, by one request. Of a range that passes the end they are fewer."""
@@ -87,8 +94,16 @@ class RemoteFile:
             return self._sent(ranges)
 
     def _sent(self, ranges: str) -> HTTPResponse:
-        self._connection.request("GET", self._path, headers={**self._headers, "Range": f"bytes={ranges}"})
-        return self._connection.getresponse()
+        for _ in range(MOST_REDIRECTS + 1):
+            self._connection.request("GET", self._path, headers={**self._headers, "Range": f"bytes={ranges}"})
+            response = self._connection.getresponse()
+            place = response.headers["Location"]
+            if response.status not in REDIRECTS or not place:
+                return response
+            self.requests += 1
+            self._connection.close()
+            self._go_to(urljoin(self._url, place))
+        raise HTTPException("the server redirects too often")
 
 
 def cut(parts: Iterable[Part], start: int, stop: int) -> bytes:

@@ -59,6 +59,8 @@ class Handler(http.server.BaseHTTPRequestHandler):
     def do_GET(self):
         self.server.requests += 1
         way, name = self.path.strip("/").split("/")
+        if way == "moved":
+            return self.answer(302, b"moved\n", {"Location": self.server.moves[name]})
         content = self.server.contents.get(name)
         etag = f'"{hash(content)}"'
         if content is None:
@@ -115,9 +117,9 @@ class Handler(http.server.BaseHTTPRequestHandler):
 
 @contextlib.contextmanager
 def serving(**contents):
-    """Gives a server of some files, which counts requests."""
+    """Gives a server of some files, which counts requests. Its `moves` say where files are that moved."""
     with http.server.ThreadingHTTPServer(("127.0.0.1", 0), Handler) as server:
-        server.daemon_threads, server.contents, server.requests = True, contents, 0
+        server.daemon_threads, server.contents, server.requests, server.moves = True, contents, 0, {}
         threading.Thread(target=server.serve_forever, kwargs={"poll_interval": 0.01}, daemon=True).start()
         try:
             yield server
@@ -208,6 +210,19 @@ def test_a_server_without_ranges():
         assert remote.find_file(hash_text("1001")) == xet_shards.find_file(SHARD, hash_text("1001"))
         assert remote.query_chunks([hash_text("1100")]).count == 1
         assert (remote.file.requests, remote.file.bytes, server.requests) == (1, len(SHARD), 1)
+
+
+def test_redirects():
+    with serving(a=SHARD) as there, serving() as server:
+        server.moves = {"a": url(there, "parts", "a"), "again": "/moved/a", "round": "round"}
+        for name, redirects in (("a", 1), ("again", 2)):
+            server.requests = there.requests = 0
+            remote = range_reads.RemoteShard(url(server, "moved", name))
+            assert remote.find_file(hash_text("1001")) == xet_shards.find_file(SHARD, hash_text("1001")) is not None
+            # Only the first request is redirected.
+            assert (server.requests, there.requests, remote.file.requests) == (redirects, 3, redirects + 3)
+        remote = range_reads.RemoteShard(url(server, "moved", "round"))
+        assert "redirects too often" in str(raises(HTTPException, remote.find_file, hash_text("1001")))
 
 
 def test_failures():
