@@ -42,7 +42,7 @@ rows_of-aux : (wanted : Bool) (r : MDBFileInfo) (part : OptionalPart) → rows_o
 rows_of-aux true r part = refl
 rows_of-aux false r part = rows_of-with_parts_if (all_but AuxExt) _ r part
 
-rows_of-kept : (kept : KeptParts) (r : MDBFileInfo) → FitsItsHeader r → (part : OptionalPart) → rows_of part (as_kept kept r) ≡ (if keeps kept part then rows_of part r else [])
+pub rows_of-kept : (kept : KeptParts) (r : MDBFileInfo) → FitsItsHeader r → (part : OptionalPart) → rows_of part (as_kept kept r) ≡ (if keeps kept part then rows_of part r else [])
 rows_of-kept kept r whole part =
     rows_of-aux kept.aux_ext (with_verification_if kept.verification r) part
     ∙ ap (λ (xs : List HashRow). if kept.aux_ext || all_but AuxExt part then xs else []) (rows_of-wanted kept.verification r whole part)

@@ -3,6 +3,7 @@
 //! are stored. Also writes shards of lists of records, without a chunk lookup.
 
 pub use crate::shard_format::ends::options::LayoutOptions;
+pub use crate::shard_format::export::keyed_chunks::with_keyed_hashes;
 pub use crate::shard_format::export::rewriting::write_again;
 pub use crate::shard_format::read::stored_section::{
     PlacedRecord, StoredSection, bytes_from, end_of_section, have_aux_rows, read_stored_section,
@@ -15,3 +16,4 @@ pub use crate::shard_format::write::written::{
     WrittenFiles, WrittenSection, WrittenXorbs, collect_records,
 };
 pub use crate::shard_format::write::xorb_writer::ChunkTableRow;
+pub use crate::streaming_shard::file_start::FileStart;

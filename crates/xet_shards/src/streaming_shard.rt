@@ -8,7 +8,7 @@ ghost use Rattle.xet_records.specs.Processing.{Processes};
 ghost use Rattle.xet_records.specs.XorbRecord.{xorb_records};
 
 mod eligible;
-mod file_start;
+pub(crate) mod file_start;
 mod minimal_copier;
 mod minimal_reader;
 mod minimal_shard;

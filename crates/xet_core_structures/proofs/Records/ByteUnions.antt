@@ -151,13 +151,13 @@ module _ (q : DataHash) where
       (joined_file x y, ap Some (merged_is_joined x y own.well_formed others.well_formed), joined_is_united q x y own others (agree x y refl refl))
 
 module _ (a b c : Shard) (first : IsShard a) (second : IsShard b) (agree : ShardsAgree a b) where
-  byte_union_is_union : IsByteUnion a b c → IsUnion a b c
+  pub byte_union_is_union : IsByteUnion a b c → IsUnion a b c
   byte_union_is_union union = record {
     files = λ q. either_is q (get a.files q) (get b.files q) (get c.files q) (λ r. is_known a q r first) (λ r. is_known b q r second) (agree.files q) (union.files q);
     xorbs = λ q. union.xorbs q ∙ sym (same_either (get a.xorbs q) (get b.xorbs q) (agree.xorbs q));
   }
 
-  union_is_byte_union : IsUnion a b c → IsByteUnion a b c
+  pub union_is_byte_union : IsUnion a b c → IsByteUnion a b c
   union_is_byte_union union = record {
     files = λ q. subst (IsEitherFile (get a.files q) (get b.files q)) (sym (union.files q))
         (is_either q (get a.files q) (get b.files q) (λ r. is_known a q r first) (λ r. is_known b q r second) (agree.files q));

@@ -41,7 +41,7 @@ itself : (s : FileStart) → eq_by_cmp start_cmp s s ≡ true
 itself s = ap is_eq (tied_itself start_total s)
 
 -- a start of a list has a place in it, and what has a place is one
-place_found : (starts : List FileStart) (s : FileStart) → has_start starts s ≡ true → (j : ℕ) × (slice_get starts j ≡ Some s)
+pub place_found : (starts : List FileStart) (s : FileStart) → has_start starts s ≡ true → (j : ℕ) × (slice_get starts j ≡ Some s)
 place_found [] s is = absurd (true≢false (sym is))
 place_found (t ∷ starts) s is = by_first (eq_by_cmp start_cmp s t) refl is (place_found starts s)
   where
@@ -59,7 +59,7 @@ found_at (t ∷ starts) (suc j) s there = either (eq_by_cmp start_cmp s t) (foun
     either true is = refl
     either false is = is
 
-not_below_means : (at j : ℕ) → (j < at → ⊥) → at ≤ j
+pub not_below_means : (at j : ℕ) → (j < at → ⊥) → at ≤ j
 not_below_means at j none = by_test (leb at j) refl
   where
     by_test : (b : Bool) → leb at j ≡ b → at ≤ j
@@ -131,10 +131,10 @@ ge-not_lt Equal is = refl
 ge-not_lt Greater is = refl
 
 module _ (x : MDBXorbInfo) where
-  same_xorb : (i j : ℕ) → start_cmp (chunk_of x i) (chunk_of x j) ≡ nat_cmp i j
+  pub same_xorb : (i j : ℕ) → start_cmp (chunk_of x i) (chunk_of x j) ≡ nat_cmp i j
   same_xorb i j = ap (λ o. ordering_then o (nat_cmp i j)) (tied_itself hash_cmp-IsTotalOrder (xorb_hash_of x))
 
-  not_before : (i j : ℕ) → j ≤ i → is_lt (start_cmp (chunk_of x i) (chunk_of x j)) ≡ false
+  pub not_before : (i j : ℕ) → j ≤ i → is_lt (start_cmp (chunk_of x i) (chunk_of x j)) ≡ false
   not_before i j after = ap is_lt (same_xorb i j) ∙ not_less (nat_cmp i j) (ranked i j _ refl)
     where
       not_less : (o : Ordering) → MatchOrdering o (i < j) (i ≡ j) (j < i) → is_lt o ≡ false

@@ -7,6 +7,6 @@
 //! what was made of them. `rewriting` copies each record of a shard in memory, and collects what the
 //! tables need of it.
 
-pub(super) mod keyed_chunks;
+pub(crate) mod keyed_chunks;
 pub(super) mod keyed_export;
 pub(crate) mod rewriting;

@@ -9,8 +9,8 @@ use xet_base::merklehash::{HMACKey, MerkleHash};
 use xet_records::rows::Rows;
 use xet_records::xorb_structs::{MDBXorbInfo, XorbChunkSequenceEntry};
 
-// The xorb with its chunk hashes under a key.
-pub(in crate::shard_format) fn with_keyed_hashes(xorb: MDBXorbInfo, key: HMACKey) -> MDBXorbInfo
+/// The xorb with its chunk hashes under a key; the key of zeros is none.
+pub fn with_keyed_hashes(xorb: MDBXorbInfo, key: HMACKey) -> MDBXorbInfo
     ensures { result ≡ keyed_xorb key xorb }
 {
     let MDBXorbInfo { metadata, chunks } = xorb;
