@@ -12,6 +12,7 @@ pub mod ChunkTableRows
 pub mod ChunkSorting
 pub mod WrittenTables
 pub mod Written
+pub mod Puts
 pub mod Copying
 pub mod Collecting
 pub mod Rewriting

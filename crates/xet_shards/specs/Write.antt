@@ -8,5 +8,7 @@ pub mod WithOptions
 pub mod WrittenShard
 pub mod Written
 pub mod WrittenLaws
+pub mod ShardEnd
+pub mod Puts
 pub mod Copying
 pub mod Unindexed

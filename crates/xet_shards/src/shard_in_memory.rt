@@ -36,6 +36,7 @@ mod xorb_store;
 
 use chunk_query::chunk_hash_dedup_query;
 use file_store::FileStore;
+pub use file_store::is_well_formed as is_well_formed_file;
 use std::alloc::Global;
 use std::collections::{BTreeMap, HashMap};
 use std::marker::Model;
@@ -50,7 +51,6 @@ use xet_records::file_structs::{FileDataSequenceEntry, MDBFileInfo};
 use xet_records::rows::{CHUNK_ROW_SIZE, EMPTY_SIZE, ROW_LIMIT, ROW_SIZE, START_ROW_SIZE};
 use xet_records::xorb_structs::MDBXorbInfo;
 use xorb_store::XorbStore;
-pub use file_store::is_well_formed as is_well_formed_file;
 pub use xorb_store::is_well_formed as is_well_formed_xorb;
 
 /// A shard in memory: file records and xorb records, each under its hash, and a lookup from the

@@ -9,9 +9,9 @@ pub use crate::shard_format::read::stored_section::{
     PlacedRecord, StoredSection, bytes_from, end_of_section, have_aux_rows, read_stored_section,
 };
 pub use crate::shard_format::read::stored_shard::{StoredShard, read_stored_shard};
+pub use crate::shard_format::write::shard_end::{ShardEnd, end_size, write_end};
 pub use crate::shard_format::write::unindexed::UnindexedShard;
 pub use crate::shard_format::write::view_writer::write_file_view;
-pub use crate::shard_format::write::writer::{end_size, write_end};
 pub use crate::shard_format::write::written::{
     WrittenFiles, WrittenSection, WrittenXorbs, collect_records,
 };

@@ -11,11 +11,12 @@
 //! They collect a `RecordTable` for each section, which is the number of its records, their rows
 //! and the bytes of their table; sums; and the rows of the chunk table, if it will be in. The
 //! export without a chunk table and `MDBMinimalShard` collect no rows of it
-//! (`WrittenXorbs::write_for`). `write_end` writes the tables that the `LayoutOptions` include, and
-//! the footer. It takes what was collected of the xorbs by value, and puts the rows of the chunk
-//! table in order (`row_order`). For that, free places are added behind the rows and taken off
-//! again. What is left is the chunk table by `sorted_with_free` in `proofs/Write/RowOrder.antt`:
-//! the table is the keys of a map, and has as many as there are rows, so no two rows tie.
+//! (`WrittenXorbs::write_for`). `ShardEnd::make` makes the tables that the `LayoutOptions` include,
+//! and the footer. It takes what was collected of the xorbs by value, and puts the rows of the
+//! chunk table in order (`row_order`). For that, free places are added behind the rows and taken
+//! off again. What is left is the chunk table by `sorted_with_free` in `proofs/Write/RowOrder.antt`:
+//! the table is the keys of a map, and has as many as there are rows, so no two rows tie. What was
+//! made is then written (`write_end`), or put into a slice, which cannot fail (`ShardEnd::put`).
 //!
 //! Header, sections and end are `layout_of` the records with these options (`whole_layout` in
 //! `proofs/Write/Written.antt`), and so `layout` where the options are plain. Writers without maps
@@ -27,6 +28,7 @@
 pub(super) mod file_writer;
 pub(super) mod record_table;
 pub(super) mod row_order;
+pub(crate) mod shard_end;
 pub(crate) mod unindexed;
 pub(crate) mod view_writer;
 pub(crate) mod writer;

@@ -1,6 +1,6 @@
 //! The last 200 bytes of a shard.
 
-ghost use Rattle.std.specs.Prelude.{◌≡◌, ◌≢◌, ◌⊎◌, ℕ, List, [], ◌∷◌, ◌++◌, Some, OnOk, IfOk, IfErr};
+ghost use Rattle.std.specs.Prelude.{◌≡◌, ◌≢◌, ◌⊎◌, ℕ, ◌+◌, ◌*◌, ◌≤◌, List, [], ◌∷◌, ◌++◌, length, take, drop, flat_map, Some, OnOk, IfOk, IfErr};
 ghost use Rattle.std.specs.Io.KnownBytes.{Appends, Consumes};
 ghost use Rattle.xet_base.specs.Bytes.{u64_bytes};
 ghost use Rattle.xet_base.specs.Errors.{IsBareShardVersion, IsDeviceError, IsWriteError};
@@ -11,9 +11,9 @@ use crate::shard_format::FOOTER_SIZE;
 use std::alloc::Global;
 use std::io::{Read, Write};
 use xet_base::error::{CoreError, Result};
-use xet_base::fields::{split_hash, split_u64, split_u64s};
+use xet_base::fields::{put_hash, put_u64, split_hash, split_u64, split_u64s};
 use xet_base::merklehash::HMACKey;
-use xet_base::serialization_utils::{read_bytes, write_hash, write_u64s};
+use xet_base::serialization_utils::{read_bytes, write_bytes};
 
 const MDB_SHARD_FOOTER_VERSION: u64 = 1;
 
@@ -73,14 +73,10 @@ impl Default for MDBShardFileFooter {
 }
 
 impl MDBShardFileFooter {
-    /// Writes the footer and returns 200, the number of bytes. The error is the writer's.
+    /// The bytes of the footer.
     #[tactic(auto, unfolding(crate::specs::Write::Layout::shard_footer_bytes))]
-    pub fn serialize<W: Write>(&self, writer: &mut W) -> Result<usize>
-        ensures bytes { OnOk result
-            (Appends (W.contents writer.old) (W.contents writer.new)
-            (shard_footer_bytes self.now)) }
-        ensures count { IfOk result (λ n. n ≡ 200) }
-        ensures causes { IfErr result IsWriteError }
+    pub fn to_bytes(&self) -> [u8; FOOTER_SIZE as usize]
+        ensures { result ≡ shard_footer_bytes self.now }
     {
         let offsets = [
             self.version,
@@ -93,20 +89,31 @@ impl MDBShardFileFooter {
             self.chunk_lookup_offset,
             self.chunk_lookup_num_entry,
         ];
-        write_u64s(writer, &offsets)?;
-        write_hash(writer, &self.chunk_hash_hmac_key)?;
-        write_u64s(
-            writer,
-            &[self.shard_creation_timestamp, self.shard_key_expiry],
-        )?;
-        write_u64s(writer, &self._buffer)?;
+        let timestamps = [self.shard_creation_timestamp, self.shard_key_expiry];
         let sums = [
             self.stored_bytes_on_disk,
             self.materialized_bytes,
             self.stored_bytes,
             self.footer_offset,
         ];
-        write_u64s(writer, &sums)?;
+        let mut bytes = [0u8; FOOTER_SIZE as usize];
+        let at = put_u64s(&mut bytes, 0, &offsets);
+        let at = put_hash(&mut bytes, at, &self.chunk_hash_hmac_key);
+        let at = put_u64s(&mut bytes, at, &timestamps);
+        let at = put_u64s(&mut bytes, at, &self._buffer);
+        put_u64s(&mut bytes, at, &sums);
+        bytes
+    }
+
+    /// Writes the footer and returns 200, the number of bytes. The error is the writer's.
+    pub fn serialize<W: Write>(&self, writer: &mut W) -> Result<usize>
+        ensures bytes { OnOk result
+            (Appends (W.contents writer.old) (W.contents writer.new)
+            (shard_footer_bytes self.now)) }
+        ensures count { IfOk result (λ n. n ≡ 200) }
+        ensures causes { IfErr result IsWriteError }
+    {
+        write_bytes(writer, &self.to_bytes())?;
         Ok(FOOTER_SIZE as usize)
     }
 
@@ -181,6 +188,21 @@ impl MDBShardFileFooter {
     {
         six_words(self._buffer);
     }
+}
+
+// Puts each number into a slice at an offset, as eight bytes, lowest first, and returns the offset
+// after them.
+fn put_u64s(out: &mut [u8], at: usize, values: &[u64]) -> usize
+    requires { at + 8 * length values.now ≤ length out.old }
+    ensures end { result ≡ at + 8 * length values.now }
+    ensures front { take result out.new ≡ take at out.old ++ flat_map u64_bytes values.now }
+    ensures rest { drop result out.new ≡ drop result out.old }
+{
+    let mut end = at;
+    for value in values {
+        end = put_u64(out, end, *value);
+    }
+    end
 }
 
 // The words of an array, as a tuple. Called for its contract alone, by which the array is six

@@ -16,7 +16,7 @@ use crate::shard_format::ends::info::MDBShardInfo;
 use crate::shard_format::ends::options::LayoutOptions;
 use crate::shard_format::read::stored_section::StoredSection;
 use crate::shard_format::read::stored_shard::StoredShard;
-use crate::shard_format::write::writer::write_end;
+use crate::shard_format::write::shard_end::write_end;
 use crate::shard_format::write::written::{WrittenFiles, WrittenSection, WrittenXorbs};
 use crate::shard_format::{CHUNK_ROW_SIZE, START_ROW_SIZE};
 use std::alloc::Global;

@@ -6,7 +6,7 @@ use Rattle.xet_shards.proofs.Write.Layouts.{length-file_section, length-xorb_sec
 use Rattle.xet_shards.proofs.Write.Tables.{length-starts}
 use Rattle.xet_shards.proofs.Write.Written.{rows_of_table, bytes_of_table}
 use Rattle.xet_shards.proofs.Write.XorbLayouts.{length-chunk_table, length-chunks_in, xorb_rows-chunks}
-use Rattle.xet_shards.proofs.shard_format.write.writer.footer_of.Goals as goal
+use Rattle.xet_shards.proofs.shard_format.write.shard_end.footer_of.Goals as goal
 
 pub returns-clause-value : goal.returns-clause-value
 returns-clause-value c = λ rs xs fit files xorbs.

@@ -4,7 +4,7 @@ use Rattle.std.proofs.KnownBytes.{Appends-trans}
 use Rattle.std.proofs.lemmas.List.{take-append-drop, drop-take, take-take, take_all}
 use Rattle.std.proofs.lemmas.List.Concat.{flat_map-append}
 use Rattle.xet_shards.specs.Write.Tables.{chunk_table_row_bytes}
-use Rattle.xet_shards.proofs.shard_format.write.writer.write_chunk_rows.Goals as goal
+use Rattle.xet_shards.proofs.shard_format.write.shard_end.write_chunk_rows.Goals as goal
 
 -- the first n + m elements are the first n and the m after them
 take_then : {X : Type 0} (xs : List X) (n m : ℕ) → take (n + m) xs ≡ take n xs ++ take m (drop n xs)
