@@ -1,0 +1,342 @@
+-- What byte strings that hold shards which agree pairwise, under one key, are merged to: the records of their join in the
+-- range.
+use Rattle.std.proofs.Common.{◌≡◌, inl, inr, ℕ, ◌<◌, true, List, [], ◌∷◌, ◌++◌, length, map, Ok, Err, refl, sym, ap, ◌∙◌, subst, arith, length-append, ◌≤◌, ◌/◌, Bor, get_or, take, drop}
+use Rattle.std.specs.Prelude.{All, Contains, MatchResult}
+use Rattle.std.specs.List.{AllZip}
+use Rattle.std.specs.FinMap.{FinMap, get, entries, values, get-entries}
+use Rattle.std.specs.declared.result.Result.{Result}
+use Rattle.std.proofs.lemmas.List.{length-map, length-take-le, map-append, take-append-drop}
+use Rattle.std.proofs.lemmas.List.Elements.{All-drop}
+use Rattle.xet_base.specs.declared.error.CoreError.{CoreError}
+use Rattle.xet_base.specs.declared.error.CoreError.TheVariants.{OutOfMemory}
+use Rattle.xet_base.specs.declared.merklehash.DataHash.{DataHash}
+use Rattle.xet_base.specs.Hash.{hash_cmp}
+use Rattle.xet_records.specs.RecordKind.{RecordKind}
+use Rattle.xet_records.specs.FileRecord.{file_records}
+use Rattle.xet_records.specs.XorbRecord.{xorb_records}
+use Rattle.xet_shards.specs.Content.Joining.{entry}
+use Rattle.xet_shards.specs.Content.Joins.{IsJoinOf, AgreePairwise}
+use Rattle.xet_shards.specs.Content.SetOperations.{IsUnion, ShardsAgree, RowsFitU32}
+use Rattle.xet_shards.specs.Content.Shard.{Shard, IsShard}
+use Rattle.xet_shards.specs.Write.Section.{total_rows}
+use Rattle.xet_shards.specs.declared.shard_format.ends.options.LayoutOptions.{LayoutOptions}
+use Rattle.xet_shards.proofs.Content.AgreeingJoins.{joins_exist, lists_agree, union-of_joins, agree_left, agree_right, fewer_if_more, union_is_shard}
+use Rattle.xet_shards.proofs.Content.Joins.{join-unique, join-one, follows_parts}
+use Rattle.xet_shards.proofs.Content.Overlays.{union_unique}
+use Rattle.xet_shards.proofs.Read.Zipped.{zipped_parts}
+use Rattle.xet_shards.proofs.Write.Sections.{files_fit, xorbs_fit}
+use Rattle.xet_shards.proofs.Write.WithOptions.{files_ascend, xorbs_ascend}
+use Rattle.std.proofs.lemmas.List.Elements.{Contains-append_left, Contains-append_right}
+use Rattle.xet_core_structures.specs.Records.ByteUnion.{IsEitherFile, IsEitherXorb, IsByteUnion}
+use Rattle.xet_core_structures.specs.Records.RecordPairs.{key_of_record, by_hash, with_hash}
+use Rattle.xet_core_structures.specs.Records.ShardContents.{HoldsShard, IsTruncated, IsMalformed}
+use Rattle.xet_core_structures.specs.Steps.ByteResults.{Records}
+use Rattle.xet_core_structures.specs.Trees.MergeTrees.{MergeRefused}
+use Rattle.xet_core_structures.specs.TwoShards.ByteResults.{keyed_options, key_of}
+use Rattle.xet_core_structures.proofs.Records.ByteUnions.{byte_union_is_union, union_is_byte_union, info_found, loads_well}
+use Rattle.xet_core_structures.proofs.Records.ListMaps.{values-list_map, get-list_map, combined_maps, shard_of, lists_hold}
+use Rattle.xet_core_structures.proofs.Records.ShardContents.{only_shard, held_whole, held_well}
+use Rattle.xet_core_structures.proofs.Trees.MappedJoins.{mapped_agree}
+use Rattle.placed_shards.specs.declared.range.HashRange.{HashRange}
+use Rattle.placed_shards.specs.declared.placed_shard.PlacedShard.{PlacedShard}
+use Rattle.placed_shards.specs.Content.{Content, content, AscendBoth, content_within}
+use Rattle.placed_shards.specs.Merging.{IsPartOf, merged_alone, AreHalves, IsMergeOf, MergeRefusal, IsRangeMergeOfList, shard_content}
+use Rattle.placed_shards.specs.Merging.IsMergeOf.{of_one, of_halves}
+use Rattle.placed_shards.specs.Merging.MergeRefusal.{no_memory, of_none, not_read, of_first, of_second, of_union}
+use Rattle.placed_shards.specs.Opening.{Opens, ShardRefusal}
+use Rattle.placed_shards.specs.Ranges.{is_within}
+use Rattle.placed_shards.specs.Steps.Merging.{IsMerged, IsOpenedAlone}
+use Rattle.placed_shards.specs.Unions.{IsUnionOf, UnionRefusal}
+use Rattle.placed_shards.proofs.Opening.{opened_ascend}
+use Rattle.placed_shards.proofs.Within.{those_ascend, part_of_lists, one_part, part_is_shard, part_of, part_of_is, part_of-preserves}
+
+-- the records of a shard, under their hashes
+module _ {H R : Type 0} (K : RecordKind H R) where
+  by_values : (es : List (DataHash × R)) → All (λ e. e.0 ≡ key_of_record K e.1) es → by_hash K (map (λ e. e.1) es) ≡ es
+  by_values [] all = refl
+  by_values (e ∷ es) all = λ i. (sym (all 0 e (omega arith)) i, e.1) ∷ by_values es (All-drop (λ (d : DataHash × R). d.0 ≡ key_of_record K d.1) 1 (e ∷ es) all) i
+
+  pub values_under : (m : FinMap hash_cmp R) → All (λ e. e.0 ≡ key_of_record K e.1) (entries m) → (q : DataHash) → with_hash K (values m) q ≡ get m q
+  values_under m keyed q = ap (λ (es : List (DataHash × R)). entry es q) (by_values (entries m) keyed) ∙ sym (get-entries m q)
+
+-- both halves of a list of two or more have something
+first_some : (inputs firsts seconds : List (List ℕ)) → AreHalves inputs firsts seconds → 0 < length firsts
+first_some inputs firsts seconds halves = omega (arith, halves.some, halves.half)
+
+second_some : (inputs firsts seconds : List (List ℕ)) → AreHalves inputs firsts seconds → 0 < length seconds
+second_some inputs firsts seconds halves = omega (arith, halves.some, halves.half, ap length halves.are, length-append firsts seconds)
+
+-- the shard of the records of both lists
+abbrev records_of : Content → Records
+records_of c = record { files = c.files; xorbs = c.xorbs }
+
+abbrev pub shard_in : Content → Shard
+shard_in c = shard_of (records_of c)
+
+-- records whose hashes ascend, those of this shard, with all tables, a key, creation 0 and no expiry
+pub record IsContentOf (key : DataHash) (s : Shard) (c : Content) : Type 0 where
+  pub shard : IsShard s
+  pub ascend : AscendBoth c
+  pub is : shard_in c ≡ s
+  pub options_are : c.options ≡ keyed_options key
+
+module _ (key : DataHash) where
+  pub content_is : (s : Shard) (c : Content) → IsContentOf key s c → c ≡ shard_content key s
+  content_is s c found =
+      let files = sym (values-list_map file_records c.files found.ascend.files) ∙ ap (λ (t : Shard). values t.files) found.is in
+      let xorbs = sym (values-list_map xorb_records c.xorbs found.ascend.xorbs) ∙ ap (λ (t : Shard). values t.xorbs) found.is in
+      λ i. record { files = files i; xorbs = xorbs i; options = found.options_are i }
+
+  -- one input
+  module _ (range : HashRange) where
+    abbrev HoldsPart : Shard → List ℕ → Type 0
+    HoldsPart t x = (s : Shard) × HoldsShard key s x × IsPartOf (is_within range) s t
+
+    pub within_ascend : (c : Content) → AscendBoth c → AscendBoth (content_within range c)
+    within_ascend c ascend = record {
+      files = those_ascend file_records (is_within range) c.files ascend.files;
+      xorbs = those_ascend xorb_records (is_within range) c.xorbs ascend.xorbs;
+    }
+
+    one_content : (t : Shard) (x : List ℕ) (c : Content) → HoldsPart t x → Opens x c → IsContentOf key t (merged_alone range c)
+    one_content t x c (s, held, part) opens =
+        let ascend = opened_ascend x c opens in
+        let whole = only_shard x s (shard_in c) held.has (record { info = opens.info; ends = opens.ends; holds = lists_hold x opens.info (records_of c) opens.lists }) in
+        let within = part_of_lists (is_within range) (records_of c) ascend.files ascend.xorbs in
+        record {
+          shard = part_is_shard (is_within range) s t part held.shard;
+          ascend = record { files = (within_ascend c ascend).files; xorbs = (within_ascend c ascend).xorbs };
+          is = one_part (is_within range) s (shard_in (merged_alone range c)) t (subst (λ w. IsPartOf (is_within range) w (shard_in (merged_alone range c))) whole within) part;
+          options_are = ap keyed_options (ap (λ o. o.key) opens.options_are ∙ ap key_of (info_found key s x held opens.info opens.ends) ∙ held.under);
+        }
+
+    one_read : (t : Shard) (x : List ℕ) (e : CoreError) → HoldsPart t x → ShardRefusal x e → e ≡ OutOfMemory
+    one_read t x e (s, held, part) (inl load) = absurd (loads_well key s x held e load)
+    one_read t x e (s, held, part) (inr (info, ends, inl none)) = none
+    one_read t x e (s, held, part) (inr (info, ends, inr (inl (end, cut)))) =
+        absurd (held_whole x held.has.info s held.has.holds (subst (IsTruncated x) (info_found key s x held info ends) cut))
+    one_read t x e (s, held, part) (inr (info, ends, inr (inr (invalid, bad)))) =
+        absurd (held_well x held.has.info s held.has.holds (subst (IsMalformed x) (info_found key s x held info ends) bad))
+
+  -- two halves
+  module _ (a b whole : Shard) (c d : Content) (first : IsContentOf key a c) (second : IsContentOf key b d) (agree : ShardsAgree a b) (union : IsUnion a b whole) where
+    united_content : (made : Content) → IsUnionOf c d made → IsContentOf key whole made
+    united_content made unites =
+        let bytes : IsByteUnion (shard_in c) (shard_in d) (shard_in made) = record {
+          files = combined_maps file_records IsEitherFile c.files d.files made.files first.ascend.files second.ascend.files unites.files.combined;
+          xorbs = combined_maps xorb_records IsEitherXorb c.xorbs d.xorbs made.xorbs first.ascend.xorbs second.ascend.xorbs unites.xorbs.combined;
+        } in
+        let moved = subst (λ p. p) (λ i. IsByteUnion (first.is i) (second.is i) (shard_in made)) bytes in
+        let same = union_unique a b (shard_in made) whole (byte_union_is_union a b (shard_in made) first.shard second.shard agree moved) union in
+        let few : RowsFitU32 (shard_in made) = record {
+          files = subst (λ rs. total_rows file_records rs ≤ 4294967295) (sym (values-list_map file_records made.files unites.files.combined.ascends)) unites.files.rows;
+          xorbs = subst (λ rs. total_rows xorb_records rs ≤ 4294967295) (sym (values-list_map xorb_records made.xorbs unites.xorbs.combined.ascends)) unites.xorbs.rows;
+        } in
+        record {
+          shard = union_is_shard a b whole first.shard second.shard agree union (subst RowsFitU32 same few);
+          ascend = record { files = unites.files.combined.ascends; xorbs = unites.xorbs.combined.ascends };
+          is = same;
+          options_are = unites.options_are ∙ ap (λ o. keyed_options o.key) first.options_are;
+        }
+
+    -- there is a union if the rows fit
+    file_under : (q : DataHash) (s : Shard) (u : Content) → IsContentOf key s u → with_hash file_records u.files q ≡ get s.files q
+    file_under q s u found = sym (get-list_map file_records u.files found.ascend.files q) ∙ ap (λ (t : Shard). get t.files q) found.is
+
+    xorb_under : (q : DataHash) (s : Shard) (u : Content) → IsContentOf key s u → with_hash xorb_records u.xorbs q ≡ get s.xorbs q
+    xorb_under q s u found = sym (get-list_map xorb_records u.xorbs found.ascend.xorbs q) ∙ ap (λ (t : Shard). get t.xorbs q) found.is
+
+    has_union : RowsFitU32 whole → IsUnionOf c d (record (shard_content key whole) { options = keyed_options c.options.key })
+    has_union few =
+        let shard = union_is_shard a b whole first.shard second.shard agree union few in
+        let made = union_is_byte_union a b whole first.shard second.shard agree union in
+        record {
+          same_key = ap (λ o. o.key) first.options_are ∙ sym (ap (λ o. o.key) second.options_are);
+          files = record {
+            combined = record {
+              ascends = files_ascend whole shard;
+              each = λ q. subst (λ p. p) (λ i. IsEitherFile (sym (file_under q a c first) i) (sym (file_under q b d second) i) (sym (values_under file_records whole.files shard.files.keyed q) i)) (made.files q);
+              stored = (files_fit whole shard).stored;
+            };
+            rows = few.files;
+          };
+          xorbs = record {
+            combined = record {
+              ascends = xorbs_ascend whole shard;
+              each = λ q. subst (λ p. p) (λ i. IsEitherXorb (sym (xorb_under q a c first) i) (sym (xorb_under q b d second) i) (sym (values_under xorb_records whole.xorbs shard.xorbs.keyed q) i)) (made.xorbs q);
+              stored = (xorbs_fit whole shard).stored;
+            };
+            rows = few.xorbs;
+          };
+          options_are = refl;
+        }
+
+    united_refused : (e : CoreError) → UnionRefusal c d e → MergeRefused whole e
+    united_refused e (inl none) = inl none
+    united_refused e (inr (inl (invalid, differ))) = absurd (differ (ap (λ o. o.key) first.options_are ∙ sym (ap (λ o. o.key) second.options_are)))
+    united_refused e (inr (inr (invalid, same, never))) = inr (invalid, λ few. never _ (has_union few))
+
+  -- lists of shards, each two of which agree
+  module _ (range : HashRange) where
+    abbrev HasPart : List ℕ → Shard → Type 0
+    HasPart x t = HoldsPart range t x
+
+    pub record AreParts (inputs : List (List ℕ)) (parts : List Shard) (join : Shard) : Type 0 where
+      pub held : AllZip HasPart inputs parts
+      pub agree : AgreePairwise (Contains parts)
+      pub is_join : IsJoinOf (Contains parts) join
+
+    -- both halves of such a list
+    record BothParts (firsts seconds : List (List ℕ)) (whole : Shard) : Type 0 where
+      ones : List Shard
+      others : List Shard
+      a : Shard
+      b : Shard
+      first : AreParts firsts ones a
+      second : AreParts seconds others b
+      agree : ShardsAgree a b
+      union : IsUnion a b whole
+      fewer_1 : RowsFitU32 whole → RowsFitU32 a
+      fewer_2 : RowsFitU32 whole → RowsFitU32 b
+
+    both_parts : (inputs firsts seconds : List (List ℕ)) (parts : List Shard) (whole : Shard) → AreHalves inputs firsts seconds → AreParts inputs parts whole → BothParts firsts seconds whole
+    both_parts inputs firsts seconds parts whole halves are =
+        let cut = zipped_parts HasPart firsts seconds parts (subst (λ l. AllZip HasPart l parts) halves.are are.held) in
+        let xs = cut.0 in
+        let ys = cut.1 in
+        let agree = subst (λ ss. AgreePairwise (Contains ss)) (sym cut.2) are.agree in
+        let is_join = subst (λ ss. IsJoinOf (Contains ss) whole) (sym cut.2) are.is_join in
+        let agree_1 = agree_left xs ys agree in
+        let agree_2 = agree_right xs ys agree in
+        let one = joins_exist xs agree_1 in
+        let other = joins_exist ys agree_2 in
+        record {
+          ones = xs;
+          others = ys;
+          a = one.0;
+          b = other.0;
+          first = record { held = cut.3; agree = agree_1; is_join = one.1 };
+          second = record { held = cut.4; agree = agree_2; is_join = other.1 };
+          agree = lists_agree xs ys one.0 other.0 one.1 other.1 agree;
+          union = union-of_joins xs ys one.0 other.0 one.1 other.1 agree whole is_join;
+          fewer_1 = fewer_if_more (Contains xs) (Contains (xs ++ ys)) one.0 whole one.1 is_join (λ s. Contains-append_left xs ys s);
+          fewer_2 = fewer_if_more (Contains ys) (Contains (xs ++ ys)) other.0 whole other.1 is_join (λ s. Contains-append_right xs ys s);
+        }
+
+    -- a list of one
+    only_part : (x : List ℕ) (parts : List Shard) (join : Shard) → AreParts (x ∷ []) parts join → HasPart x join
+    only_part x [] join are = absurd are.held
+    only_part x (t ∷ u ∷ us) join are = absurd are.held.1
+    only_part x (t ∷ []) join are =
+        let (s, held, part) = are.held.0 in
+        subst (HasPart x) (join-unique (Contains (t ∷ [])) t join (join-one t (follows_parts t (part_is_shard (is_within range) s t part held.shard))) are.is_join) are.held.0
+
+    pub merge_found : (inputs : List (List ℕ)) (made : Content) → IsMergeOf range inputs made → (parts : List Shard) (whole : Shard) → AreParts inputs parts whole → IsContentOf key whole made
+    merge_found inputs made (of_one x c is opens made_is) parts whole are =
+        subst (IsContentOf key whole) (sym made_is) (one_content range whole x c (only_part x parts whole (subst (λ l. AreParts l parts whole) is are)) opens)
+    merge_found inputs made (of_halves firsts seconds c d halves one other unites) parts whole are =
+        let both = both_parts inputs firsts seconds parts whole halves are in
+        united_content both.a both.b whole c d (merge_found firsts c one both.ones both.a both.first) (merge_found seconds d other both.others both.b both.second) both.agree both.union made unites
+
+    fewer : (part whole : Shard) (e : CoreError) → (RowsFitU32 whole → RowsFitU32 part) → MergeRefused part e → MergeRefused whole e
+    fewer part whole e less (inl none) = inl none
+    fewer part whole e less (inr (invalid, many)) = inr (invalid, λ few. many (less few))
+
+    pub merge_refused : (inputs : List (List ℕ)) (e : CoreError) → MergeRefusal range inputs e → 0 < length inputs → (parts : List Shard) (whole : Shard) → AreParts inputs parts whole → MergeRefused whole e
+    merge_refused inputs e (no_memory is) some parts whole are = inl is
+    merge_refused inputs e (of_none is invalid) some parts whole are = absurd (omega (arith, some, ap length is))
+    merge_refused inputs e (not_read x is refusal) some parts whole are = inl (one_read range whole x e (only_part x parts whole (subst (λ l. AreParts l parts whole) is are)) refusal)
+    merge_refused inputs e (of_first firsts seconds halves refusal) some parts whole are =
+        let both = both_parts inputs firsts seconds parts whole halves are in
+        fewer both.a whole e both.fewer_1 (merge_refused firsts e refusal (first_some inputs firsts seconds halves) both.ones both.a both.first)
+    merge_refused inputs e (of_second firsts seconds c halves one refusal) some parts whole are =
+        let both = both_parts inputs firsts seconds parts whole halves are in
+        fewer both.b whole e both.fewer_2 (merge_refused seconds e refusal (second_some inputs firsts seconds halves) both.others both.b both.second)
+    merge_refused inputs e (of_union firsts seconds c d halves one other refusal) some parts whole are =
+        let both = both_parts inputs firsts seconds parts whole halves are in
+        united_refused both.a both.b whole c d (merge_found firsts c one both.ones both.a both.first) (merge_found seconds d other both.others both.b both.second) both.agree both.union e refusal
+
+    -- inputs that hold shards that agree
+    module _ (inputs : List (List ℕ)) (shards : List Shard) (join part : Shard) (merge : IsRangeMergeOfList range key inputs shards join part) where
+      abbrev range_of : Shard → Shard
+      range_of = part_of (is_within range)
+
+      held_parts : (ss : List Shard) (xs : List (List ℕ)) → AllZip (HoldsShard key) ss xs → AllZip HasPart xs (map range_of ss)
+      held_parts [] [] all = tt
+      held_parts [] (x ∷ xs) all = absurd all
+      held_parts (s ∷ ss) [] all = absurd all
+      held_parts (s ∷ ss) (x ∷ xs) (here, rest) = ((s, here, part_of_is (is_within range) s), held_parts ss xs rest)
+
+      are_parts : AreParts inputs (map range_of shards) part
+      are_parts = record {
+        held = held_parts shards inputs merge.are_held;
+        agree = mapped_agree range_of (part_of-preserves (is_within range)) shards merge.agree;
+        is_join = subst (IsJoinOf (Contains (map range_of shards))) (one_part (is_within range) join (range_of join) part (part_of_is (is_within range) join) merge.is_part)
+            ((part_of-preserves (is_within range)).join shards join merge.is_join);
+      }
+
+      pub one_string : (result : Result PlacedShard CoreError) → MatchResult result (IsMerged range inputs) (MergeRefusal range inputs)
+          → MatchResult result (λ made. content made ≡ shard_content key part) (MergeRefused part)
+      one_string (Ok made) merged = content_is part (content made) (merge_found inputs (content made) merged.is (map range_of shards) part are_parts)
+      one_string (Err e) refusal = merge_refused inputs e refusal merge.some (map range_of shards) part are_parts
+
+-- what a merge gives, whatever its inputs hold
+module _ (range : HashRange) where
+  pub any_merge : (inputs : List (List ℕ)) (result : Result PlacedShard CoreError) → MatchResult result (IsMerged range inputs) (MergeRefusal range inputs)
+      → MatchResult result (λ made. (made.as_read ≡ true) × IsMergeOf range inputs (content made)) (MergeRefusal range inputs)
+  any_merge inputs (Ok made) merged = (merged.as_read, merged.is)
+  any_merge inputs (Err e) refusal = refusal
+
+  -- one input
+  pub alone : (inputs : List (List ℕ)) (x : List ℕ) → inputs ≡ x ∷ [] → (result : Result PlacedShard CoreError) → MatchResult result (IsOpenedAlone range x) (ShardRefusal x)
+      → MatchResult result (IsMerged range inputs) (MergeRefusal range inputs)
+  alone inputs x is (Ok made) opened = record { as_read = opened.as_read; ascend = opened.ascend; is = of_one x opened.opened is opened.opens opened.is }
+  alone inputs x is (Err e) refusal = not_read x is refusal
+
+  -- two halves
+  pub together : (inputs firsts seconds : List (List ℕ)) (one other : PlacedShard) → AreHalves inputs firsts seconds → IsMerged range firsts one → IsMerged range seconds other
+      → (result : Result PlacedShard CoreError) → MatchResult result (λ made. (made.as_read ≡ true) × IsUnionOf (content one) (content other) (content made)) (UnionRefusal (content one) (content other))
+      → MatchResult result (IsMerged range inputs) (MergeRefusal range inputs)
+  together inputs firsts seconds one other halves first second (Ok made) (read, unites) = record {
+    as_read = read;
+    ascend = record { files = unites.files.combined.ascends; xorbs = unites.xorbs.combined.ascends };
+    is = of_halves firsts seconds (content one) (content other) halves first.is second.is unites;
+  }
+  together inputs firsts seconds one other halves first second (Err e) refusal = of_union firsts seconds (content one) (content other) halves first.is second.is refusal
+
+  -- an input that was opened
+  pub opened_alone : (x : List ℕ) (c within : Content) (options : LayoutOptions) (made : PlacedShard) → Opens x c → within ≡ content_within range c → options ≡ keyed_options c.options.key
+      → content made ≡ record within { options = options } → made.as_read ≡ true → IsOpenedAlone range x made
+  opened_alone x c within options made opens within_is options_are is read =
+      let same : content made ≡ merged_alone range c = is ∙ (λ i. record (within_is i) { options = options_are i }) in
+      record {
+        as_read = read;
+        ascend = subst AscendBoth (sym same) (record {
+          files = those_ascend file_records (is_within range) c.files opens.lists.files.writable.ascends;
+          xorbs = those_ascend xorb_records (is_within range) c.xorbs opens.lists.xorbs.writable.ascends;
+        });
+        opened = c;
+        opens = opens;
+        is = same;
+      }
+
+-- the bytes that references to inputs refer to
+abbrev pub bytes_of : List (Bor (List ℕ)) → List (List ℕ)
+bytes_of xs = map (λ x. x.now) xs
+
+pub no_bytes : (xs : List (Bor (List ℕ))) → length xs ≡ 0 → bytes_of xs ≡ []
+no_bytes [] none = refl
+no_bytes (x ∷ xs) none = absurd (omega (arith, none))
+
+pub only_bytes : (xs : List (Bor (List ℕ))) (d : Bor (List ℕ)) → length xs ≡ 1 → bytes_of xs ≡ (get_or xs 0 d).now ∷ []
+only_bytes [] d one = absurd (omega (arith, one))
+only_bytes (x ∷ []) d one = refl
+only_bytes (x ∷ y ∷ ys) d one = absurd (omega (arith, one))
+
+pub halves_of : (xs firsts seconds : List (Bor (List ℕ))) → 1 < length xs → firsts ≡ take (length xs / 2) xs → seconds ≡ drop (length xs / 2) xs → AreHalves (bytes_of xs) (bytes_of firsts) (bytes_of seconds)
+halves_of xs firsts seconds some first_is second_is = record {
+  some = omega (arith, some, length-map xs (λ (x : Bor (List ℕ)). x.now));
+  are = ap bytes_of (sym (take-append-drop (length xs / 2) xs)) ∙ map-append (λ (x : Bor (List ℕ)). x.now) (take (length xs / 2) xs) (drop (length xs / 2) xs)
+      ∙ (λ i. bytes_of (sym first_is i) ++ bytes_of (sym second_is i));
+  half = length-map firsts (λ (x : Bor (List ℕ)). x.now) ∙ ap length first_is ∙ length-take-le (length xs / 2) xs (omega arith) ∙ ap (λ n. n / 2) (sym (length-map xs (λ (x : Bor (List ℕ)). x.now)));
+}

@@ -1,0 +1,14 @@
+pub mod Agreement
+pub mod Anew
+pub mod Content
+pub mod Filling
+pub mod Given
+pub mod Merging
+pub mod Opening
+pub mod Placed
+pub mod Ranges
+pub mod Records
+pub mod Sections
+pub mod Sets
+pub mod Steps
+pub mod Unions

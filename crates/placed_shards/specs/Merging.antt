@@ -1,0 +1,79 @@
+-- What a list of byte strings is merged to, in a range of hashes.
+use Rattle.std.specs.Prelude.{◌≡◌, ℕ, ◌/◌, ◌<◌, Bool, List, [], ◌∷◌, ◌++◌, length, Contains, None, if◌then◌else◌}
+use Rattle.std.specs.FinMap.{FinMap, get, values}
+use Rattle.std.specs.List.{AllZip}
+use Rattle.xet_base.specs.declared.error.CoreError.{CoreError}
+use Rattle.xet_base.specs.declared.error.CoreError.TheVariants.{InvalidArguments, OutOfMemory}
+use Rattle.xet_base.specs.declared.merklehash.DataHash.{DataHash}
+use Rattle.xet_base.specs.Hash.{hash_cmp}
+use Rattle.xet_shards.specs.Content.Joins.{IsJoinOf, AgreePairwise}
+use Rattle.xet_shards.specs.Content.Shard.{Shard}
+use Rattle.xet_core_structures.specs.Records.ShardContents.{HoldsShard}
+use Rattle.xet_core_structures.specs.TwoShards.ByteResults.{keyed_options}
+use Rattle.placed_shards.specs.declared.range.HashRange.{HashRange}
+use Rattle.placed_shards.specs.Content.{Content, content_within}
+use Rattle.placed_shards.specs.Opening.{Opens, ShardRefusal}
+use Rattle.placed_shards.specs.Ranges.{is_within}
+use Rattle.placed_shards.specs.Unions.{IsUnionOf, UnionRefusal}
+
+-- a map is the restriction of another to the hashes that pass a test
+abbrev pub IsRestriction : {X : Type 0} → (DataHash → Bool) → FinMap hash_cmp X → FinMap hash_cmp X → Type 0
+IsRestriction passes whole part = (q : DataHash) → get part q ≡ (if passes q then get whole q else None)
+
+-- a shard has the records of another whose hashes pass a test
+pub record IsPartOf (passes : DataHash → Bool) (whole part : Shard) : Type 0 where
+  pub files : IsRestriction passes whole.files part.files
+  pub xorbs : IsRestriction passes whole.xorbs part.xorbs
+
+-- the records of a shard that are in a range, with all tables, its key, creation 0 and no expiry
+abbrev pub merged_alone : HashRange → Content → Content
+merged_alone range c = record (content_within range c) { options = keyed_options c.options.key }
+
+-- a list of two or more, and both its halves
+pub record AreHalves (inputs firsts seconds : List (List ℕ)) : Type 0 where
+  pub some : 1 < length inputs
+  pub are : inputs ≡ firsts ++ seconds
+  pub half : length firsts ≡ length inputs / 2
+
+module _ (range : HashRange) where
+  -- what byte strings are merged to: one, to its records in the range; more, to the union of what
+  -- both halves of the list are merged to
+  pub data IsMergeOf : List (List ℕ) → Content → Type 0 where
+    of_one : {inputs : List (List ℕ)} {made : Content} (x : List ℕ) (c : Content)
+        → inputs ≡ x ∷ [] → Opens x c → made ≡ merged_alone range c → IsMergeOf inputs made
+    of_halves : {inputs : List (List ℕ)} {made : Content} (firsts seconds : List (List ℕ))
+        (c d : Content) → AreHalves inputs firsts seconds → IsMergeOf firsts c
+        → IsMergeOf seconds d → IsUnionOf c d made → IsMergeOf inputs made
+
+  -- why byte strings are not merged: an allocation failed; there are none; there is one, which no
+  -- shard is read from; or there are more, and the first half is not merged, or it is and the second
+  -- is not, or both are and have no union
+  pub data MergeRefusal : List (List ℕ) → CoreError → Type 0 where
+    no_memory : {inputs : List (List ℕ)} {e : CoreError} → e ≡ OutOfMemory → MergeRefusal inputs e
+    of_none : {inputs : List (List ℕ)} {e : CoreError} → inputs ≡ [] → e ≡ InvalidArguments
+        → MergeRefusal inputs e
+    not_read : {inputs : List (List ℕ)} {e : CoreError} (x : List ℕ) → inputs ≡ x ∷ []
+        → ShardRefusal x e → MergeRefusal inputs e
+    of_first : {inputs : List (List ℕ)} {e : CoreError} (firsts seconds : List (List ℕ))
+        → AreHalves inputs firsts seconds → MergeRefusal firsts e → MergeRefusal inputs e
+    of_second : {inputs : List (List ℕ)} {e : CoreError} (firsts seconds : List (List ℕ))
+        (c : Content) → AreHalves inputs firsts seconds → IsMergeOf firsts c
+        → MergeRefusal seconds e → MergeRefusal inputs e
+    of_union : {inputs : List (List ℕ)} {e : CoreError} (firsts seconds : List (List ℕ))
+        (c d : Content) → AreHalves inputs firsts seconds → IsMergeOf firsts c
+        → IsMergeOf seconds d → UnionRefusal c d e → MergeRefusal inputs e
+
+-- the byte strings, at least one, hold these well-formed shards under one key; each two of the
+-- shards agree, `join` is their join, and `part` has its records in a range
+pub record IsRangeMergeOfList (range : HashRange) (key : DataHash) (inputs : List (List ℕ)) (shards : List Shard)
+    (join part : Shard) : Type 0 where
+  pub some : 0 < length inputs
+  pub are_held : AllZip (HoldsShard key) shards inputs
+  pub agree : AgreePairwise (Contains shards)
+  pub is_join : IsJoinOf (Contains shards) join
+  pub is_part : IsPartOf (is_within range) join part
+
+-- the records of a shard, with all tables, a key, creation 0 and no expiry
+abbrev pub shard_content : DataHash → Shard → Content
+shard_content key s =
+    record { files = values s.files; xorbs = values s.xorbs; options = keyed_options key }

@@ -1,0 +1,35 @@
+//! Shards that are not written yet: the records of shards where they lie in memory, what is made of
+//! them, and their bytes.
+//!
+//! A `PlacedShard` has the bytes of each of its records, and the options of its layout. `open` makes
+//! one of bytes, `change` one of another, `unions` one of two, `merge` one of many, and `sink` writes
+//! one. So which records a shard has, in which version it is written, and to where, are three choices,
+//! made one by one.
+//!
+//! A record is its bytes, where they lie (`PlacedFile`, `PlacedXorb`), and contracts see the record
+//! that they are. What is the same for files and xorbs is written over `PlacedRecord`.
+#![tactic(auto)]
+
+pub mod anew;
+pub mod change;
+mod collecting;
+mod keys;
+mod marks;
+pub mod merge;
+mod next_record;
+pub mod of_agreeing;
+pub mod of_union;
+pub mod open;
+mod parts;
+pub mod placed_file;
+pub mod placed_record;
+pub mod placed_shard;
+pub mod placed_xorb;
+mod putting;
+pub mod range;
+pub mod records;
+mod section;
+pub mod sets;
+pub mod sink;
+pub mod unions;
+mod values;
