@@ -1,6 +1,7 @@
 /* Runs each call of bindings/c/xet.h on two shards with its 1st, 2nd .. allocation refused, until a run meets no
  * refusal: refused_calls FIRST SECOND. A refused call has to return XET_OUT_OF_MEMORY, write 0 to its count and leave
- * its other outputs. Link with -Wl,--wrap=malloc,--wrap=realloc. */
+ * its other outputs; or, since an arena that is refused a block asks for a smaller one, to do what it does without a
+ * refusal. Link with -Wl,--wrap=malloc,--wrap=realloc. */
 #include "xet.h"
 #include <stdio.h>
 #include <stdlib.h>
@@ -68,7 +69,7 @@ static union {
         xet_disagreement first;
         uint8_t bytes[ROOM];
     } agreeing;
-} out, before;
+} out, before, whole;
 /* The records of the first shard. */
 static xet_listed_file files[100];
 static xet_file_segment segments[1000];
@@ -230,15 +231,23 @@ int main(int words, char **names) {
         return 2;
     for (int number = 0; number < CALLS; number++) {
         long turn = 0;
+        size_t count_of_whole = 12345;
+        memset(&out, 0xaa, sizeof out);
+        before = out;
+        if (call(number, &count_of_whole) != XET_OK) {
+            printf("call %d fails without a refusal\n", number);
+            return 1;
+        }
+        whole = out;
         do {
             size_t count = 12345;
-            memset(&out, 0xaa, sizeof out);
-            before = out;
+            out = before;
             left = turn++, was_refused = false;
             uint32_t error = call(number, &count);
             left = -1;
             bool stays = count == 0 && memcmp(&out, &before, sizeof out) == 0;
-            if (was_refused ? error != XET_OUT_OF_MEMORY || !stays : error != XET_OK) {
+            bool is_whole = count == count_of_whole && memcmp(&out, &whole, sizeof out) == 0;
+            if (error == XET_OK ? !is_whole : !was_refused || error != XET_OUT_OF_MEMORY || !stays) {
                 printf("call %d, allocation %ld: %s, count %zu\n", number, turn, xet_error_name(error), count);
                 return 1;
             }

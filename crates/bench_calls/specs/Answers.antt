@@ -1,9 +1,11 @@
 -- What an operation answers, and how the caller gets it.
 use Rattle.std.specs.Prelude.{◌≡◌, ◌⊎◌, ℕ, ◌<◌, ◌≤◌, true, List, length, ◌++◌, drop, None}
 use Rattle.std.specs.Fn.{iterate}
-use Rattle.shard_bytes.specs.Combining.{IsResultOf, CombinesBytes}
+use Rattle.shard_bytes.specs.Combining.{CombinesTo}
 use Rattle.shard_bytes.specs.Exporting.{ExportsBytes}
 use Rattle.shard_bytes.specs.Minimal.{MinimalBytes}
+use Rattle.shard_bytes.specs.Versions.{IsWrittenIn}
+use Rattle.xet_core_structures.specs.declared.record_reader.FormatVersion.TheVariants.{V3}
 use Rattle.shard_bytes.specs.declared.export.Export.{Export}
 use Rattle.shard_bytes.specs.declared.combine.Operation.TheVariants.{Union as of_union, Difference as of_difference}
 use Rattle.xet_core_structures.specs.declared.merklehash.DataHash.{DataHash}
@@ -64,9 +66,9 @@ IsCount bytes = (count : ℕ) × (bytes ≡ to_le_bytes w64 count)
 
 -- an operation, done so often on two byte strings, with a key, answers with these bytes
 abbrev pub Answers : Operation → ℕ → (first second : List ℕ) → DataHash → List ℕ → Type 0
-Answers Union times first second key bytes = CombinesBytes (IsResultOf of_union) first second bytes
+Answers Union times first second key bytes = IsWrittenIn V3 (CombinesTo of_union first second) bytes
 Answers Difference times first second key bytes =
-    CombinesBytes (IsResultOf of_difference) first second bytes
+    IsWrittenIn V3 (CombinesTo of_difference first second) bytes
 Answers ExportAll times first second key bytes = ExportsBytes (whole_export key) first bytes
 Answers WriteMinimal times first second key bytes = MinimalBytes all_parts 0 first bytes
 Answers Serialize times first second key bytes = AreBytesOfSome bytes

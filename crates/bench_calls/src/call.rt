@@ -1,7 +1,9 @@
 //! One call of an operation.
 
 ghost use Rattle.std.specs.Prelude.{◌≡◌, List, ℕ, IfOk};
-ghost use Rattle.shard_bytes.specs.Combining.{IsResultOf, CombinesBytes};
+ghost use Rattle.xet_core_structures.specs.declared.record_reader.FormatVersion.TheVariants.{V3};
+ghost use Rattle.shard_bytes.specs.Combining.{CombinesTo};
+ghost use Rattle.shard_bytes.specs.Versions.{IsWrittenIn};
 ghost use Rattle.bench_calls.specs.Answers.{AreBytesOf, IsAnswerOf};
 
 use crate::answer::{Answer, shard_to_bytes};
@@ -18,6 +20,7 @@ use std::alloc::Global;
 use xet_core_structures::error::{CoreError, Result};
 use xet_core_structures::file_structs::KeptParts;
 use xet_core_structures::merklehash::{HMACKey, MerkleHash};
+use xet_core_structures::record_reader::FormatVersion;
 use xet_core_structures::shard_format::MDBShardInfo;
 use xet_core_structures::shard_in_memory::MDBInMemoryShard;
 
@@ -69,9 +72,16 @@ impl Call<'_> {
 
     fn combine(&self, combination: Combination) -> Result<Answer>
         ensures { IfOk result (λ answer. (bytes : List ℕ) → AreBytesOf answer bytes
-            → CombinesBytes (IsResultOf combination) self.now.first.now self.now.second.now bytes) }
+            → IsWrittenIn V3 (CombinesTo combination self.now.first.now self.now.second.now) bytes) }
     {
-        Ok(Answer::Bytes(combine_bytes(self.alloc, combination, self.first, self.second)?))
+        let bytes = combine_bytes(
+            self.alloc,
+            combination,
+            self.first,
+            self.second,
+            FormatVersion::V3,
+        )?;
+        Ok(Answer::Bytes(bytes))
     }
 
     // Writes the first shard with keyed chunk hashes, with files and all tables, created at 0.
@@ -90,7 +100,7 @@ impl Call<'_> {
                 chunk_table: true,
             },
         };
-        Ok(Answer::Bytes(export_bytes(self.alloc, self.first, &export)?))
+        Ok(Answer::Bytes(export_bytes(self.alloc, self.first, &export, FormatVersion::V3)?))
     }
 
     // Writes the first shard's minimal shard, with all rows, created at 0.
@@ -102,7 +112,7 @@ impl Call<'_> {
             verification: true,
             aux_ext: true,
         };
-        Ok(Answer::Bytes(minimal_bytes(self.alloc, self.first, 0, kept)?))
+        Ok(Answer::Bytes(minimal_bytes(self.alloc, self.first, 0, kept, FormatVersion::V3)?))
     }
 
     fn look_up(&self, operation: Operation, info: &MDBShardInfo) -> Result<Answer>

@@ -141,7 +141,7 @@ pub fn union_failure<'a>(alloc: Global, files: &[&'a str], inputs: &[&[u8]]) -> 
         }
         tried = pair;
         if let (Some(one), Some(other)) = (inputs.get(pair.0), inputs.get(pair.1))
-            && combine_bytes(alloc, Operation::Union, one, other).is_err()
+            && combine_bytes(alloc, Operation::Union, one, other, FormatVersion::V3).is_err()
         {
             return Failure {
                 subject: subject_of(files, disagreement),

@@ -16,11 +16,9 @@ use mdb_base::input_failure::combine_failure_in;
 use mdb_base::outputs::{bytes_in_file, put, sections_of};
 use mdb_base::request::{MakeCommand, NewExpiry, Target};
 use mdb_report::fault::{Fault, export_fault, fault_of, minimal_fault};
-use shard_bytes::combine::{Operation, combine_bytes_in};
-use shard_bytes::export::{Export, export_bytes_in};
-use shard_bytes::minimal::{
-    KeptXorbs, Subset, hashes_without_xorb, minimal_bytes_in, subset_bytes_in,
-};
+use shard_bytes::combine::{Operation, combine_bytes};
+use shard_bytes::export::{Export, export_bytes};
+use shard_bytes::minimal::{KeptXorbs, Subset, hashes_without_xorb, minimal_bytes, subset_bytes};
 use shard_files::files::STANDARD_STREAM;
 use std::alloc::Global;
 use std::rt::Files;
@@ -85,7 +83,7 @@ fn export_of_bytes<'a>(
         (RefusesExport export.entry.now bytes.now) e
         × IsExportFault export.entry.now bytes.now e failure.fault) }
 {
-    match export_bytes_in(alloc, bytes, export, target.version) {
+    match export_bytes(alloc, bytes, export, target.version) {
         Ok(out) => Ok(out),
         Err(error) => {
             let fault = export_fault(alloc, bytes, export, error);
@@ -132,7 +130,7 @@ fn minimal_of_bytes<'a>(
         (RefusesMinimalBytes kept bytes.now) e
         × IsMinimalFault kept bytes.now e failure.fault) }
 {
-    match minimal_bytes_in(alloc, bytes, now, kept, target.version) {
+    match minimal_bytes(alloc, bytes, now, kept, target.version) {
         Ok(out) => Ok(out),
         Err(error) => {
             let fault = minimal_fault(alloc, bytes, kept, error);
@@ -154,7 +152,7 @@ fn subset<'a, R: Files + Input + Eprint + AllocGlobal>(
         report_missing_xorb(rt, file, bytes.as_slice(), hashes.as_slice())?;
     }
     let bytes = bytes.as_slice();
-    let subset = match subset_bytes_in(alloc, bytes, kept, target.version) {
+    let subset = match subset_bytes(alloc, bytes, kept, target.version) {
         Ok(subset) => subset,
         Err(error) => return Err(Failure::on_file(file, fault_of(alloc, bytes, error))),
     };
@@ -194,7 +192,7 @@ fn combine_files<'a, R: Files + Input + AllocGlobal>(
     let one = bytes_in_file(rt, first)?;
     let other = bytes_in_file(rt, second)?;
     let inputs = [one.as_slice(), other.as_slice()];
-    match combine_bytes_in(alloc, operation, inputs[0], inputs[1], target.version) {
+    match combine_bytes(alloc, operation, inputs[0], inputs[1], target.version) {
         Ok(bytes) => Ok(bytes),
         Err(error) => Err(combine_failure_in(alloc, &[first, second], &inputs, target, error)),
     }

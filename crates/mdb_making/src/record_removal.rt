@@ -8,7 +8,7 @@ use mdb_base::request::{Removal, Target};
 use mdb_report::fault::{Fault, fault_of};
 use mdb_report::section::SectionReader;
 use shard_assembly::block::{put_bookend, put_footer};
-use shard_bytes::combine::{Operation, combine_bytes_in};
+use shard_bytes::combine::{Operation, combine_bytes};
 use shard_bytes::load::load_bytes;
 use std::alloc::Global;
 use std::rt::Files;
@@ -63,7 +63,7 @@ fn difference(
     version: FormatVersion,
 ) -> ShardResult<Vec<u8>> {
     let removed = hash_shard(alloc, hashes, key)?;
-    combine_bytes_in(
+    combine_bytes(
         alloc,
         Operation::Difference,
         removed.as_slice(),

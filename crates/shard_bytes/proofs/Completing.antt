@@ -1,5 +1,5 @@
 -- Bytes whose sections are written again with all tables hold the shard that follows their header.
-use Rattle.std.proofs.Common.{◌≡◌, inl, inr, ℕ, List, map, refl, sym, ap, ◌∙◌, subst, arith}
+use Rattle.std.proofs.Common.{◌≡◌, inl, inr, ℕ, List, length, map, refl, sym, ap, ◌∙◌, subst, arith}
 use Rattle.std.specs.FinMap.{values}
 use Rattle.std.proofs.lemmas.List.{map-id}
 use Rattle.xet_base.specs.Hash.{IsHash}
@@ -16,12 +16,16 @@ use Rattle.xet_core_structures.specs.WithOptions.{FitsSection}
 use Rattle.xet_core_structures.specs.XorbRecord.{xorb_records}
 use Rattle.xet_records.specs.declared.record_reader.FormatVersion.TheVariants.{V3}
 use Rattle.shard_merging.specs.InARow.{options_under}
+use Rattle.xet_shards.specs.Export.Rewriting.{HasSections}
 use Rattle.xet_shards.proofs.Export.Rewriting.{only_sections}
 use Rattle.xet_shards.proofs.Read.Readback.{file_section_in, xorb_section_in}
 use Rattle.xet_shards.proofs.Read.WholeSections.{layout_ends}
 use Rattle.xet_shards.proofs.Write.Sections.{fits_ever}
+use Rattle.placed_shards.specs.Content.{Content, content_layout}
 use Rattle.shard_bytes.specs.Completing.{Completes, RefusesCompletion}
 use Rattle.shard_bytes.specs.Exporting.{FollowsHeader}
+use Rattle.shard_bytes.specs.Sizes.{IsRewriteSize}
+use Rattle.shard_bytes.proofs.RewriteSizes.{size_of_version}
 use Rattle.shard_bytes.proofs.ExportedShards.{stored_files, stored_xorbs, sections, only_memory}
 
 -- a shard follows the header
@@ -55,3 +59,13 @@ module _ (s : Shard) (shard : IsShard s) (bytes : List ℕ) (follows : FollowsHe
   pub only_memory_lacks : (e : CoreError) → RefusesCompletion bytes e → e ≡ OutOfMemory
   only_memory_lacks e (inl is) = is
   only_memory_lacks e (inr (read, case)) = only_memory s bytes follows e read case
+
+-- what is written of the completed shard
+pub completes_made : (key : DataHash) (bytes : List ℕ) (made : Content) (out : List ℕ) → (files : List MDBFileInfo) × (xorbs : List MDBXorbInfo) × HasSections bytes files xorbs × (made ≡ record { files = files; xorbs = xorbs; options = options_under key })
+    → out ≡ content_layout V3 made → Completes key bytes out
+completes_made key bytes made out (files, xorbs, sections, made_is) is = record { files = files; xorbs = xorbs; sections = sections; written = is ∙ ap (content_layout V3) made_is }
+
+pub size_completed : (key : DataHash) (bytes out : List ℕ) → Completes key bytes out → IsRewriteSize bytes (length out)
+size_completed key bytes out c =
+    subst (λ (zs : List ℕ). IsRewriteSize bytes (length zs)) (sym c.written)
+    (size_of_version bytes c.sections.header.version c.files c.xorbs c.sections.file_section c.sections.xorb_section (options_under key))

@@ -1,6 +1,6 @@
 -- An export of bytes in which a shard follows the header holds the shard that is exported of it.
-use Rattle.std.proofs.Common.{◌≡◌, inl, inr, ℕ, ◌+◌, ◌^◌, ◌<◌, ◌≤◌, Bool, true, false, List, [], ◌∷◌, length, map, drop, Option, None, Some, Ok, Err, refl, sym, ap, ◌∙◌, subst, arith}
-use Rattle.std.specs.Prelude.{slice_get, option_to_list, MatchResult, IfErr}
+use Rattle.std.proofs.Common.{◌≡◌, inl, inr, ℕ, ◌+◌, ◌^◌, ◌<◌, ◌≤◌, Bool, true, false, List, [], ◌∷◌, length, map, drop, Option, None, Some, refl, sym, ap, ◌∙◌, subst, arith}
+use Rattle.std.specs.Prelude.{slice_get, option_to_list}
 use Rattle.std.specs.FinMap.{values}
 use Rattle.std.proofs.lemmas.List.{map-id}
 use Rattle.std.proofs.lemmas.List.Elements.{All-nil}
@@ -14,7 +14,7 @@ use Rattle.xet_core_structures.specs.declared.shard_format.MDBShardInfo.{MDBShar
 use Rattle.xet_core_structures.specs.TwoShards.ByteResults.{LoadRefusal}
 use Rattle.xet_core_structures.specs.Ends.{HasHeaderAndFooter}
 use Rattle.xet_core_structures.specs.Ends.FormatCase.{unsupported_format, too_few_bytes}
-use Rattle.xet_core_structures.specs.Errors.{CoreResult, IsWriteError}
+use Rattle.xet_core_structures.specs.Errors.{IsWriteError}
 use Rattle.xet_core_structures.specs.FileRecord.{as_read, file_records, file_records_in}
 use Rattle.xet_core_structures.specs.KeyedExport.{export_options, keyed_xorbs, xorbs_after, ExportCase}
 use Rattle.xet_core_structures.specs.KeyedExport.ExportCase.{no_sections, not_written}
@@ -210,10 +210,6 @@ module _ (s : Shard) (bytes : List ℕ) (follows : FollowsHeader s bytes) where
         absurd (keyed (ap (λ (i : MDBShardInfo). i.metadata.chunk_hash_hmac_key) (only_info bytes other info there ends) ∙ holds.under))
     only_out_of_memory e (inr (read, inr (other, there, inl (is, inr late)))) = absurd (omega (arith, fits, late))
     only_out_of_memory e (inr (read, inr (other, there, inr (can, case)))) = only_memory e read case
-
-    pub export_succeeds : {T : Type 0} (Is : T → Type 0) (result : CoreResult T) → MatchResult result Is (RefusesExport x bytes) → IfErr result (λ e. e ≡ OutOfMemory)
-    export_succeeds Is (Ok out) is = tt
-    export_succeeds Is (Err e) is = only_out_of_memory e is
 
 -- sections to which the footer leads follow the header, if its offsets say so
 pub follows_by_footer : (s : Shard) (bytes : List ℕ) (has : HasShard s bytes) → has.info.metadata.file_info_offset ≡ 48 → has.info.metadata.xorb_info_offset ≡ xorbs_after (values s.files) → FollowsHeader s bytes

@@ -1,10 +1,9 @@
 -- Concatenation in a version, by what shards in a row give.
-use Rattle.std.proofs.Common.{◌≡◌, ◌⊎◌, inl, inr, ℕ, ◌≤◌, ◌<◌, Bor, true, false, List, ◌++◌, length, map, take, drop, None, refl, sym, ap, ◌∙◌, subst, append-nil, true≢false, arith}
+use Rattle.std.proofs.Common.{◌≡◌, ◌⊎◌, inl, inr, ℕ, ◌≤◌, ◌<◌, Bor, true, false, List, length, map, None, refl, sym, ap, ◌∙◌, subst, true≢false, arith}
 use Rattle.std.specs.Prelude.{⊤, All}
 use Rattle.std.specs.List.{AllZip}
 use Rattle.std.specs.FinMap.{values}
-use Rattle.std.proofs.Math.Seq.{take-append_seam}
-use Rattle.std.proofs.lemmas.List.{drop_all, length-map}
+use Rattle.std.proofs.lemmas.List.{length-map}
 use Rattle.xet_base.specs.KeyedHash.{no_key}
 use Rattle.xet_core_structures.specs.declared.error.CoreError.{CoreError}
 use Rattle.xet_core_structures.specs.declared.error.CoreError.TheVariants.{InvalidArguments, OutOfMemory}
@@ -18,7 +17,6 @@ use Rattle.shard_merging.specs.InARow.{ShardPart, bytes_of_part, IsPartUnder, fi
 use Rattle.xet_core_structures.specs.Layout.{layout_of, plain_options}
 use Rattle.shard_merging.specs.Records.Ranges.{IsPartOf, is_within, ranges_between, AreCuts}
 use Rattle.xet_core_structures.specs.Shard.{Shard, IsShard}
-use Rattle.shard_merging.specs.Trees.Filling.{Fills}
 use Rattle.shard_merging.specs.Trees.RangeTrees.{IsHeldLayout}
 use Rattle.shard_merging.proofs.Trees.InVersions.{in_version_2}
 use Rattle.shard_merging.proofs.Trees.RangeParts.{ranges_concatenate}
@@ -63,24 +61,6 @@ concatenation_numbered V2 shards inputs parts bytes numbered none made is =
     let enough : 48 ≤ length bytes = omega (arith, ap length are, footer_last files xorbs (plain_options None)) in
     (made.all, made.row, made.is_bytes.shard, ap have_aux_rows (made.row.files ∙ sym parts.files_are) ∙ sym none, is enough ∙ in_version_2 files xorbs (plain_options None) bytes are)
 concatenation_numbered V3 shards inputs parts bytes numbered none made is = subst (IsConcatenation shards) (sym is) made
-
--- bytes are put to the front of themselves
-pub put_whole : (bytes : List ℕ) (size : ℕ) → size ≡ length bytes → Fills bytes bytes bytes size
-put_whole bytes size is = (is, inl (omega (arith, is), sym (ap (λ l. bytes ++ l) (drop_all size bytes (omega (arith, is))) ∙ append-nil bytes)))
-
--- so the same bytes with the number of a version are put there in their place
-pub whole_numbered : (version : FormatVersion) (bytes now new : List ℕ) (len size : ℕ) → now ≡ bytes → len ≡ length bytes → size ≡ length bytes
-    → ((put before : List ℕ) → Fills put before now size → (numbered : List ℕ) × IsNumberedIn version put numbered × Fills numbered before new size)
-    → IsNumberedIn version bytes (take len (new ++ drop (length new) bytes))
-whole_numbered version bytes now new len size now_is len_is size_is puts =
-    let (numbered, is, filled) = puts bytes bytes (subst (λ l. Fills bytes bytes l size) (sym now_is) (put_whole bytes size size_is)) in
-    let all = all_filled bytes new numbered size size_is filled in
-    let kept = ap (λ n. take n (new ++ drop (length new) bytes)) (len_is ∙ sym size_is ∙ filled.0 ∙ ap length (sym all)) ∙ take-append_seam new (drop (length new) bytes) in
-    subst (IsNumberedIn version bytes) (sym (kept ∙ all)) is
-  where
-    all_filled : (bytes new numbered : List ℕ) (size : ℕ) → size ≡ length bytes → Fills numbered bytes new size → new ≡ numbered
-    all_filled bytes new numbered size is (size_is, inl (fits, put)) = put ∙ ap (λ l. numbered ++ l) (drop_all size bytes (omega (arith, is))) ∙ append-nil numbered
-    all_filled bytes new numbered size is (size_is, inr (past, stays)) = absurd (omega (arith, past, is))
 
 -- a concatenation in a version, by what it gives
 module _ (version : FormatVersion) (shards : List (Bor (List ℕ))) (Gives : (List ℕ → Type 0) → (CoreError → Type 0) → Type 0) where

@@ -1,33 +1,23 @@
 -- What is made in a version of the format.
-use Rattle.std.proofs.Common.{◌≡◌, inl, inr, ℕ, ◌≤◌, true, false, List, [], length, drop, refl, sym, ap, ◌∙◌, subst, arith, true≢false}
+use Rattle.std.proofs.Common.{◌≡◌, inl, inr, ℕ, true, false, List, length, sym, ap, ◌∙◌, subst, true≢false}
 use Rattle.xet_core_structures.specs.declared.error.CoreError.{CoreError}
 use Rattle.xet_core_structures.specs.declared.error.CoreError.TheVariants.{InvalidArguments}
 use Rattle.xet_core_structures.specs.declared.file_structs.MDBFileInfo.{MDBFileInfo}
-use Rattle.xet_core_structures.specs.declared.merklehash.DataHash.{DataHash}
 use Rattle.xet_core_structures.specs.declared.xorb_structs.MDBXorbInfo.{MDBXorbInfo}
 use Rattle.xet_core_structures.specs.declared.set_operations.MergePlan.{MergePlan}
 use Rattle.shard_merging.specs.declared.merging.ranges.HashRange.{HashRange}
-use Rattle.xet_core_structures.specs.FileRecord.{file_records, file_records_in}
-use Rattle.xet_core_structures.specs.SectionReading.{IsSection}
-use Rattle.xet_core_structures.specs.WithOptions.{FitsSection}
 use Rattle.shard_merging.specs.Trees.InVersions.{AreInBothVersions, MadeIn, RefusedIn, TreeWritesIn, TreeRefusalIn}
 use Rattle.xet_core_structures.specs.Trees.MergeTrees.{TreeWrites, TreeRefusal}
 use Rattle.shard_merging.specs.Trees.RangeTrees.{RangeWrites, RangeRefusal}
-use Rattle.xet_core_structures.specs.Shard.{Shard}
-use Rattle.xet_core_structures.specs.TwoShards.ByteResults.{keyed_info, keyed_options}
-use Rattle.xet_core_structures.specs.TwoShards.Readable.{IsBytesUnderKey}
-use Rattle.xet_core_structures.proofs.Trees.TreeXorbs.{shard_under}
+use Rattle.xet_core_structures.specs.TwoShards.ByteResults.{keyed_options}
 use Rattle.shard_merging.proofs.Trees.InVersions.{in_version_2, has_header, number_keeps_size, made_as, refused_as, made_by_tree, refused_by_tree}
 use Rattle.xet_records.specs.declared.record_reader.FormatVersion.{FormatVersion}
 use Rattle.xet_records.specs.declared.record_reader.FormatVersion.TheVariants.{V2, V3}
 use Rattle.xet_shards.specs.declared.shard_writer.LayoutOptions.{LayoutOptions}
-use Rattle.xet_shards.proofs.Export.KeyedExport.{footer_last}
-use Rattle.xet_shards.proofs.Read.Readback.{file_section_in}
 use Rattle.std.specs.FinMap.{values}
-use Rattle.shard_bytes.specs.Steps.Versions.{IsLayoutWith, IsNumberedIn, has_new_files}
+use Rattle.shard_bytes.specs.Steps.Versions.{IsLayoutWith, has_new_files}
 use Rattle.shard_bytes.specs.Versions.{AreBytesIn3, LaidOutIn, NotLaidOutIn}
 use Rattle.shard_bytes.specs.Merging.{IsMergePlan, MergesBytes, RefusesMerge, MergesRange, RefusesRange}
-use Rattle.shard_bytes.proofs.AuxRows.{section_ever}
 use Rattle.shard_bytes.proofs.Merging.{plan_covers}
 
 -- bytes in both versions have one size
@@ -61,36 +51,6 @@ module _ (inputs : List (List ℕ)) (plan : MergePlan) (is_plan : IsMergePlan (l
   range_refused range =
       refused_as (RangeWrites range inputs plan) (MergesRange range inputs) (RangeRefusal range inputs plan) (RefusesRange range inputs) (λ bytes written. (plan, is_plan, written)) (λ e refusal. inr (inr (plan, is_plan, refusal))) version
 
--- bytes of a shard under a key, in a version
-module _ (key : DataHash) (s : Shard) (bytes : List ℕ) (under : IsBytesUnderKey key s bytes (keyed_info s key)) where
-  pub made_under : (version : FormatVersion) (out : List ℕ) → IsLayoutWith version (values s.files) (values s.xorbs) (keyed_options key) out → MadeIn version (λ made. made ≡ bytes) out
-  made_under V3 out (none, is) = is ∙ sym under.with_options.bytes_are
-  made_under V2 out (none, is) = (
-    bytes,
-    refl,
-    record {
-      shard = s;
-      key = key;
-      has = shard_under key s bytes (keyed_info s key) under;
-      bytes_are = under.with_options.bytes_are;
-      files = none;
-      out_is = is;
-    },
-  )
-
-  pub refused_under : (version : FormatVersion) (e : CoreError) → (e ≡ InvalidArguments) × (has_new_files version (values s.files) ≡ true) → RefusedIn version (λ made. made ≡ bytes) (λ e. ⊥) e
-  refused_under V3 e (invalid, some) = absurd (true≢false (sym some))
-  refused_under V2 e (invalid, some) =
-      inr (invalid, (bytes, refl, record { shard = s; has = shard_under key s bytes (keyed_info s key) under; files = λ none. true≢false (sym some ∙ none) }))
-
--- what is made of bytes that a call makes
-module _ (Makes : List ℕ → Type 0) (Refuses : CoreError → Type 0) (bytes : List ℕ) (makes : Makes bytes) (version : FormatVersion) where
-  pub made_of_known : (out : List ℕ) → MadeIn version (λ made. made ≡ bytes) out → MadeIn version Makes out
-  made_of_known = made_as (λ made. made ≡ bytes) Makes (λ e. ⊥) Refuses (λ made is. subst Makes (sym is) makes) (λ e none. absurd none) version
-
-  pub refused_of_known : (e : CoreError) → RefusedIn version (λ made. made ≡ bytes) (λ e. ⊥) e → RefusedIn version Makes Refuses e
-  refused_of_known = refused_as (λ made. made ≡ bytes) Makes (λ e. ⊥) Refuses (λ made is. subst Makes (sym is) makes) (λ e none. absurd none) version
-
 -- what is made of records that a call lays out
 module _ (Makes : List ℕ → Type 0) (Refuses : CoreError → Type 0) where
   pub not_laid_out_for : (version : FormatVersion) (e : CoreError) → Refuses e → NotLaidOutIn version Makes Refuses e
@@ -114,23 +74,3 @@ size_laid_out V2 Makes Says out says (bytes, makes, both) =
     subst Says
     (sym (ap length (both.in_2 ∙ sym (in_version_2 both.files both.xorbs both.options bytes are)) ∙ number_keeps_size bytes (has_header both.files both.xorbs both.options bytes are)))
     (says bytes makes)
-
--- bytes in version 3 hold their files after the header
-pub files_in_3 : (files : List MDBFileInfo) (xorbs : List MDBXorbInfo) (options : LayoutOptions) (bytes : List ℕ) → AreBytesIn3 files xorbs options bytes → IsSection file_records (drop 48 bytes) files
-files_in_3 files xorbs options bytes in_3 =
-    let fit : FitsSection (file_records_in V3) files = record { stored = in_3.fit.stored; rows = in_3.fit.rows } in
-    section_ever V3 (drop 48 bytes) files
-    (subst (λ bs. IsSection (file_records_in V3) (drop 48 bs) files) (sym in_3.bytes_are) (file_section_in files xorbs (record options { version = V3 }) fit))
-
--- and get the number of a version, which has the files
-pub numbered_layout : (version : FormatVersion) (files : List MDBFileInfo) (xorbs : List MDBXorbInfo) (options : LayoutOptions) (bytes out : List ℕ) → false ≡ has_new_files version files → AreBytesIn3 files xorbs options bytes
-    → IsNumberedIn version bytes out → IsLayoutWith version files xorbs options out
-numbered_layout V3 files xorbs options bytes out none in_3 is = (refl, is ∙ in_3.bytes_are)
-numbered_layout V2 files xorbs options bytes out none in_3 is =
-    let enough : 48 ≤ length bytes = omega (arith, ap length in_3.bytes_are, footer_last files xorbs (record options { version = V3 })) in
-    (sym none, is enough ∙ in_version_2 files xorbs options bytes in_3.bytes_are)
-
--- each version has no files
-pub never_too_new : (version : FormatVersion) → ¬ (has_new_files version [] ≡ true)
-never_too_new V3 some = true≢false (sym some)
-never_too_new V2 some = true≢false (sym some)

@@ -4,15 +4,16 @@ pub mod Checking
 pub mod ChunkRows
 pub mod Combining
 pub mod Completing
+pub mod Compositions
 pub mod CutOut
 pub mod CutTables
 pub mod EndsAlone
 pub mod Exclusive
 pub mod Expiring
 pub mod ExportedShards
-pub mod Exporting
 pub mod Formats
 pub mod Fronts
+pub mod GivenRecords
 pub mod InARow
 pub mod InVersions
 pub mod Inserting
@@ -21,6 +22,7 @@ pub mod Keeping
 pub mod Malformed
 pub mod MemoryErrors
 pub mod Merging
+pub mod MinimalCompositions
 pub mod MinimalSizes
 pub mod RangeReads
 pub mod Reading
@@ -33,7 +35,6 @@ pub mod RewriteSizes
 pub mod Searching
 pub mod Sizes
 pub mod TableParts
-pub mod Versions
 pub mod Walking
 pub mod Walks
 pub mod Whole

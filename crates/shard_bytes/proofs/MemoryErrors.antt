@@ -1,5 +1,5 @@
 -- Errors of calls on memory alone.
-use Rattle.std.proofs.Common.{◌≡◌, ◌⊎◌, inl, inr, ℕ, List, Option, Some, sym, ap, subst, arith}
+use Rattle.std.proofs.Common.{◌≡◌, ◌⊎◌, inl, inr, ℕ, List, sym, ap, subst, arith}
 use Rattle.xet_core_structures.specs.declared.error.CoreError.{CoreError}
 use Rattle.xet_core_structures.specs.declared.error.CoreError.TheVariants.{OutOfMemory, InvalidArguments, InvalidShard, ShardVersion}
 use Rattle.xet_core_structures.specs.TwoShards.ByteResults.{LoadRefusal}
@@ -12,20 +12,12 @@ use Rattle.xet_core_structures.specs.SectionReading.{SectionCase}
 use Rattle.xet_core_structures.specs.SectionReading.SectionCase.{not_read, passes_limit}
 use Rattle.xet_core_structures.specs.Source.ReadCase.{out_of_memory, out_of_bytes}
 use Rattle.xet_core_structures.specs.Source.{ReadCase}
-use Rattle.xet_core_structures.specs.MinimalCopying.{CopyingFails}
-use Rattle.shard_bytes.specs.Minimal.{RefusesMinimal}
 use Rattle.shard_bytes.specs.Outcomes.{InMemory}
 
 -- what an error becomes in memory has the error's cause, or is a failed allocation
 pub from_memory : (Cause : CoreError → Type 0) (e r : CoreError) → ((r ≡ OutOfMemory) × IsWriteError e) ⊎ ((r ≡ e) × (¬ IsWriteError e)) → (¬ IsWriteError e → Cause e) → InMemory Cause r
 from_memory Cause e r (inl (is, write)) cause = inl is
 from_memory Cause e r (inr (is, none)) cause = subst (InMemory Cause) (sym is) (inr (none, cause none))
-
--- a shard in memory was not copied, since it was not read, or the output has no memory
-pub not_copied : (bytes : List ℕ) (left : Option (List ℕ)) (e r : CoreError) → ((r ≡ OutOfMemory) × IsWriteError e) ⊎ ((r ≡ e) × (¬ IsWriteError e)) → CopyingFails (Some bytes) left e
-    → InMemory (RefusesMinimal bytes) r
-not_copied bytes left e r made (inl failed) = from_memory (RefusesMinimal bytes) e r made (λ _. (left, failed))
-not_copied bytes left e r made (inr write) = from_memory (RefusesMinimal bytes) e r made (λ none. absurd (none write))
 
 version_no_write : (e : CoreError) → IsShardVersion e → ¬ IsWriteError e
 version_no_write (ShardVersion text) is write = write.0

@@ -1,12 +1,11 @@
 -- What is known of the records of sections in memory, and of bytes that cannot be read.
-use Rattle.std.proofs.Common.{◌≡◌, inl, inr, ℕ, List, [], ◌∷◌, ◌||◌, map, drop, None, refl, ap, ◌∙◌, subst}
-use Rattle.std.specs.List.{AllZip, list_any}
+use Rattle.std.proofs.Common.{◌≡◌, inl, inr, ℕ, List, [], ◌∷◌, map, drop, None, refl, ap, ◌∙◌, subst}
+use Rattle.std.specs.List.{AllZip}
 use Rattle.xet_core_structures.specs.declared.error.CoreError.{CoreError}
 use Rattle.xet_core_structures.specs.declared.file_structs.FileDataSequenceHeader.{FileDataSequenceHeader}
-use Rattle.xet_core_structures.specs.declared.file_structs.MDBFileInfo.{MDBFileInfo}
 use Rattle.xet_core_structures.specs.declared.shard_format.MDBShardInfo.{MDBShardInfo}
 use Rattle.xet_core_structures.specs.Ends.{HasHeaderAndFooter}
-use Rattle.xet_core_structures.specs.FileRecord.{file_records, file_records_in, has_aux_ext}
+use Rattle.xet_core_structures.specs.FileRecord.{file_records, file_records_in}
 use Rattle.xet_core_structures.specs.KeyedExport.{xorbs_after, BadSection}
 use Rattle.xet_core_structures.specs.SectionReading.{IsRefusedSection, IsTruncatedSection}
 use Rattle.xet_core_structures.specs.Source.{Source}
@@ -20,7 +19,6 @@ use Rattle.shard_bytes.specs.declared.check.Section.TheVariants.{Files, Xorbs}
 use Rattle.shard_bytes.specs.declared.check.Finding.{Finding}
 use Rattle.shard_bytes.specs.declared.check.Finding.TheVariants.{Unsupported, TooShort}
 use Rattle.shard_bytes.specs.Steps.Checking.{IsReport, IsUnloaded, IsUnreadable, hashes_at}
-use Rattle.shard_bytes.specs.Versions.{have_aux_rows}
 use Rattle.shard_bytes.proofs.Checking.{header_in, one_finding, unread_reported}
 use Rattle.shard_bytes.proofs.Exclusive.{only_unsupported, only_too_short, only_cut_files, only_refused_files, only_cut_xorbs, only_refused_xorbs}
 
@@ -62,13 +60,3 @@ hashes_are {H} {R} K section rs stores = of_all section.records.items rs stores.
   of_all [] (r ∷ rs) places = absurd places
   of_all (p ∷ ps) [] places = absurd places
   of_all (p ∷ ps) (r ∷ rs) (here, others) = λ i. K.hash_of (here.header_is i) ∷ of_all ps rs others i
-
--- whether files have auxiliary rows, by their headers
-pub aux_rows_are : (section : StoredSection FileDataSequenceHeader) (rs : List MDBFileInfo) → StoresSection file_records section rs
-    → list_any (λ p. has_aux_ext p.header.file_flags) section.records.items ≡ have_aux_rows rs
-aux_rows_are section rs stores = of_all section.records.items rs stores.records where
-  of_all : (ps : List (PlacedRecord FileDataSequenceHeader)) (rs : List MDBFileInfo) → AllZip (StoresRecord file_records) ps rs → list_any (λ p. has_aux_ext p.header.file_flags) ps ≡ have_aux_rows rs
-  of_all [] [] places = refl
-  of_all [] (r ∷ rs) places = absurd places
-  of_all (p ∷ ps) [] places = absurd places
-  of_all (p ∷ ps) (r ∷ rs) (here, others) = λ i. has_aux_ext (here.header_is i).file_flags || of_all ps rs others i

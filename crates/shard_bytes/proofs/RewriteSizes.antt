@@ -58,11 +58,11 @@ if_included-fits false files fit = λ k r below. absurd (omega (arith, below))
 -- both sections of these records are in the bytes, one after the other
 module _ (bytes : List ℕ) (version : FormatVersion) (files : List MDBFileInfo) (xorbs : List MDBXorbInfo) (file_section : IsSection (file_records_in version) (drop 48 bytes) files)
     (xorb_section : IsSection xorb_records (drop (xorbs_after files) bytes) xorbs) where
-  rows_there : 48 * (total_rows file_records files + total_rows xorb_records xorbs + 3) ≤ length bytes
+  pub rows_there : 48 * (total_rows file_records files + total_rows xorb_records xorbs + 3) ≤ length bytes
   rows_there =
       omega (arith, length-drop (xorbs_after files) bytes, section_size xorb_records xorb_laws (drop (xorbs_after files) bytes) xorbs xorb_section)
 
-  files_fit : FitsSection file_records files
+  pub files_fit : FitsSection file_records files
   files_fit = fits_ever file_records version files (record { stored = file_section.records.are_stored; rows = file_section.records.rows })
 
   -- no more rows are written, and at most 16 bytes of tables for each

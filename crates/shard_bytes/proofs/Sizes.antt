@@ -16,12 +16,9 @@ use Rattle.shard_merging.specs.declared.merging.rows.SectionRows.{SectionRows}
 use Rattle.shard_merging.specs.Trees.RowTrees.{IsRowsOf, LeafWritesRows, RowsWrite}
 use Rattle.shard_merging.proofs.LawProofs.RangeSizes.{bytes_of_range, bytes_of_repeated_range}
 use Rattle.shard_merging.proofs.LawProofs.RowSizes.{bytes_of_rows, bytes_of_repeated_rows}
-use Rattle.xet_core_structures.proofs.LawProofs.UnionSizes.{bytes_of_union, bytes_of_tree, bytes_of_difference, bytes_of_repetition}
-use Rattle.shard_bytes.specs.declared.combine.Operation.{Operation}
-use Rattle.shard_bytes.specs.declared.combine.Operation.TheVariants.{Union, Difference}
-use Rattle.shard_bytes.specs.Combining.{IsResultOf, CombinesBytes}
+use Rattle.xet_core_structures.proofs.LawProofs.UnionSizes.{bytes_of_tree, bytes_of_repetition}
 use Rattle.shard_bytes.specs.Merging.{IsBalanced, IsMergePlan}
-use Rattle.shard_bytes.specs.Sizes.{IsResultSize, sources_of}
+use Rattle.shard_bytes.specs.Sizes.{IsResultSize}
 
 module _ {X : Type 0} where
   -- the sizes of so many lists from an index on
@@ -85,12 +82,6 @@ pub size_of_merge : (inputs : List (List ℕ)) (plan : MergePlan) (out : List �
 size_of_merge inputs = size_made inputs (LeafWrites inputs) (bytes_of_tree inputs) of_one where
   of_one : (x y out : List ℕ) → length inputs ≡ 1 → LeafWrites inputs 0 x → LeafWrites inputs 0 y → UnitesBytes x y out → 3 * length out ≤ 1032 + 8 * sum_by length inputs
   of_one x y out one x_is y_is unites = omega (arith, bytes_of_repetition x out (subst (λ z. UnitesBytes x z out) (same_item inputs x y x_is y_is) unites), only_input inputs x one x_is)
-
--- of two byte strings
-pub size_of_result : (operation : Operation) (x y out : List ℕ) → CombinesBytes (IsResultOf operation) x y out → IsResultSize (sources_of operation x y) (length out)
-size_of_result Union x y out unites = omega (arith, bytes_of_union x y out unites, sum_by-cons length x (y ∷ []), sum_by-cons length y [])
-size_of_result Difference x y out (i, j, c, x_ends, y_ends, result, is) =
-    omega (arith, ap length is, bytes_of_difference x y i j c x_ends y_ends result, sum_by-cons length y [])
 
 -- a range of a merge has no more bytes than a merge may have
 pub size_of_range : (range : HashRange) (inputs : List (List ℕ)) (plan : MergePlan) (out : List ℕ) → IsMergePlan (length inputs) plan → RangeWrites range inputs plan out → IsResultSize inputs (length out)

@@ -9,16 +9,45 @@ use Rattle.xet_core_structures.specs.declared.shard_format.MDBShardInfo.{MDBShar
 use Rattle.xet_core_structures.specs.Ends.{HasHeader, HasHeaderAndFooter}
 use Rattle.xet_core_structures.specs.FileRecord.{file_records_in}
 use Rattle.xet_core_structures.specs.XorbRecord.{xorb_records}
-use Rattle.xet_core_structures.specs.KeyedExport.{export_options, exported_bytes, xorbs_after, ExportCase, CannotExport}
+use Rattle.xet_core_structures.specs.KeyedExport.{export_options, exported_bytes, keyed_xorbs, xorbs_after, ExportCase, CannotExport}
 use Rattle.xet_core_structures.specs.KeyedShards.{keyed_shard}
+use Rattle.xet_core_structures.specs.Layout.{if_included}
 use Rattle.xet_core_structures.specs.Records.ShardContents.{HoldsShard, IsSectionOf}
 use Rattle.xet_core_structures.specs.SectionReading.{IsSection}
 use Rattle.xet_core_structures.specs.Shard.{Shard}
 use Rattle.xet_core_structures.specs.Trees.ExportTrees.{shard_with_aux_if}
 use Rattle.xet_core_structures.specs.View.{all_with_aux_if}
 use Rattle.xet_core_structures.specs.TwoShards.ByteResults.{LoadRefusal}
+use Rattle.placed_shards.specs.Content.{Content}
+use Rattle.xet_shards.specs.declared.shard_writer.LayoutOptions.{LayoutOptions}
+use Rattle.xet_shards.specs.Export.Rewriting.{HasSections}
 use Rattle.shard_bytes.specs.declared.export.Export.{Export}
 use Rattle.shard_bytes.specs.Outcomes.{InMemory}
+
+-- the layout options of an export
+abbrev pub options_of_export : Export → LayoutOptions
+options_of_export x =
+    export_options x.key x.now x.valid_seconds x.parts.files x.parts.xorb_table x.parts.chunk_table
+
+-- what an export is made of, of the files and xorbs of a shard
+abbrev pub exported_content : Export → List MDBFileInfo → List MDBXorbInfo → Content
+exported_content x files xorbs = record {
+  files = if_included x.parts.files (all_with_aux_if x.parts.aux_ext files);
+  xorbs = keyed_xorbs x.key xorbs;
+  options = options_of_export x;
+}
+
+-- the bytes have a footer with which the shard can be exported, a header and both sections, and this
+-- is made of what these hold
+pub record IsExportOf (x : Export) (bytes : List ℕ) (made : Content) : Type 0 where
+  pub info : MDBShardInfo
+  pub ends : HasHeaderAndFooter bytes info
+  -- the shard can be exported with this footer
+  pub can : ¬ CannotExport info x.now x.valid_seconds
+  pub files : List MDBFileInfo
+  pub xorbs : List MDBXorbInfo
+  pub sections : HasSections bytes files xorbs
+  pub made_is : made ≡ exported_content x files xorbs
 
 -- the bytes have a footer with which the shard can be exported, a header and both sections, and
 -- what these hold is written with the layout options that are asked for, with the files' auxiliary

@@ -6,11 +6,14 @@ use Rattle.xet_core_structures.specs.declared.error.CoreError.{CoreError}
 use Rattle.xet_core_structures.specs.declared.merklehash.DataHash.{DataHash}
 use Rattle.xet_core_structures.specs.declared.file_structs.KeptParts.{KeptParts}
 use Rattle.xet_core_structures.specs.declared.xorb_structs.MDBXorbInfo.{MDBXorbInfo}
+use Rattle.xet_core_structures.specs.KeyedExport.{ExportCase}
 use Rattle.xet_core_structures.specs.Layout.{layout_of}
 use Rattle.xet_core_structures.specs.MinimalReading.{ReadsMinimal, ReaderMinimalFails}
 use Rattle.xet_core_structures.specs.MinimalShard.{MinimalShard, mark_starts, is_start, minimal_options, eligible_hashes, IsKept}
 use Rattle.xet_core_structures.specs.Shard.{xorb_hash_of}
 use Rattle.xet_core_structures.specs.View.{as_kept, LacksVerification, IsIoOther}
+use Rattle.xet_shards.specs.Export.Rewriting.{HasSections}
+use Rattle.placed_shards.specs.Content.{Content}
 use Rattle.shard_bytes.specs.Outcomes.{InMemory}
 use Rattle.shard_bytes.specs.declared.minimal.KeptXorbs.{KeptXorbs}
 use Rattle.shard_bytes.specs.declared.minimal.KeptXorbs.TheVariants.{All as all_xorbs, Listed}
@@ -27,14 +30,30 @@ abbrev pub RefusesMinimal : List ℕ → CoreError → Type 0
 RefusesMinimal bytes e =
     (left : Option (List ℕ)) × ReaderMinimalFails true (Some bytes) left e
 
+-- the bytes begin with a header and the sections of these records
+abbrev pub HasRecordsOf : List ℕ → MinimalShard → Type 0
+HasRecordsOf bytes m = HasSections bytes m.files m.xorbs
+
 -- the bytes of the minimal shard, with these parts of its files, which have the verification rows
 -- that are wanted
 abbrev pub MinimalBytes : KeptParts → ℕ → List ℕ → List ℕ → Type 0
 MinimalBytes kept now bytes out =
-    (m : MinimalShard) × HoldsMinimal bytes m
+    (m : MinimalShard) × HasRecordsOf bytes m
     × (¬ Any (LacksVerification kept.verification) m.files)
     × (out ≡ layout_of (map (as_kept kept) m.files)
     (map (mark_starts (is_start m.files)) m.xorbs) (minimal_options now None))
+
+-- the minimal shard, with these parts of its files, which have the verification rows that are wanted,
+-- of the shard that the bytes hold behind their header
+abbrev pub IsMinimalOf : KeptParts → ℕ → List ℕ → Content → Type 0
+IsMinimalOf kept now bytes made =
+    (m : MinimalShard) × HasRecordsOf bytes m
+    × (¬ Any (LacksVerification kept.verification) m.files)
+    × (made ≡ record {
+      files = map (as_kept kept) m.files;
+      xorbs = map (mark_starts (is_start m.files)) m.xorbs;
+      options = minimal_options now None;
+    })
 
 -- whether a subset keeps a xorb of this hash
 abbrev pub Keeps : KeptXorbs → DataHash → Type 0
@@ -58,10 +77,21 @@ LackXorbs bytes hashes lacking =
 -- the bytes of a subset: no files, and the xorbs that it keeps
 abbrev pub SubsetBytes : Subset → List ℕ → List ℕ → Type 0
 SubsetBytes subset bytes out =
-    (m : MinimalShard) × (kept : List MDBXorbInfo) × HoldsMinimal bytes m
+    (m : MinimalShard) × (kept : List MDBXorbInfo) × HasRecordsOf bytes m
     × IsKept (λ x accepted. IsTrue accepted ↔ Keeps subset.kept (xorb_hash_of x)) m.xorbs kept
     × (out ≡ layout_of [] (map (mark_starts (is_start m.files)) kept)
     (minimal_options subset.now subset.expiry))
+
+-- a subset: no files, and the xorbs that it keeps
+abbrev pub IsSubsetOf : Subset → List ℕ → Content → Type 0
+IsSubsetOf subset bytes made =
+    (m : MinimalShard) × (kept : List MDBXorbInfo) × HasRecordsOf bytes m
+    × IsKept (λ x accepted. IsTrue accepted ↔ Keeps subset.kept (xorb_hash_of x)) m.xorbs kept
+    × (made ≡ record {
+      files = [];
+      xorbs = map (mark_starts (is_start m.files)) kept;
+      options = minimal_options subset.now subset.expiry;
+    })
 
 -- the hashes of the eligible chunks of the bytes
 abbrev pub EligibleIn : List ℕ → List DataHash → Type 0
@@ -71,10 +101,10 @@ EligibleIn bytes hashes =
 -- verification rows are to be kept, and a file of the shard that the bytes hold has none
 abbrev pub LacksRows : KeptParts → List ℕ → Type 0
 LacksRows kept bytes =
-    (m : MinimalShard) × HoldsMinimal bytes m × Any (LacksVerification kept.verification) m.files
+    (m : MinimalShard) × HasRecordsOf bytes m × Any (LacksVerification kept.verification) m.files
 
 -- why there is no minimal shard: an allocation failed, or the bytes are not read; or they are, and
 -- a file has none of the verification rows that are wanted
 abbrev pub RefusesMinimalBytes : KeptParts → List ℕ → CoreError → Type 0
 RefusesMinimalBytes kept bytes e =
-    InMemory (RefusesMinimal bytes) e ⊎ (IsIoOther e × LacksRows kept bytes)
+    InMemory (ExportCase bytes) e ⊎ (IsIoOther e × LacksRows kept bytes)

@@ -1,7 +1,5 @@
 -- Words that only contracts inside the crate and proofs speak of.
 
 pub mod Checking
-pub mod Exporting
-pub mod Minimal
 pub mod Versions
 pub mod Walking

@@ -1,4 +1,4 @@
--- What is made in a version of the format, and a shard's bytes in version 2, from those in either.
+-- What is made in a version of the format, and a shard's bytes in a version, from those in either.
 use Rattle.std.specs.Prelude.{◌≡◌, ◌⊎◌, ℕ, Bool, true, false, List}
 use Rattle.std.specs.List.{list_any}
 use Rattle.xet_core_structures.specs.declared.error.CoreError.{CoreError}
@@ -16,6 +16,7 @@ use Rattle.xet_records.specs.declared.record_reader.FormatVersion.{FormatVersion
 use Rattle.xet_records.specs.declared.record_reader.FormatVersion.TheVariants.{V2, V3}
 use Rattle.xet_shards.specs.declared.shard_writer.LayoutOptions.{LayoutOptions}
 use Rattle.xet_shards.specs.Export.Rewriting.{options_of}
+use Rattle.placed_shards.specs.Content.{Content, HasFilesIn, content_layout}
 use Rattle.shard_bytes.specs.Checking.{IsReadAs}
 use Rattle.shard_bytes.specs.Outcomes.{InMemory}
 
@@ -23,38 +24,44 @@ use Rattle.shard_bytes.specs.Outcomes.{InMemory}
 abbrev pub have_aux_rows : List MDBFileInfo → Bool
 have_aux_rows files = list_any (λ r. has_aux_ext r.metadata.file_flags) files
 
--- the layout options that header and footer name, in version 2
-abbrev pub options_in_2 : MDBShardInfo → LayoutOptions
-options_in_2 info = record (options_of info) { version = V2 }
+-- what is made is written in a version, which has its files, as these bytes
+abbrev pub IsWrittenIn : FormatVersion → (Content → Type 0) → List ℕ → Type 0
+IsWrittenIn version IsMade out =
+    (made : Content) × IsMade made × HasFilesIn version made × (out ≡ content_layout version made)
 
--- the bytes can be read, their files have no auxiliary rows, and these are the layout of the same
--- records in version 2
-pub record IsInVersion2 (bytes out : List ℕ) : Type 0 where
+-- why nothing is written in a version: nothing is made, or the version does not have a file of what
+-- is
+abbrev pub NotWrittenIn : FormatVersion → (Content → Type 0) → (CoreError → Type 0) → CoreError
+    → Type 0
+NotWrittenIn version IsMade Refuses e =
+    Refuses e
+    ⊎ ((e ≡ InvalidArguments) × ((made : Content) × IsMade made × (¬ HasFilesIn version made)))
+
+-- the bytes can be read, and this is the shard that they hold behind their header
+pub record IsSameShard (bytes : List ℕ) (made : Content) : Type 0 where
   pub info : MDBShardInfo
   pub files : List MDBFileInfo
   pub xorbs : List MDBXorbInfo
   pub read : IsReadAs bytes info files xorbs
-  pub none : have_aux_rows files ≡ false
-  pub written : out ≡ layout_of files xorbs (options_in_2 info)
+  pub made_is : made ≡ record { files = files; xorbs = xorbs; options = options_of info }
 
--- the bytes can be read, and a file has an auxiliary row
-abbrev pub HasAuxRows : List ℕ → Type 0
-HasAuxRows bytes =
-    (info : MDBShardInfo) × (files : List MDBFileInfo) × (xorbs : List MDBXorbInfo)
-    × IsReadAs bytes info files xorbs × (have_aux_rows files ≡ true)
+-- the bytes can be read, a version has their files, and these are the layout of the same records in
+-- the version
+abbrev pub IsInVersion : FormatVersion → List ℕ → List ℕ → Type 0
+IsInVersion version bytes = IsWrittenIn version (IsSameShard bytes)
 
--- why there are no bytes in version 2, apart from a failed allocation: header and footer are not
--- read; or they are, and then a section is not read, or a file has an auxiliary row
-abbrev pub NotInVersion2 : List ℕ → CoreError → Type 0
-NotInVersion2 bytes e =
-    LoadRefusal bytes e
-    ⊎ (((i : MDBShardInfo) × HasHeaderAndFooter bytes i × ExportCase bytes e)
-    ⊎ ((e ≡ InvalidArguments) × HasAuxRows bytes))
+-- why bytes in memory are not read again: an allocation failed; header and footer are not read; or
+-- they are, and then a section is not read
+abbrev pub RefusesSameShard : List ℕ → CoreError → Type 0
+RefusesSameShard bytes =
+    InMemory (λ e. LoadRefusal bytes e
+    ⊎ ((i : MDBShardInfo) × HasHeaderAndFooter bytes i × ExportCase bytes e))
 
--- why bytes in memory are not written in version 2: an allocation failed, header and footer are not
--- read, a section is not read, or a file has an auxiliary row
-abbrev pub RefusesVersion2 : List ℕ → CoreError → Type 0
-RefusesVersion2 bytes = InMemory (NotInVersion2 bytes)
+-- why bytes in memory are not written in a version: they are not read, or the version does not have
+-- a file
+abbrev pub RefusesVersion : FormatVersion → List ℕ → CoreError → Type 0
+RefusesVersion version bytes =
+    NotWrittenIn version (IsSameShard bytes) (RefusesSameShard bytes)
 
 -- the bytes are those of files and xorbs in version 3, and a file section may hold the files
 pub record AreBytesIn3 (files : List MDBFileInfo) (xorbs : List MDBXorbInfo) (options : LayoutOptions)

@@ -40,8 +40,8 @@ fn have_aux_rows(shards: &[&[u8]]) -> bool
     false
 }
 
-/// Whether a file of a shard has an auxiliary row.
-pub(crate) fn has_aux_rows(bytes: &[u8]) -> bool
+// Whether a file of a shard has an auxiliary row.
+fn has_aux_rows(bytes: &[u8]) -> bool
     ensures { (files : List MDBFileInfo) → IsSection file_records (drop 48 bytes.now) files
         → result ≡ have_aux_rows files }
 {

@@ -1,18 +1,25 @@
 //! Completes a shard whose bytes stop after its sections, as those of a stream that was cut.
 
-ghost use Rattle.std.specs.Prelude.{◌≡◌, length, IfOk, MatchResult};
+ghost use Rattle.std.specs.Prelude.{◌≡◌, List, length, IfOk, MatchResult};
 ghost use Rattle.xet_core_structures.specs.declared.error.CoreError.{CoreError};
+ghost use Rattle.placed_shards.specs.Content.{content};
+ghost use Rattle.shard_merging.specs.InARow.{options_under};
+ghost use Rattle.xet_core_structures.specs.declared.file_structs.MDBFileInfo.{MDBFileInfo};
+ghost use Rattle.xet_core_structures.specs.declared.xorb_structs.MDBXorbInfo.{MDBXorbInfo};
+ghost use Rattle.xet_shards.specs.Export.Rewriting.{HasSections};
 ghost use Rattle.xet_core_structures.specs.Records.ShardContents.{HoldsShard};
 ghost use Rattle.xet_core_structures.specs.Shard.{Shard, IsShard};
 ghost use Rattle.shard_bytes.specs.Completing.{Completes, RefusesCompletion};
 ghost use Rattle.shard_bytes.specs.Exporting.{FollowsHeader};
 ghost use Rattle.shard_bytes.specs.Sizes.{IsRewriteSize};
 
+use placed_shards::open::open_behind_header;
+use placed_shards::placed_shard::PlacedShard;
 use std::alloc::Global;
 use xet_core_structures::error::Result;
 use xet_core_structures::merklehash::HMACKey;
 use xet_core_structures::record_reader::FormatVersion;
-use xet_core_structures::shard_writer::{LayoutOptions, read_stored_shard, write_again};
+use xet_core_structures::shard_writer::LayoutOptions;
 
 /// The bytes of the shard of which these bytes have the header and both sections, whatever comes
 /// after these, if anything. It is in version 3, with all tables, creation 0 and no expiry, and its
@@ -30,16 +37,22 @@ pub fn complete_bytes(alloc: Global, bytes: &[u8], key: HMACKey) -> Result<Vec<u
         (λ e. e ≡ CoreError.OutOfMemory) }
     ensures size { IfOk result (λ whole. IsRewriteSize bytes.now (length whole.items)) }
 {
+    completed(alloc, bytes, key)?.to_bytes(alloc, FormatVersion::V3)
+}
+
+/// The shard of which these bytes have the header and both sections, with all tables, creation 0, no
+/// expiry, and its chunk hashes said to be under `key`. The errors are those of [`complete_bytes`].
+pub fn completed<'a>(alloc: Global, bytes: &'a [u8], key: HMACKey) -> Result<PlacedShard<'a>>
+    ensures { MatchResult result
+        (λ shard. (files : List MDBFileInfo) × (xorbs : List MDBXorbInfo)
+        × HasSections bytes.now files xorbs
+        × (content shard ≡ record { files = files; xorbs = xorbs; options = options_under key }))
+        (RefusesCompletion bytes.now) }
+{
+    let shard = open_behind_header(alloc, bytes)?;
     let options = LayoutOptions {
-        version: FormatVersion::V3,
-        file_table: true,
-        xorb_table: true,
-        chunk_table: true,
         key,
-        creation: 0,
-        expiry: u64::MAX,
+        ..shard.options
     };
-    let shard = read_stored_shard(alloc, bytes)?;
-    let (whole, _footer) = write_again(alloc, &shard, &options)?;
-    Ok(whole)
+    Ok(shard.with_options(options))
 }

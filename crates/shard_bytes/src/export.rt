@@ -1,30 +1,32 @@
 //! Exporting a shard under a key.
 
-ghost use Rattle.std.specs.Prelude.{◌≡◌, ◌⊎◌, ◌+◌, ◌^◌, ◌<◌, ℕ, List, length, IfOk, IfErr, IsErrAnd, MatchResult};
+ghost use Rattle.std.specs.Prelude.{◌≡◌, ◌+◌, ◌^◌, ◌<◌, ℕ, List, length, IfOk, IfErr, MatchResult};
 ghost use Rattle.std.specs.FinMap as finite;
 ghost use Rattle.xet_core_structures.specs.declared.error.CoreError.{CoreError};
 ghost use Rattle.xet_core_structures.specs.declared.merklehash.DataHash.{DataHash};
-ghost use Rattle.xet_core_structures.specs.KeyedExport.{ExportFails, CannotExport, xorbs_after};
+ghost use Rattle.xet_core_structures.specs.KeyedExport.{CannotExport, xorbs_after};
 ghost use Rattle.xet_core_structures.specs.Hash.{IsHash};
+ghost use Rattle.xet_core_structures.specs.Layout.{if_included};
 ghost use Rattle.xet_core_structures.specs.KeyedHash.{no_key};
 ghost use Rattle.xet_core_structures.specs.Records.ShardContents.{HasShard, HoldsShard};
 ghost use Rattle.xet_core_structures.specs.Shard.{Shard, IsShard};
 ghost use Rattle.shard_bytes.specs.Checking.{IsIntact};
-ghost use Rattle.shard_bytes.specs.Exporting.{ExportsBytes, RefusesExport, FollowsHeader, HoldsExport};
+ghost use Rattle.placed_shards.specs.Content.{content};
+ghost use Rattle.shard_bytes.specs.Exporting.{ExportsBytes, IsExportOf, RefusesExport, FollowsHeader, HoldsExport, options_of_export};
 ghost use Rattle.shard_bytes.specs.Sizes.{IsRewriteSize};
-ghost use Rattle.shard_bytes.specs.Steps.Exporting.{WritesExport};
 ghost use Rattle.shard_bytes.specs.Versions.{LaidOutIn, NotLaidOutIn};
 
-use crate::memory::in_memory;
-use crate::number::in_version;
-use crate::room::with_room;
+use crate::load::load_bytes;
+use bumpalo::Bump;
+use placed_shards::open::open_behind_header;
+use placed_shards::placed_shard::PlacedShard;
 use std::alloc::Global;
-use std::io::Write;
-use xet_core_structures::error::Result;
+use xet_core_structures::error::{CoreError, Result};
+use xet_core_structures::file_structs::KeptParts;
 use xet_core_structures::merklehash::HMACKey;
 use xet_core_structures::record_reader::FormatVersion;
 use xet_core_structures::shard_format::MDBShardInfo;
-use xet_core_structures::source::{MemorySource, ShardSource};
+use xet_core_structures::shard_writer::LayoutOptions;
 
 /// The key of an export, its times in seconds, and which parts it has.
 #[derive(Clone, Copy)]
@@ -45,38 +47,12 @@ pub struct ExportParts {
     pub chunk_table: bool,
 }
 
-/// The bytes of a keyed export of a shard, from its bytes: at most 344 and 4/3 of those.
+/// The bytes, in a version of the format, of a keyed export of a shard, from its bytes: at most 344
+/// and 4/3 of those.
 ///
-/// The errors are those of [`MDBShardInfo::load_from_reader`], and of
-/// [`MDBShardInfo::export_as_keyed_shard`] or
-/// [`MDBShardInfo::export_as_keyed_shard_without_aux`].
-pub fn export_bytes(alloc: Global, bytes: &[u8], export: &Export) -> Result<Vec<u8>>
-    ensures exported { MatchResult result
-        (λ exported. ExportsBytes export.entry.now bytes.now exported.items)
-        (RefusesExport export.entry.now bytes.now) }
-    ensures of_shard { (s : Shard) → IsShard s → FollowsHeader s bytes.now
-        → IfOk result (λ exported. HoldsExport export.entry.now s exported.items) }
-    ensures succeeds { (s : Shard) → HoldsShard no_key s bytes.now → FollowsHeader s bytes.now
-        → export.entry.now.now + export.entry.now.valid_seconds < 2 ^ 64
-        → IfErr result (λ e. e ≡ CoreError.OutOfMemory) }
-    ensures size { IfOk result (λ exported. IsRewriteSize bytes.now (length exported.items)) }
-{
-    let mut source = MemorySource::new(bytes);
-    let info = MDBShardInfo::load_from_reader(alloc, &mut source)?;
-    source.seek_to(0)?;
-    let mut exported = with_room(alloc, bytes.len())?;
-    match write_export(alloc, &info, &mut source, &mut exported, export) {
-        Ok(_) => Ok(exported),
-        Err(error) => Err(in_memory(error)),
-    }
-}
-
-/// The bytes of a keyed export of a shard in a version of the format, as [`export_bytes`] makes
-/// those in version 3.
-///
-/// `InvalidArguments` also if a file of the export has an auxiliary row, and the version is 2, which
-/// has none. Else the errors are the same.
-pub fn export_bytes_in(
+/// The errors are those of [`exported`]; `InvalidArguments` also if a file of the export has an
+/// auxiliary row, and the version is 2, which has none.
+pub fn export_bytes(
     alloc: Global,
     bytes: &[u8],
     export: &Export,
@@ -95,8 +71,77 @@ pub fn export_bytes_in(
         (λ e. e ≡ CoreError.OutOfMemory)) }
     ensures size { IfOk result (λ exported. IsRewriteSize bytes.now (length exported.items)) }
 {
-    let exported = export_bytes(alloc, bytes, export)?;
-    in_version(exported, version)
+    words_fit(export.key, export.now);
+    let arena = Bump::new(alloc);
+    exported(alloc, &arena, bytes, export)?.to_bytes(alloc, version)
+}
+
+// Does nothing. It says that the words of a key and a time have 64 bits.
+fn words_fit(key: HMACKey, now: u64)
+    ensures key { IsHash key }
+    ensures now { now < 2 ^ 64 }
+{}
+
+/// The shard that is exported of a shard, from its bytes: with its chunk hashes under a key, its
+/// files with those of their parts and the tables that are asked for, and times.
+///
+/// `InvalidArguments` if the shard has a key already, or the expiry does not fit 64 bits. Else the
+/// errors are those of [`MDBShardInfo::load_from_reader`], and of reading header and sections.
+pub fn exported<'a>(
+    alloc: Global,
+    arena: &'a Bump,
+    bytes: &'a [u8],
+    export: &Export,
+) -> Result<PlacedShard<'a>>
+    ensures { MatchResult result
+        (λ shard. IsExportOf export.entry.now bytes.now (content shard))
+        (RefusesExport export.entry.now bytes.now) }
+{
+    let info = load_bytes(alloc, bytes)?;
+    let options = export_options(&info, export)?;
+    let shard = open_behind_header(alloc, bytes)?.with_options(options);
+    let kept = KeptParts {
+        aux_ext: export.parts.aux_ext,
+        ..KeptParts::ALL
+    };
+    let shard = with_files_if(shard, export.parts.files).with_parts(arena, kept)?;
+    shard.with_keyed_hashes(alloc, arena, export.key)
+}
+
+// The shard with its files or without.
+fn with_files_if<'a>(shard: PlacedShard<'a>, wanted: bool) -> PlacedShard<'a>
+    ensures content { content result ≡ record (content shard.entry) {
+      files = if_included wanted (content shard.entry).files;
+    } }
+    ensures as_read { result.as_read ≡ shard.entry.as_read }
+{
+    if wanted { shard } else { shard.without_files() }
+}
+
+// The layout options of an export of a shard with this footer.
+fn export_options(info: &MDBShardInfo, export: &Export) -> Result<LayoutOptions>
+    ensures { MatchResult result
+        (λ options. (options ≡ options_of_export export.entry.now)
+        × (¬ CannotExport info.now export.entry.now.now export.entry.now.valid_seconds))
+        (λ e. (e ≡ CoreError.InvalidArguments)
+        × CannotExport info.now export.entry.now.now export.entry.now.valid_seconds) }
+{
+    if info.chunk_hashes_protected() {
+        return Err(CoreError::InvalidArguments);
+    }
+    let Some(expiry) = export.now.checked_add(export.valid_seconds) else {
+        return Err(CoreError::InvalidArguments);
+    };
+    let parts = export.parts;
+    Ok(LayoutOptions {
+        version: FormatVersion::V3,
+        file_table: parts.files,
+        xorb_table: parts.xorb_table,
+        chunk_table: parts.chunk_table,
+        key: export.key,
+        creation: export.now,
+        expiry,
+    })
 }
 
 /// Does nothing. Its contract says what a shard's export holds, of any bytes in which the shard
@@ -118,47 +163,3 @@ pub fn exports_hold_the_shard()
     ensures intact { (bytes : List ℕ) → IsIntact bytes
         → (key : DataHash) × (s : Shard) × HoldsShard key s bytes × FollowsHeader s bytes }
 {}
-
-fn write_export<S: ShardSource, W: Write>(
-    alloc: Global,
-    info: &MDBShardInfo,
-    source: &mut S,
-    writer: &mut W,
-    export: &Export,
-) -> Result<usize>
-    ensures made { MatchResult result
-        (WritesExport export.entry.now (S.meaning source.old) (S.meaning source.new)
-        (W.contents writer.old) (W.contents writer.new))
-        (λ e. ((e ≡ CoreError.InvalidArguments)
-        × CannotExport info.now export.entry.now.now export.entry.now.valid_seconds)
-        ⊎ ExportFails (S.meaning source.old) (S.meaning source.new) e) }
-    ensures refused { CannotExport info.now export.entry.now.now export.entry.now.valid_seconds
-        → IsErrAnd result (λ e. e ≡ CoreError.InvalidArguments) }
-{
-    let parts = export.parts;
-    if parts.aux_ext {
-        info.export_as_keyed_shard(
-            alloc,
-            source,
-            writer,
-            export.key,
-            export.now,
-            export.valid_seconds,
-            parts.files,
-            parts.xorb_table,
-            parts.chunk_table,
-        )
-    } else {
-        info.export_as_keyed_shard_without_aux(
-            alloc,
-            source,
-            writer,
-            export.key,
-            export.now,
-            export.valid_seconds,
-            parts.files,
-            parts.xorb_table,
-            parts.chunk_table,
-        )
-    }
-}

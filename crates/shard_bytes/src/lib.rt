@@ -21,7 +21,6 @@ mod number;
 pub mod parts;
 pub mod query;
 pub mod records;
-mod room;
 pub mod rows;
 pub mod version;
 pub mod walk;

@@ -1,61 +1,40 @@
 //! Minimal shards, subsets of xorbs, and the chunks that the global index keeps.
 
-ghost use Rattle.std.specs.Prelude.{◌≡◌, ◌⊎◌, ◌↔◌, length, IfOk, IsTrue, MatchResult, map};
+ghost use Rattle.std.specs.Prelude.{◌≡◌, ◌⊎◌, ◌↔◌, true, length, IfOk, IsTrue, MatchResult, map};
+ghost use Rattle.std.specs.List.{Any};
+ghost use Rattle.xet_core_structures.specs.declared.error.CoreError.{CoreError};
+ghost use Rattle.xet_core_structures.specs.KeyedExport.{ExportCase};
+ghost use Rattle.xet_core_structures.specs.MinimalShard.{minimal_options, IsKept};
 ghost use Rattle.xet_core_structures.specs.Shard.{xorb_hash_of};
-ghost use Rattle.shard_bytes.specs.Minimal.{RefusesMinimal, MinimalBytes, RefusesMinimalBytes, AreLacked, LackXorbs, SubsetBytes, EligibleIn};
-ghost use Rattle.shard_bytes.specs.Steps.Minimal.{FiltersAs, Accepts};
+ghost use Rattle.xet_core_structures.specs.View.{LacksVerification};
+ghost use Rattle.placed_shards.specs.Anew.{HasInstead};
+ghost use Rattle.placed_shards.specs.Content.{content};
+ghost use Rattle.shard_bytes.specs.Minimal.{RefusesMinimal, MinimalBytes, IsMinimalOf, RefusesMinimalBytes, Keeps, AreLacked, LackXorbs, SubsetBytes, IsSubsetOf, EligibleIn};
 ghost use Rattle.shard_bytes.specs.Outcomes.{InMemory};
 ghost use Rattle.shard_bytes.specs.Sizes.{IsMinimalSize};
 ghost use Rattle.shard_bytes.specs.Versions.{LaidOutIn, NotLaidOutIn};
 
 use crate::memory::in_memory;
-use crate::number::in_version;
-use crate::room::with_room;
+use bumpalo::Bump;
+use placed_shards::open::open_behind_header;
+use placed_shards::placed_file::PlacedFile;
+use placed_shards::placed_record::PlacedRecord;
+use placed_shards::placed_shard::PlacedShard;
 use std::alloc::{AllocError, Global};
 use std::io::{self, ErrorKind};
 use xet_core_structures::error::{CoreError, Result};
 use xet_core_structures::file_structs::KeptParts;
-use xet_core_structures::merklehash::MerkleHash;
+use xet_core_structures::merklehash::{HMACKey, MerkleHash};
 use xet_core_structures::record_reader::FormatVersion;
+use xet_core_structures::shard_writer::LayoutOptions;
 use xet_core_structures::sorted_hashes::SortedHashes;
 use xet_core_structures::streaming_shard::MDBMinimalShard;
-use xet_core_structures::xorb_structs::MDBXorbInfoView;
 
 /// The xorbs that a subset keeps.
 #[derive(Drop)]
 pub enum KeptXorbs {
     All,
     Listed(Vec<MerkleHash>),
-}
-
-// The xorbs that a subset keeps, with the listed hashes in order for searches.
-#[derive(Drop)]
-enum Filter {
-    All,
-    Listed(SortedHashes),
-}
-
-impl Filter {
-    fn new(alloc: Global, kept: &KeptXorbs) -> std::result::Result<Filter, AllocError>
-        ensures { IfOk result (λ filter. FiltersAs kept.now filter) }
-    {
-        match kept {
-            KeptXorbs::All => Ok(Filter::All),
-            KeptXorbs::Listed(hashes) => {
-                let hashes = Vec::from_slice(alloc, hashes.as_slice())?;
-                Ok(Filter::Listed(SortedHashes::of(hashes)))
-            }
-        }
-    }
-
-    fn accepts(&self, hash: &MerkleHash) -> bool
-        ensures { IsTrue result ↔ Accepts self.now hash.now }
-    {
-        match self {
-            Filter::All => true,
-            Filter::Listed(hashes) => hashes.contains(hash),
-        }
-    }
 }
 
 /// The times of a subset in seconds, and the xorbs that it keeps.
@@ -66,35 +45,12 @@ pub struct Subset {
     pub kept: KeptXorbs,
 }
 
-/// The bytes of the minimal shard of a shard, with these parts of its files, from its bytes: at
-/// most 200 more.
+/// The bytes, in a version of the format, of the minimal shard of a shard, with these parts of its
+/// files, from its bytes: at most 200 more.
 ///
-/// The errors are those of [`MDBMinimalShard::from_reader`]; `Io` of kind `Other` if verification
-/// rows are to be kept and a file has none; `OutOfMemory` if an allocation fails.
-pub fn minimal_bytes(alloc: Global, bytes: &[u8], now: u64, kept: KeptParts) -> Result<Vec<u8>>
-    ensures minimal { MatchResult result (λ minimal. MinimalBytes kept now bytes.now minimal.items)
-        (RefusesMinimalBytes kept bytes.now) }
-    ensures size { IfOk result (λ minimal. IsMinimalSize bytes.now (length minimal.items)) }
-{
-    let mut reader = bytes;
-    let mut minimal = with_room(alloc, bytes.len())?;
-    match MDBMinimalShard::copy_from_reader(alloc, &mut reader, &mut minimal, now, kept) {
-        Ok(lacks_verification) => {
-            if kept.verification && lacks_verification {
-                return Err(CoreError::Io(io::Error::from(ErrorKind::Other)));
-            }
-            Ok(minimal)
-        }
-        Err(error) => Err(in_memory(error)),
-    }
-}
-
-/// The bytes of the minimal shard of a shard in a version of the format, as [`minimal_bytes`] makes
-/// those in version 3.
-///
-/// `InvalidArguments` if a file would have an auxiliary row, and the version is 2, which has none.
-/// Else the errors are the same.
-pub fn minimal_bytes_in(
+/// The errors are those of [`minimal`]; `InvalidArguments` also if a file has an auxiliary row, and
+/// the version is 2, which has none.
+pub fn minimal_bytes(
     alloc: Global,
     bytes: &[u8],
     now: u64,
@@ -107,54 +63,113 @@ pub fn minimal_bytes_in(
         (RefusesMinimalBytes kept bytes.now)) }
     ensures size { IfOk result (λ minimal. IsMinimalSize bytes.now (length minimal.items)) }
 {
-    let minimal = minimal_bytes(alloc, bytes, now, kept)?;
-    in_version(minimal, version)
+    let arena = Bump::new(alloc);
+    minimal(alloc, &arena, bytes, now, kept)?.to_bytes(alloc, version)
 }
 
-/// The bytes of a shard with some of the xorbs and none of the files of a shard, from its bytes: at
-/// most 200 more. The listed hashes may be in any order.
+/// The minimal shard of a shard, with these parts of its files, from its bytes.
 ///
-/// The errors are those of [`MDBMinimalShard::from_reader`].
-pub fn subset_bytes(alloc: Global, bytes: &[u8], subset: &Subset) -> Result<Vec<u8>>
-    ensures subset { MatchResult result (λ written. SubsetBytes subset.entry.now bytes.now written.items)
-        (InMemory (RefusesMinimal bytes.now)) }
-    ensures size { IfOk result (λ written. IsMinimalSize bytes.now (length written.items)) }
+/// `ShardVersion` if the header is unsupported, `UnexpectedEof` if the bytes end before both
+/// sections do, `InvalidShard` if the version does not have the header of a file or the rows of a
+/// section pass 4294967295, `Io` of kind `Other` if verification rows are to be kept and a file has
+/// none, `OutOfMemory` if an allocation fails.
+pub fn minimal<'a>(
+    alloc: Global,
+    arena: &'a Bump,
+    bytes: &'a [u8],
+    now: u64,
+    kept: KeptParts,
+) -> Result<PlacedShard<'a>>
+    ensures { MatchResult result (λ shard. IsMinimalOf kept now bytes.now (content shard))
+        (RefusesMinimalBytes kept bytes.now) }
 {
-    let filter = Filter::new(alloc, &subset.kept)?;
-    let is_kept = |xorb: &MDBXorbInfoView| -> bool
-        ensures { IsTrue result ↔ Accepts filter (xorb_hash_of xorb.now) }
-    { filter.accepts(&xorb.xorb_hash()) };
-    let mut reader = bytes;
-    let mut written = Vec::new(alloc);
-    match MDBMinimalShard::copy_xorb_subset_from_reader(
-        alloc,
-        &mut reader,
-        &mut written,
-        subset.now,
-        subset.expiry,
-        is_kept,
-    ) {
-        Ok(()) => Ok(written),
-        Err(error) => Err(in_memory(error)),
+    let shard = open_behind_header(alloc, bytes)?;
+    if kept.verification && lack_verification(shard.files.as_slice()) {
+        return Err(CoreError::Io(io::Error::from(ErrorKind::Other)));
+    }
+    let shard = shard.with_marks(alloc, arena)?.with_parts(arena, kept)?;
+    Ok(shard.with_options(minimal_options(now, None)))
+}
+
+// Whether a file has no verification rows.
+fn lack_verification(files: &[PlacedFile<'_>]) -> bool
+    ensures { IsTrue result ↔ Any (LacksVerification true) files.now }
+{
+    files
+        .iter()
+        .any(|file| !file.header().contains_verification())
+}
+
+// No tables, a creation, and an expiry or 0.
+fn minimal_options(now: u64, expiry: Option<u64>) -> LayoutOptions
+    ensures { result ≡ minimal_options now expiry }
+{
+    LayoutOptions {
+        version: FormatVersion::V3,
+        file_table: false,
+        xorb_table: false,
+        chunk_table: false,
+        key: HMACKey::default(),
+        creation: now,
+        expiry: expiry.unwrap_or(0),
     }
 }
 
-/// The bytes of a shard with some of the xorbs and none of the files of a shard in a version of the
-/// format, as [`subset_bytes`] makes those in version 3. The errors are the same: without files, each
-/// version has all records.
-pub fn subset_bytes_in(
+/// The bytes, in a version of the format, of a shard with some of the xorbs and none of the files of
+/// a shard, from its bytes: at most 200 more. Without files, each version has all records. The errors
+/// are those of [`subset_of`].
+pub fn subset_bytes(
     alloc: Global,
     bytes: &[u8],
-    subset: &Subset,
+    chosen: &Subset,
     version: FormatVersion,
 ) -> Result<Vec<u8>>
     ensures subset { MatchResult result
-        (λ written. LaidOutIn version (SubsetBytes subset.entry.now bytes.now) written.items)
-        (InMemory (RefusesMinimal bytes.now)) }
+        (λ written. LaidOutIn version (SubsetBytes chosen.entry.now bytes.now) written.items)
+        (InMemory (ExportCase bytes.now)) }
     ensures size { IfOk result (λ written. IsMinimalSize bytes.now (length written.items)) }
 {
-    let written = subset_bytes(alloc, bytes, subset)?;
-    in_version(written, version)
+    let arena = Bump::new(alloc);
+    subset_of(alloc, &arena, bytes, chosen)?.to_bytes(alloc, version)
+}
+
+/// Some of the xorbs and none of the files of a shard, from its bytes, with a mark at each chunk at
+/// which one of the files starts. The listed hashes may be in any order.
+///
+/// The errors are those of [`minimal`], but that no file has to have verification rows.
+pub fn subset_of<'a>(
+    alloc: Global,
+    arena: &'a Bump,
+    bytes: &'a [u8],
+    chosen: &Subset,
+) -> Result<PlacedShard<'a>>
+    ensures { MatchResult result (λ shard. IsSubsetOf chosen.entry.now bytes.now (content shard))
+        (InMemory (ExportCase bytes.now)) }
+{
+    let shard = with_kept_xorbs(alloc, open_behind_header(alloc, bytes)?, &chosen.kept)?;
+    let shard = shard.with_marks(alloc, arena)?.without_files();
+    Ok(shard.with_options(minimal_options(chosen.now, chosen.expiry)))
+}
+
+// The shard with those of its xorbs that a subset keeps.
+fn with_kept_xorbs<'a>(
+    alloc: Global,
+    shard: PlacedShard<'a>,
+    kept: &KeptXorbs,
+) -> Result<PlacedShard<'a>>
+    ensures { MatchResult result
+        (λ made. IsKept (λ x accepted. IsTrue accepted ↔ Keeps kept.entry.now (xorb_hash_of x))
+        shard.entry.xorbs.items made.xorbs.items
+        × HasInstead shard.entry.files.items made.xorbs.items shard.entry made)
+        (λ e. e ≡ CoreError.OutOfMemory) }
+{
+    match kept {
+        KeptXorbs::All => Ok(shard),
+        KeptXorbs::Listed(hashes) => {
+            let hashes = Vec::from_slice(alloc, hashes.as_slice())?;
+            Ok(shard.with_xorbs(&SortedHashes::of(hashes)))
+        }
+    }
 }
 
 /// The given hashes that no xorb of a shard has, in their order, from the shard's bytes.

@@ -8,12 +8,14 @@ ghost use Rattle.xet_core_structures.specs.Shard.{Shard, IsShard};
 ghost use Rattle.xet_core_structures.specs.WrittenShard.{HasFilesIn, IsBytesOf};
 ghost use Rattle.shard_bytes.specs.Recording.{with_files, with_xorbs, shard_of, CanAddFiles, CanAddXorbs, CanAddRecords, AdmitsAll, HasRecords, RefusesRecords};
 
+use bumpalo::Bump;
+use placed_shards::records::of_records;
 use std::alloc::Global;
 use xet_core_structures::error::Result;
 use xet_core_structures::file_structs::MDBFileInfo;
 use xet_core_structures::record_reader::FormatVersion;
 use xet_core_structures::shard_format::MDBShardInfo;
-use xet_core_structures::shard_writer::UnindexedShard;
+use xet_core_structures::shard_writer::LayoutOptions;
 use xet_core_structures::source::MemorySource;
 use xet_core_structures::xorb_structs::MDBXorbInfo;
 
@@ -47,48 +49,17 @@ pub fn write_records(
         (CanAddRecords files.items xorbs.items
         × HasFilesIn version (shard_of files.items xorbs.items)) result }
 {
-    let mut shard = UnindexedShard::new(alloc);
-    add_files(alloc, &mut shard, files)?;
-    add_xorbs(&mut shard, xorbs)?;
-    write_layout(alloc, &shard, version, expiry)
+    seconds_fit(expiry);
+    let arena = Bump::new(alloc);
+    let shard = of_records(alloc, &arena, files, xorbs)?;
+    let shard = shard.with_options(LayoutOptions::plain(expiry));
+    shard.to_bytes(alloc, version)
 }
 
-// Adds files to a shard in memory, one after another.
-fn add_files(alloc: Global, shard: &mut UnindexedShard, files: Vec<MDBFileInfo>) -> Result<()>
-    ensures ok { OnOk result (shard.new ≡ with_files shard.old files.items) }
-    ensures admitted { AdmitsAll (CanAddFiles shard.old files.items) result }
-{
-    for file in files {
-        shard.add_file_reconstruction_info(alloc, file)?;
-    }
-    Ok(())
-}
-
-// Adds xorbs to a shard in memory, one after another.
-fn add_xorbs(shard: &mut UnindexedShard, xorbs: Vec<MDBXorbInfo>) -> Result<()>
-    ensures ok { OnOk result (shard.new ≡ with_xorbs shard.old xorbs.items) }
-    ensures admitted { AdmitsAll (CanAddXorbs shard.old xorbs.items) result }
-{
-    for xorb in xorbs {
-        shard.add_xorb_block(xorb)?;
-    }
-    Ok(())
-}
-
-// The bytes of a shard in memory.
-fn write_layout(
-    alloc: Global,
-    shard: &UnindexedShard,
-    version: FormatVersion,
-    expiry: Option<u64>,
-) -> Result<Vec<u8>>
-    ensures ok { IfOk result (λ bytes. bytes.items ≡ layout_in version shard.now expiry) }
-    ensures shard { IfOk result (λ _. IsShard shard.now) }
-    ensures width { IfOk result (λ _. IfSome expiry (λ e. e < 2 ^ 64)) }
-    ensures admitted { AdmitsAll (HasFilesIn version shard.now) result }
-{
-    shard.to_bytes(alloc, version, expiry)
-}
+// Does nothing. It says that an expiry has 64 bits.
+fn seconds_fit(expiry: Option<u64>)
+    ensures { IfSome expiry (λ e. e < 2 ^ 64) }
+{}
 
 /// The records of the sections at the offsets in the footer of a shard's bytes, in their order. No
 /// table is read, so the shard may have none. Chunk hashes are as stored: under the shard's key, if

@@ -1,15 +1,16 @@
 //! Union and difference.
 
 ghost use Rattle.std.specs.Prelude.{[], ◌∷◌, length, IfOk, MatchResult};
-ghost use Rattle.shard_merging.specs.Trees.InVersions.{MadeIn, RefusedIn};
+ghost use Rattle.xet_core_structures.specs.declared.record_reader.FormatVersion.TheVariants.{V3};
 ghost use Rattle.shard_bytes.specs.declared.combine.Operation.TheVariants.{Union, Difference};
-ghost use Rattle.shard_bytes.specs.Combining.{IsResultOf, RefusalOf, CombinesBytes, CombiningRefusal};
+ghost use Rattle.shard_bytes.specs.Combining.{CombinesTo, RefusesCombining};
 ghost use Rattle.shard_bytes.specs.Sizes.{IsResultSize, sources_of};
+ghost use Rattle.shard_bytes.specs.Versions.{IsWrittenIn, NotWrittenIn};
 ghost use Rattle.xet_c.specs.Output.{Outcome};
 ghost use Rattle.xet_c.specs.Versions.{InNumber, NotInNumber};
 
 use crate::output::deliver;
-use shard_bytes::combine::{Operation, combine_bytes, combine_bytes_in};
+use shard_bytes::combine::{Operation, combine_bytes};
 use std::alloc::Global;
 use xet_core_structures::error::{CoreError, Result};
 use xet_core_structures::record_reader::FormatVersion;
@@ -23,12 +24,13 @@ pub extern "C" fn xet_union(
     out: &mut [u8],
     written: &mut usize,
 ) -> u32
-    ensures combined { Outcome (CombinesBytes (IsResultOf Union) first.now second.now)
-        (CombiningRefusal (RefusalOf Union) first.now second.now) out.old out.new written.new
+    ensures combined { Outcome (IsWrittenIn V3 (CombinesTo Union first.now second.now))
+        (NotWrittenIn V3 (CombinesTo Union first.now second.now)
+        (RefusesCombining Union first.now second.now)) out.old out.new written.new
         result }
     ensures size { IsResultSize (first.now ∷ second.now ∷ []) written.new }
 {
-    let union = combine_bytes(alloc, Operation::Union, first, second);
+    let union = combine_bytes(alloc, Operation::Union, first, second, FormatVersion::V3);
     deliver(union, out, written)
 }
 
@@ -43,10 +45,10 @@ pub extern "C" fn xet_union_in(
     written: &mut usize,
 ) -> u32
     ensures combined { Outcome
-        (InNumber version (λ v. MadeIn v (CombinesBytes (IsResultOf Union) first.now second.now)))
+        (InNumber version (λ v. IsWrittenIn v (CombinesTo Union first.now second.now)))
         (NotInNumber version
-        (λ v. RefusedIn v (CombinesBytes (IsResultOf Union) first.now second.now)
-        (CombiningRefusal (RefusalOf Union) first.now second.now))) out.old out.new
+        (λ v. NotWrittenIn v (CombinesTo Union first.now second.now)
+        (RefusesCombining Union first.now second.now))) out.old out.new
         written.new result }
     ensures size { IsResultSize (first.now ∷ second.now ∷ []) written.new }
 {
@@ -63,12 +65,19 @@ pub extern "C" fn xet_difference(
     out: &mut [u8],
     written: &mut usize,
 ) -> u32
-    ensures combined { Outcome (CombinesBytes (IsResultOf Difference) first.now second.now)
-        (CombiningRefusal (RefusalOf Difference) first.now second.now) out.old out.new
+    ensures combined { Outcome (IsWrittenIn V3 (CombinesTo Difference first.now second.now))
+        (NotWrittenIn V3 (CombinesTo Difference first.now second.now)
+        (RefusesCombining Difference first.now second.now)) out.old out.new
         written.new result }
     ensures size { IsResultSize (second.now ∷ []) written.new }
 {
-    let difference = combine_bytes(alloc, Operation::Difference, first, second);
+    let difference = combine_bytes(
+        alloc,
+        Operation::Difference,
+        first,
+        second,
+        FormatVersion::V3,
+    );
     deliver(difference, out, written)
 }
 
@@ -83,10 +92,10 @@ pub extern "C" fn xet_difference_in(
     written: &mut usize,
 ) -> u32
     ensures combined { Outcome
-        (InNumber version (λ v. MadeIn v (CombinesBytes (IsResultOf Difference) first.now second.now)))
+        (InNumber version (λ v. IsWrittenIn v (CombinesTo Difference first.now second.now)))
         (NotInNumber version
-        (λ v. RefusedIn v (CombinesBytes (IsResultOf Difference) first.now second.now)
-        (CombiningRefusal (RefusalOf Difference) first.now second.now))) out.old out.new
+        (λ v. NotWrittenIn v (CombinesTo Difference first.now second.now)
+        (RefusesCombining Difference first.now second.now))) out.old out.new
         written.new result }
     ensures size { IsResultSize (second.now ∷ []) written.new }
 {
@@ -103,15 +112,15 @@ fn combine_in(
 ) -> Result<Vec<u8>>
     ensures combined { MatchResult result
         (λ bytes. InNumber version
-        (λ v. MadeIn v (CombinesBytes (IsResultOf operation) first.now second.now)) bytes.items)
+        (λ v. IsWrittenIn v (CombinesTo operation first.now second.now)) bytes.items)
         (NotInNumber version
-        (λ v. RefusedIn v (CombinesBytes (IsResultOf operation) first.now second.now)
-        (CombiningRefusal (RefusalOf operation) first.now second.now))) }
+        (λ v. NotWrittenIn v (CombinesTo operation first.now second.now)
+        (RefusesCombining operation first.now second.now))) }
     ensures size { IfOk result
         (λ bytes. IsResultSize (sources_of operation first.now second.now) (length bytes.items)) }
 {
     match FormatVersion::of_number(version) {
-        Some(version) => combine_bytes_in(alloc, operation, first, second, version),
+        Some(version) => combine_bytes(alloc, operation, first, second, version),
         None => Err(CoreError::InvalidArguments),
     }
 }

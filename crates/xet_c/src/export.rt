@@ -10,7 +10,7 @@ ghost use Rattle.xet_c.specs.Output.{Outcome};
 ghost use Rattle.xet_c.specs.Versions.{InNumber, NotInNumber};
 
 use crate::output::deliver;
-use shard_bytes::export::{Export, ExportParts, export_bytes, export_bytes_in};
+use shard_bytes::export::{Export, ExportParts, export_bytes};
 use std::alloc::Global;
 use xet_core_structures::error::{CoreError, Result};
 use xet_core_structures::merklehash::HMACKey;
@@ -44,7 +44,7 @@ pub extern "C" fn xet_export(
     ensures size { IsRewriteSize shard.now written.new }
 {
     let export = asked_for(options);
-    let exported = export_bytes(alloc, shard, &export);
+    let exported = export_bytes(alloc, shard, &export, FormatVersion::V3);
     deliver(exported, out, written)
 }
 
@@ -80,7 +80,7 @@ fn export_in(alloc: Global, shard: &[u8], export: &Export, version: u64) -> Resu
     ensures size { IfOk result (λ bytes. IsRewriteSize shard.now (length bytes.items)) }
 {
     match FormatVersion::of_number(version) {
-        Some(version) => export_bytes_in(alloc, shard, export, version),
+        Some(version) => export_bytes(alloc, shard, export, version),
         None => Err(CoreError::InvalidArguments),
     }
 }

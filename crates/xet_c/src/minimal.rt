@@ -8,7 +8,7 @@ ghost use Rattle.xet_c.specs.Output.{Outcome};
 ghost use Rattle.xet_c.specs.Versions.{InNumber, NotInNumber};
 
 use crate::output::deliver;
-use shard_bytes::minimal::{minimal_bytes, minimal_bytes_in};
+use shard_bytes::minimal::minimal_bytes;
 use std::alloc::Global;
 use xet_core_structures::error::{CoreError, Result};
 use xet_core_structures::file_structs::KeptParts;
@@ -36,7 +36,7 @@ pub extern "C" fn xet_minimal(
         verification,
         aux_ext: aux_rows,
     };
-    let minimal = minimal_bytes(alloc, shard, now, kept);
+    let minimal = minimal_bytes(alloc, shard, now, kept, FormatVersion::V3);
     deliver(minimal, out, written)
 }
 
@@ -86,7 +86,7 @@ fn minimal_in(
     ensures size { IfOk result (λ bytes. IsMinimalSize shard.now (length bytes.items)) }
 {
     match FormatVersion::of_number(version) {
-        Some(version) => minimal_bytes_in(alloc, shard, now, kept, version),
+        Some(version) => minimal_bytes(alloc, shard, now, kept, version),
         None => Err(CoreError::InvalidArguments),
     }
 }

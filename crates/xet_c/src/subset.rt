@@ -1,7 +1,7 @@
 //! Subsets of xorbs.
 
 ghost use Rattle.std.specs.Prelude.{◌≡◌, ◌⊎◌, length, MatchResult, IfOk, IfErr};
-ghost use Rattle.shard_bytes.specs.Minimal.{RefusesMinimal};
+ghost use Rattle.xet_core_structures.specs.KeyedExport.{ExportCase};
 ghost use Rattle.shard_bytes.specs.Outcomes.{InMemory};
 ghost use Rattle.shard_bytes.specs.Sizes.{IsMinimalSize};
 ghost use Rattle.shard_bytes.specs.Versions.{LaidOutIn};
@@ -11,7 +11,7 @@ ghost use Rattle.xet_c.specs.Versions.{InNumber, NotInNumber};
 
 use crate::hash::{XetHash, hashes_of};
 use crate::output::deliver;
-use shard_bytes::minimal::{KeptXorbs, Subset, subset_bytes_in};
+use shard_bytes::minimal::{KeptXorbs, Subset, subset_bytes};
 use std::alloc::Global;
 use xet_core_structures::error::{CoreError, Result};
 use xet_core_structures::record_reader::FormatVersion;
@@ -37,7 +37,7 @@ pub extern "C" fn xet_subset(
     written: &mut usize,
 ) -> u32
     ensures subset { Outcome (WritesSubset options.entry.now xorbs.now shard.now)
-        (InMemory (RefusesMinimal shard.now)) out.old out.new written.new result }
+        (InMemory (ExportCase shard.now)) out.old out.new written.new result }
     ensures size { IsMinimalSize shard.now written.new }
 {
     let subset = subset(alloc, shard, options, xorbs, FormatVersion::V3);
@@ -58,7 +58,7 @@ pub extern "C" fn xet_subset_in(
     ensures subset { Outcome
         (InNumber version
         (λ v. LaidOutIn v (WritesSubset options.entry.now xorbs.now shard.now)))
-        (NotInNumber version (λ v. InMemory (RefusesMinimal shard.now))) out.old out.new
+        (NotInNumber version (λ v. InMemory (ExportCase shard.now))) out.old out.new
         written.new result }
     ensures size { IsMinimalSize shard.now written.new }
 {
@@ -76,7 +76,7 @@ fn subset_in(
     ensures subset { MatchResult result
         (λ bytes. InNumber version
         (λ v. LaidOutIn v (WritesSubset options.entry.now xorbs.now shard.now)) bytes.items)
-        (NotInNumber version (λ v. InMemory (RefusesMinimal shard.now))) }
+        (NotInNumber version (λ v. InMemory (ExportCase shard.now))) }
     ensures size { IfOk result (λ bytes. IsMinimalSize shard.now (length bytes.items)) }
 {
     match FormatVersion::of_number(version) {
@@ -94,7 +94,7 @@ fn subset(
 ) -> Result<Vec<u8>>
     ensures subset { MatchResult result
         (λ bytes. LaidOutIn version (WritesSubset options.entry.now xorbs.now shard.now) bytes.items)
-        (InMemory (RefusesMinimal shard.now)) }
+        (InMemory (ExportCase shard.now)) }
     ensures size { IfOk result (λ bytes. IsMinimalSize shard.now (length bytes.items)) }
 {
     let subset = Subset {
@@ -102,7 +102,7 @@ fn subset(
         expiry: Some(options.expiry),
         kept: kept_xorbs(alloc, options.all, xorbs)?,
     };
-    subset_bytes_in(alloc, shard, &subset, version)
+    subset_bytes(alloc, shard, &subset, version)
 }
 
 fn kept_xorbs(alloc: Global, all: bool, listed: &[XetHash]) -> Result<KeptXorbs>

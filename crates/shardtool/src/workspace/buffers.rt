@@ -61,6 +61,7 @@ impl Workspace {
             operation,
             self.buffer_bytes(first)?,
             self.buffer_bytes(second)?,
+            FormatVersion::V3,
         )?;
         self.keep(alloc, buffer, bytes)
     }
@@ -95,7 +96,7 @@ impl Workspace {
         ensures err { OnErr result (IsUnchanged self.old.buffers self.new.buffers) }
         ensures shards { self.new.shards ≡ self.old.shards }
     {
-        let bytes = export_bytes(alloc, self.buffer_bytes(from)?, export)?;
+        let bytes = export_bytes(alloc, self.buffer_bytes(from)?, export, FormatVersion::V3)?;
         self.keep(alloc, buffer, bytes)
     }
 
@@ -112,7 +113,13 @@ impl Workspace {
         ensures err { OnErr result (IsUnchanged self.old.buffers self.new.buffers) }
         ensures shards { self.new.shards ≡ self.old.shards }
     {
-        let bytes = minimal_bytes(alloc, self.buffer_bytes(from)?, now, kept)?;
+        let bytes = minimal_bytes(
+            alloc,
+            self.buffer_bytes(from)?,
+            now,
+            kept,
+            FormatVersion::V3,
+        )?;
         self.keep(alloc, buffer, bytes)
     }
 
@@ -128,7 +135,7 @@ impl Workspace {
         ensures shards { self.new.shards ≡ self.old.shards }
         ensures unknown { IsErrOf result Stop.Unreadable ↔ IsUnknown self.old.buffers from.now }
     {
-        let bytes = subset_bytes(alloc, self.buffer_bytes(from)?, subset)?;
+        let bytes = subset_bytes(alloc, self.buffer_bytes(from)?, subset, FormatVersion::V3)?;
         self.keep(alloc, buffer, bytes)
     }
 
