@@ -6,6 +6,7 @@ mod buffers;
 mod device;
 mod minimal;
 mod numbers;
+mod placed;
 mod probe;
 mod reading;
 mod records;

@@ -41,6 +41,7 @@ impl Probe {
             || self.show_views(words, out)?
             || self.show_sections(words, out)?
             || self.run_on_sets(words, out)?
+            || self.run_on_placed(words, out)?
             || self.show_values(words, out)?
             || self.show_records(words, out)?
             || self.run_each_failure(words, out)?;
