@@ -3,7 +3,7 @@ use Rattle.std.proofs.Common.{◌≡◌, ℕ, Ok, Err, ◌+◌, ◌*◌, Bool, t
 use Rattle.std.specs.Prelude.{◌↔◌, All, IfErr, IfOk, IsTrue, MatchResult, map}
 use Rattle.std.specs.declared.result.Result.{Result}
 use Rattle.std.specs.List.{list_any}
-use Rattle.std.proofs.lemmas.List.{length-append, length-map}
+use Rattle.std.proofs.lemmas.List.{length-append, length-map, map-id}
 use Rattle.std.proofs.lemmas.List.Elements.{All-map}
 use Rattle.std.proofs.lemmas.List.Sums.{sum_by-cons}
 use Rattle.xet_base.specs.declared.error.CoreError.{CoreError}
@@ -60,6 +60,13 @@ any_files true fs = any_read fs
 pub not_iff : (r : Bool) → IsTrue (not r) ↔ (r ≡ false)
 not_iff false = (λ is. refl, λ is. refl)
 not_iff true = (λ is. absurd (true≢false (sym is)), λ is. absurd (true≢false is))
+
+-- the records of a shard, as they were read
+pub files_read : (s : PlacedShard) → s.as_read ≡ true → map as_read s.files.items ≡ (content s).files
+files_read s is = ap (λ b. files_as b s.files.items) (sym is)
+
+pub xorbs_read : (s : PlacedShard) → map (λ x. x) s.xorbs.items ≡ (content s).xorbs
+xorbs_read s = map-id s.xorbs.items
 
 -- what was collected of a shard's files, as they will be written
 pub collected : (s : PlacedShard) (fs : List MDBFileInfo) → fs ≡ s.files.items → (r : Result WrittenFiles CoreError)

@@ -1,6 +1,6 @@
 -- What byte strings that hold shards which agree pairwise, under one key, are merged to: the records of their join in the
 -- range.
-use Rattle.std.proofs.Common.{◌≡◌, inl, inr, ℕ, ◌<◌, true, List, [], ◌∷◌, ◌++◌, length, map, Ok, Err, refl, sym, ap, ◌∙◌, subst, arith, length-append, ◌≤◌, ◌/◌, Bor, get_or, take, drop}
+use Rattle.std.proofs.Common.{◌≡◌, inl, inr, ℕ, ◌<◌, true, false, true≢false, List, [], ◌∷◌, ◌++◌, length, map, Ok, Err, refl, sym, ap, ◌∙◌, subst, arith, length-append, ◌≤◌, ◌/◌, Bor, get_or, take, drop}
 use Rattle.std.specs.Prelude.{All, Contains, MatchResult}
 use Rattle.std.specs.List.{AllZip}
 use Rattle.std.specs.FinMap.{FinMap, get, entries, values, get-entries}
@@ -23,32 +23,30 @@ use Rattle.xet_shards.specs.declared.shard_format.ends.options.LayoutOptions.{La
 use Rattle.xet_shards.proofs.Content.AgreeingJoins.{joins_exist, lists_agree, union-of_joins, agree_left, agree_right, fewer_if_more, union_is_shard}
 use Rattle.xet_shards.proofs.Content.Joins.{join-unique, join-one, follows_parts}
 use Rattle.xet_shards.proofs.Content.Overlays.{union_unique}
+use Rattle.xet_shards.proofs.Content.Unions.{same_shard}
 use Rattle.xet_shards.proofs.Read.Zipped.{zipped_parts}
 use Rattle.xet_shards.proofs.Write.Sections.{files_fit, xorbs_fit}
 use Rattle.xet_shards.proofs.Write.WithOptions.{files_ascend, xorbs_ascend}
 use Rattle.std.proofs.lemmas.List.Elements.{Contains-append_left, Contains-append_right}
 use Rattle.xet_core_structures.specs.Records.ByteUnion.{IsEitherFile, IsEitherXorb, IsByteUnion}
 use Rattle.xet_core_structures.specs.Records.RecordPairs.{key_of_record, by_hash, with_hash}
-use Rattle.xet_core_structures.specs.Records.ShardContents.{HoldsShard, IsTruncated, IsMalformed}
 use Rattle.xet_core_structures.specs.Steps.ByteResults.{Records}
 use Rattle.xet_core_structures.specs.Trees.MergeTrees.{MergeRefused}
-use Rattle.xet_core_structures.specs.TwoShards.ByteResults.{keyed_options, key_of}
-use Rattle.xet_core_structures.proofs.Records.ByteUnions.{byte_union_is_union, union_is_byte_union, info_found, loads_well}
-use Rattle.xet_core_structures.proofs.Records.ListMaps.{values-list_map, get-list_map, combined_maps, shard_of, lists_hold}
-use Rattle.xet_core_structures.proofs.Records.ShardContents.{only_shard, held_whole, held_well}
-use Rattle.xet_core_structures.proofs.Trees.MappedJoins.{mapped_agree}
+use Rattle.xet_core_structures.specs.TwoShards.ByteResults.{keyed_options}
+use Rattle.xet_core_structures.proofs.Records.ByteUnions.{byte_union_is_union, union_is_byte_union}
+use Rattle.xet_core_structures.proofs.Records.ListMaps.{values-list_map, get-list_map, combined_maps, shard_of}
 use Rattle.placed_shards.specs.declared.range.HashRange.{HashRange}
 use Rattle.placed_shards.specs.declared.placed_shard.PlacedShard.{PlacedShard}
 use Rattle.placed_shards.specs.Content.{Content, content, AscendBoth, content_within}
-use Rattle.placed_shards.specs.Merging.{IsPartOf, merged_alone, AreHalves, IsMergeOf, MergeRefusal, IsRangeMergeOfList, shard_content}
+use Rattle.placed_shards.specs.Merging.{merged_alone, AreHalves, IsMergeOf, MergeRefusal, HoldsWithin, IsMergeOfList, shard_content}
 use Rattle.placed_shards.specs.Merging.IsMergeOf.{of_one, of_halves}
 use Rattle.placed_shards.specs.Merging.MergeRefusal.{no_memory, of_none, not_read, of_first, of_second, of_union}
 use Rattle.placed_shards.specs.Opening.{Opens, ShardRefusal}
 use Rattle.placed_shards.specs.Ranges.{is_within}
-use Rattle.placed_shards.specs.Steps.Merging.{IsMerged, IsOpenedAlone}
+use Rattle.placed_shards.specs.Steps.Merging.{IsMerged, IsOpenedAlone, NotMerged}
 use Rattle.placed_shards.specs.Unions.{IsUnionOf, UnionRefusal}
-use Rattle.placed_shards.proofs.Opening.{opened_ascend}
-use Rattle.placed_shards.proofs.Within.{those_ascend, part_of_lists, one_part, part_is_shard, part_of, part_of_is, part_of-preserves}
+use Rattle.placed_shards.proofs.Opening.{opened_ascend, opens_once, read_well}
+use Rattle.placed_shards.proofs.Within.{those_ascend}
 
 -- the records of a shard, under their hashes
 module _ {H R : Type 0} (K : RecordKind H R) where
@@ -87,36 +85,34 @@ module _ (key : DataHash) where
       let xorbs = sym (values-list_map xorb_records c.xorbs found.ascend.xorbs) ∙ ap (λ (t : Shard). values t.xorbs) found.is in
       λ i. record { files = files i; xorbs = xorbs i; options = found.options_are i }
 
+  -- the shard of the records of a shard
+  pub shard_back : (t : Shard) → IsShard t → shard_in (shard_content key t) ≡ t
+  shard_back t shard =
+      same_shard (shard_in (shard_content key t)) t
+      (λ q. get-list_map file_records (values t.files) (files_ascend t shard) q ∙ values_under file_records t.files shard.files.keyed q)
+      (λ q. get-list_map xorb_records (values t.xorbs) (xorbs_ascend t shard) q ∙ values_under xorb_records t.xorbs shard.xorbs.keyed q)
+
   -- one input
   module _ (range : HashRange) where
-    abbrev HoldsPart : Shard → List ℕ → Type 0
-    HoldsPart t x = (s : Shard) × HoldsShard key s x × IsPartOf (is_within range) s t
-
     pub within_ascend : (c : Content) → AscendBoth c → AscendBoth (content_within range c)
     within_ascend c ascend = record {
       files = those_ascend file_records (is_within range) c.files ascend.files;
       xorbs = those_ascend xorb_records (is_within range) c.xorbs ascend.xorbs;
     }
 
-    one_content : (t : Shard) (x : List ℕ) (c : Content) → HoldsPart t x → Opens x c → IsContentOf key t (merged_alone range c)
-    one_content t x c (s, held, part) opens =
-        let ascend = opened_ascend x c opens in
-        let whole = only_shard x s (shard_in c) held.has (record { info = opens.info; ends = opens.ends; holds = lists_hold x opens.info (records_of c) opens.lists }) in
-        let within = part_of_lists (is_within range) (records_of c) ascend.files ascend.xorbs in
+    one_content : (t : Shard) (x : List ℕ) (c : Content) → HoldsWithin range key x t → Opens x c → IsContentOf key t (merged_alone range c)
+    one_content t x c held opens =
+        let ascend = within_ascend c (opened_ascend x c opens) in
+        let is : merged_alone range c ≡ shard_content key t = subst (λ d. merged_alone range d ≡ shard_content key t) (opens_once x held.opened c held.opens opens) held.is in
         record {
-          shard = part_is_shard (is_within range) s t part held.shard;
-          ascend = record { files = (within_ascend c ascend).files; xorbs = (within_ascend c ascend).xorbs };
-          is = one_part (is_within range) s (shard_in (merged_alone range c)) t (subst (λ w. IsPartOf (is_within range) w (shard_in (merged_alone range c))) whole within) part;
-          options_are = ap keyed_options (ap (λ o. o.key) opens.options_are ∙ ap key_of (info_found key s x held opens.info opens.ends) ∙ held.under);
+          shard = held.shard;
+          ascend = record { files = ascend.files; xorbs = ascend.xorbs };
+          is = ap shard_in is ∙ shard_back t held.shard;
+          options_are = ap (λ (d : Content). d.options) is;
         }
 
-    one_read : (t : Shard) (x : List ℕ) (e : CoreError) → HoldsPart t x → ShardRefusal x e → e ≡ OutOfMemory
-    one_read t x e (s, held, part) (inl load) = absurd (loads_well key s x held e load)
-    one_read t x e (s, held, part) (inr (info, ends, inl none)) = none
-    one_read t x e (s, held, part) (inr (info, ends, inr (inl (end, cut)))) =
-        absurd (held_whole x held.has.info s held.has.holds (subst (IsTruncated x) (info_found key s x held info ends) cut))
-    one_read t x e (s, held, part) (inr (info, ends, inr (inr (invalid, bad)))) =
-        absurd (held_well x held.has.info s held.has.holds (subst (IsMalformed x) (info_found key s x held info ends) bad))
+    one_read : (t : Shard) (x : List ℕ) (e : CoreError) → HoldsWithin range key x t → ShardRefusal x e → e ≡ OutOfMemory
+    one_read t x e held refusal = read_well x held.opened e held.opens refusal
 
   -- two halves
   module _ (a b whole : Shard) (c d : Content) (first : IsContentOf key a c) (second : IsContentOf key b d) (agree : ShardsAgree a b) (union : IsUnion a b whole) where
@@ -178,13 +174,8 @@ module _ (key : DataHash) where
 
   -- lists of shards, each two of which agree
   module _ (range : HashRange) where
-    abbrev HasPart : List ℕ → Shard → Type 0
-    HasPart x t = HoldsPart range t x
-
-    pub record AreParts (inputs : List (List ℕ)) (parts : List Shard) (join : Shard) : Type 0 where
-      pub held : AllZip HasPart inputs parts
-      pub agree : AgreePairwise (Contains parts)
-      pub is_join : IsJoinOf (Contains parts) join
+    abbrev AreParts : List (List ℕ) → List Shard → Shard → Type 0
+    AreParts = IsMergeOfList range key
 
     -- both halves of such a list
     record BothParts (firsts seconds : List (List ℕ)) (whole : Shard) : Type 0 where
@@ -201,7 +192,7 @@ module _ (key : DataHash) where
 
     both_parts : (inputs firsts seconds : List (List ℕ)) (parts : List Shard) (whole : Shard) → AreHalves inputs firsts seconds → AreParts inputs parts whole → BothParts firsts seconds whole
     both_parts inputs firsts seconds parts whole halves are =
-        let cut = zipped_parts HasPart firsts seconds parts (subst (λ l. AllZip HasPart l parts) halves.are are.held) in
+        let cut = zipped_parts (HoldsWithin range key) firsts seconds parts (subst (λ l. AllZip (HoldsWithin range key) l parts) halves.are are.are_held) in
         let xs = cut.0 in
         let ys = cut.1 in
         let agree = subst (λ ss. AgreePairwise (Contains ss)) (sym cut.2) are.agree in
@@ -215,8 +206,8 @@ module _ (key : DataHash) where
           others = ys;
           a = one.0;
           b = other.0;
-          first = record { held = cut.3; agree = agree_1; is_join = one.1 };
-          second = record { held = cut.4; agree = agree_2; is_join = other.1 };
+          first = record { some = first_some inputs firsts seconds halves; are_held = cut.3; agree = agree_1; is_join = one.1 };
+          second = record { some = second_some inputs firsts seconds halves; are_held = cut.4; agree = agree_2; is_join = other.1 };
           agree = lists_agree xs ys one.0 other.0 one.1 other.1 agree;
           union = union-of_joins xs ys one.0 other.0 one.1 other.1 agree whole is_join;
           fewer_1 = fewer_if_more (Contains xs) (Contains (xs ++ ys)) one.0 whole one.1 is_join (λ s. Contains-append_left xs ys s);
@@ -224,12 +215,11 @@ module _ (key : DataHash) where
         }
 
     -- a list of one
-    only_part : (x : List ℕ) (parts : List Shard) (join : Shard) → AreParts (x ∷ []) parts join → HasPart x join
-    only_part x [] join are = absurd are.held
-    only_part x (t ∷ u ∷ us) join are = absurd are.held.1
+    only_part : (x : List ℕ) (parts : List Shard) (join : Shard) → AreParts (x ∷ []) parts join → HoldsWithin range key x join
+    only_part x [] join are = absurd are.are_held
+    only_part x (t ∷ u ∷ us) join are = absurd are.are_held.1
     only_part x (t ∷ []) join are =
-        let (s, held, part) = are.held.0 in
-        subst (HasPart x) (join-unique (Contains (t ∷ [])) t join (join-one t (follows_parts t (part_is_shard (is_within range) s t part held.shard))) are.is_join) are.held.0
+        subst (HoldsWithin range key x) (join-unique (Contains (t ∷ [])) t join (join-one t (follows_parts t are.are_held.0.shard)) are.is_join) are.are_held.0
 
     pub merge_found : (inputs : List (List ℕ)) (made : Content) → IsMergeOf range inputs made → (parts : List Shard) (whole : Shard) → AreParts inputs parts whole → IsContentOf key whole made
     merge_found inputs made (of_one x c is opens made_is) parts whole are =
@@ -242,67 +232,36 @@ module _ (key : DataHash) where
     fewer part whole e less (inl none) = inl none
     fewer part whole e less (inr (invalid, many)) = inr (invalid, λ few. many (less few))
 
-    pub merge_refused : (inputs : List (List ℕ)) (e : CoreError) → MergeRefusal range inputs e → 0 < length inputs → (parts : List Shard) (whole : Shard) → AreParts inputs parts whole → MergeRefused whole e
-    merge_refused inputs e (no_memory is) some parts whole are = inl is
-    merge_refused inputs e (of_none is invalid) some parts whole are = absurd (omega (arith, some, ap length is))
-    merge_refused inputs e (not_read x is refusal) some parts whole are = inl (one_read range whole x e (only_part x parts whole (subst (λ l. AreParts l parts whole) is are)) refusal)
-    merge_refused inputs e (of_first firsts seconds halves refusal) some parts whole are =
+    pub merge_refused : (inputs : List (List ℕ)) (e : CoreError) → MergeRefusal range inputs e → (parts : List Shard) (whole : Shard) → AreParts inputs parts whole → MergeRefused whole e
+    merge_refused inputs e (no_memory is) parts whole are = inl is
+    merge_refused inputs e (of_none is invalid) parts whole are = absurd (omega (arith, are.some, ap length is))
+    merge_refused inputs e (not_read x is refusal) parts whole are = inl (one_read range whole x e (only_part x parts whole (subst (λ l. AreParts l parts whole) is are)) refusal)
+    merge_refused inputs e (of_first firsts seconds halves refusal) parts whole are =
         let both = both_parts inputs firsts seconds parts whole halves are in
-        fewer both.a whole e both.fewer_1 (merge_refused firsts e refusal (first_some inputs firsts seconds halves) both.ones both.a both.first)
-    merge_refused inputs e (of_second firsts seconds c halves one refusal) some parts whole are =
+        fewer both.a whole e both.fewer_1 (merge_refused firsts e refusal both.ones both.a both.first)
+    merge_refused inputs e (of_second firsts seconds c halves one refusal) parts whole are =
         let both = both_parts inputs firsts seconds parts whole halves are in
-        fewer both.b whole e both.fewer_2 (merge_refused seconds e refusal (second_some inputs firsts seconds halves) both.others both.b both.second)
-    merge_refused inputs e (of_union firsts seconds c d halves one other refusal) some parts whole are =
+        fewer both.b whole e both.fewer_2 (merge_refused seconds e refusal both.others both.b both.second)
+    merge_refused inputs e (of_union firsts seconds c d halves one other refusal) parts whole are =
         let both = both_parts inputs firsts seconds parts whole halves are in
         united_refused both.a both.b whole c d (merge_found firsts c one both.ones both.a both.first) (merge_found seconds d other both.others both.b both.second) both.agree both.union e refusal
 
-    -- inputs that hold shards that agree
-    module _ (inputs : List (List ℕ)) (shards : List Shard) (join part : Shard) (merge : IsRangeMergeOfList range key inputs shards join part) where
-      abbrev range_of : Shard → Shard
-      range_of = part_of (is_within range)
-
-      held_parts : (ss : List Shard) (xs : List (List ℕ)) → AllZip (HoldsShard key) ss xs → AllZip HasPart xs (map range_of ss)
-      held_parts [] [] all = tt
-      held_parts [] (x ∷ xs) all = absurd all
-      held_parts (s ∷ ss) [] all = absurd all
-      held_parts (s ∷ ss) (x ∷ xs) (here, rest) = ((s, here, part_of_is (is_within range) s), held_parts ss xs rest)
-
-      are_parts : AreParts inputs (map range_of shards) part
-      are_parts = record {
-        held = held_parts shards inputs merge.are_held;
-        agree = mapped_agree range_of (part_of-preserves (is_within range)) shards merge.agree;
-        is_join = subst (IsJoinOf (Contains (map range_of shards))) (one_part (is_within range) join (range_of join) part (part_of_is (is_within range) join) merge.is_part)
-            ((part_of-preserves (is_within range)).join shards join merge.is_join);
-      }
-
-      pub one_string : (result : Result PlacedShard CoreError) → MatchResult result (IsMerged range inputs) (MergeRefusal range inputs)
-          → MatchResult result (λ made. content made ≡ shard_content key part) (MergeRefused part)
-      one_string (Ok made) merged = content_is part (content made) (merge_found inputs (content made) merged.is (map range_of shards) part are_parts)
-      one_string (Err e) refusal = merge_refused inputs e refusal merge.some (map range_of shards) part are_parts
+    pub one_string : (inputs : List (List ℕ)) (parts : List Shard) (join : Shard) → IsMergeOfList range key inputs parts join → (result : Result PlacedShard CoreError)
+        → MatchResult result (λ made. IsMergeOf range inputs (content made)) (MergeRefusal range inputs) → MatchResult result (λ made. content made ≡ shard_content key join) (MergeRefused join)
+    one_string inputs parts join are (Ok made) is = content_is join (content made) (merge_found inputs (content made) is parts join are)
+    one_string inputs parts join are (Err e) refusal = merge_refused inputs e refusal parts join are
 
 -- what a merge gives, whatever its inputs hold
 module _ (range : HashRange) where
-  pub any_merge : (inputs : List (List ℕ)) (result : Result PlacedShard CoreError) → MatchResult result (IsMerged range inputs) (MergeRefusal range inputs)
+  pub lenient : (inputs : List (List ℕ)) (result : Result PlacedShard CoreError) → MatchResult result (IsMerged false range inputs) (NotMerged false range inputs)
       → MatchResult result (λ made. (made.as_read ≡ true) × IsMergeOf range inputs (content made)) (MergeRefusal range inputs)
-  any_merge inputs (Ok made) merged = (merged.as_read, merged.is)
-  any_merge inputs (Err e) refusal = refusal
+  lenient inputs (Ok made) merged = (merged.as_read, merged.is)
+  lenient inputs (Err e) refusal = refusal (λ so. absurd (true≢false (sym so)))
 
-  -- one input
-  pub alone : (inputs : List (List ℕ)) (x : List ℕ) → inputs ≡ x ∷ [] → (result : Result PlacedShard CoreError) → MatchResult result (IsOpenedAlone range x) (ShardRefusal x)
-      → MatchResult result (IsMerged range inputs) (MergeRefusal range inputs)
-  alone inputs x is (Ok made) opened = record { as_read = opened.as_read; ascend = opened.ascend; is = of_one x opened.opened is opened.opens opened.is }
-  alone inputs x is (Err e) refusal = not_read x is refusal
-
-  -- two halves
-  pub together : (inputs firsts seconds : List (List ℕ)) (one other : PlacedShard) → AreHalves inputs firsts seconds → IsMerged range firsts one → IsMerged range seconds other
-      → (result : Result PlacedShard CoreError) → MatchResult result (λ made. (made.as_read ≡ true) × IsUnionOf (content one) (content other) (content made)) (UnionRefusal (content one) (content other))
-      → MatchResult result (IsMerged range inputs) (MergeRefusal range inputs)
-  together inputs firsts seconds one other halves first second (Ok made) (read, unites) = record {
-    as_read = read;
-    ascend = record { files = unites.files.combined.ascends; xorbs = unites.xorbs.combined.ascends };
-    is = of_halves firsts seconds (content one) (content other) halves first.is second.is unites;
-  }
-  together inputs firsts seconds one other halves first second (Err e) refusal = of_union firsts seconds (content one) (content other) halves first.is second.is refusal
+  pub contents : (inputs : List (List ℕ)) (result : Result PlacedShard CoreError) → MatchResult result (λ made. (made.as_read ≡ true) × IsMergeOf range inputs (content made)) (MergeRefusal range inputs)
+      → MatchResult result (λ made. IsMergeOf range inputs (content made)) (MergeRefusal range inputs)
+  contents inputs (Ok made) (read, is) = is
+  contents inputs (Err e) refusal = refusal
 
   -- an input that was opened
   pub opened_alone : (x : List ℕ) (c within : Content) (options : LayoutOptions) (made : PlacedShard) → Opens x c → within ≡ content_within range c → options ≡ keyed_options c.options.key

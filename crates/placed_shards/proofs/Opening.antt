@@ -1,9 +1,11 @@
 -- A shard in memory, opened by its footer.
-use Rattle.std.proofs.Common.{◌≡◌, ℕ, List, inl, inr, refl, sym, subst, arith}
+use Rattle.std.proofs.Common.{◌≡◌, ℕ, List, [], ◌∷◌, inl, inr, refl, sym, ap, ◌∙◌, subst, arith}
 use Rattle.std.specs.Prelude.{map}
+use Rattle.std.specs.FinMap.{values}
 use Rattle.std.specs.List.Sorted.{IsStrictlySortedBy}
 use Rattle.std.proofs.lemmas.List.{map-id}
 use Rattle.xet_base.specs.declared.error.CoreError.{CoreError}
+use Rattle.xet_base.specs.declared.error.CoreError.TheVariants.{OutOfMemory}
 use Rattle.xet_base.specs.Hash.{hash_cmp}
 use Rattle.xet_records.specs.declared.file_structs.MDBFileInfo.{MDBFileInfo}
 use Rattle.xet_records.specs.declared.xorb_structs.MDBXorbInfo.{MDBXorbInfo}
@@ -16,17 +18,23 @@ use Rattle.xet_records.specs.XorbRecord.{xorb_records}
 use Rattle.xet_records.proofs.RecordKinds.{file_laws, laws_in, xorb_laws}
 use Rattle.xet_shards.specs.declared.shard_format.ends.info.MDBShardInfo.{MDBShardInfo}
 use Rattle.xet_shards.specs.declared.shard_format.ends.options.LayoutOptions.{LayoutOptions}
+use Rattle.xet_shards.specs.Content.Shard.{Shard}
 use Rattle.xet_shards.specs.Ends.Ends.{HasHeaderAndFooter}
 use Rattle.xet_shards.specs.Export.Rewriting.{options_of}
 use Rattle.xet_shards.specs.Read.SectionReading.{files_of, IsSection}
 use Rattle.xet_shards.specs.Write.WithOptions.{Ascends}
-use Rattle.xet_core_structures.specs.Records.ShardContents.{files_at, xorbs_at}
+use Rattle.xet_shards.proofs.Ends.EndsUnique.{not_too_short, not_unsupported, only_info}
+use Rattle.xet_core_structures.specs.Records.ShardContents.{HasShard, IsMalformed, IsTruncated, files_at, xorbs_at}
 use Rattle.xet_core_structures.specs.Steps.MergeJoin.{SectionRefusal}
 use Rattle.xet_core_structures.specs.Steps.ShardContents.{IsListOf}
 use Rattle.xet_core_structures.proofs.Records.RecordsAsRead.{all_handed}
-use Rattle.xet_core_structures.proofs.Records.ShardContents.{hashes_handed, rows_handed}
+use Rattle.xet_core_structures.proofs.Records.ListMaps.{lists_hold, shard_of, values-list_map}
+use Rattle.xet_core_structures.proofs.Records.ShardContents.{hashes_handed, held_well, held_whole, only_shard, rows_handed}
+use Rattle.placed_shards.specs.declared.range.HashRange.{HashRange}
 use Rattle.placed_shards.specs.Content.{Content, AscendBoth}
-use Rattle.placed_shards.specs.Opening.{Opens, SectionsRefusal}
+use Rattle.placed_shards.specs.Findings.{AreOpened, OpensWithin}
+use Rattle.placed_shards.specs.Merging.{merged_alone}
+use Rattle.placed_shards.specs.Opening.{Opens, SectionsRefusal, ShardRefusal}
 
 -- a section whose hashes ascend is a list of records, as reading returns them
 list_opened : {H R : Type 0} (K : RecordKind H R) → KindLaws K → (bytes : List ℕ) (stored : List R) → IsSection K bytes stored → Ascends K stored → IsListOf K bytes (map K.as_read stored)
@@ -79,3 +87,42 @@ module _ (bytes : List ℕ) (info : MDBShardInfo) (version : FormatVersion) (fro
 -- hashes ascend in what was opened
 pub opened_ascend : (bytes : List ℕ) (c : Content) → Opens bytes c → AscendBoth c
 opened_ascend bytes c opens = record { files = opens.lists.files.writable.ascends; xorbs = opens.lists.xorbs.writable.ascends }
+
+-- bytes hold the shard that is opened
+abbrev pub opened_shard : (bytes : List ℕ) (c : Content) → Opens bytes c → HasShard (shard_of (record { files = c.files; xorbs = c.xorbs })) bytes
+opened_shard bytes c opens = record { info = opens.info; ends = opens.ends; holds = lists_hold bytes opens.info (record { files = c.files; xorbs = c.xorbs }) opens.lists }
+
+-- it is read, unless an allocation fails
+pub read_well : (bytes : List ℕ) (c : Content) (e : CoreError) → Opens bytes c → ShardRefusal bytes e → e ≡ OutOfMemory
+read_well bytes c e opens (inl (inl (is, unsupported))) = absurd (not_unsupported bytes opens.info opens.ends unsupported)
+read_well bytes c e opens (inl (inr (is, short))) = absurd (not_too_short bytes opens.info opens.ends short)
+read_well bytes c e opens (inr (info, ends, inl none)) = none
+read_well bytes c e opens (inr (info, ends, inr (inl (end, cut)))) =
+    absurd (held_whole bytes opens.info _ (opened_shard bytes c opens).holds (subst (IsTruncated bytes) (only_info bytes info opens.info ends opens.ends) cut))
+read_well bytes c e opens (inr (info, ends, inr (inr (invalid, bad)))) =
+    absurd (held_well bytes opens.info _ (opened_shard bytes c opens).holds (subst (IsMalformed bytes) (only_info bytes info opens.info ends opens.ends) bad))
+
+-- bytes hold one shard
+pub opens_once : (bytes : List ℕ) (c d : Content) → Opens bytes c → Opens bytes d → c ≡ d
+opens_once bytes c d one other =
+    let shard_1 = shard_of (record { files = c.files; xorbs = c.xorbs }) in
+    let shard_2 = shard_of (record { files = d.files; xorbs = d.xorbs }) in
+    let same : shard_1 ≡ shard_2 = only_shard bytes shard_2 shard_1 (opened_shard bytes d other) (opened_shard bytes c one) in
+    let files = sym (values-list_map file_records c.files one.lists.files.writable.ascends) ∙ ap (λ (s : Shard). values s.files) same ∙ values-list_map file_records d.files other.lists.files.writable.ascends in
+    let xorbs = sym (values-list_map xorb_records c.xorbs one.lists.xorbs.writable.ascends) ∙ ap (λ (s : Shard). values s.xorbs) same ∙ values-list_map xorb_records d.xorbs other.lists.xorbs.writable.ascends in
+    let options = one.options_are ∙ ap options_of (only_info bytes one.info other.info one.ends other.ends) ∙ sym other.options_are in
+    λ i. record { files = files i; xorbs = xorbs i; options = options i }
+
+pub opens_within_once : (range : HashRange) (bytes : List ℕ) (c d : Content) → OpensWithin range bytes c → OpensWithin range bytes d → c ≡ d
+opens_within_once range bytes c d one other = one.2 ∙ ap (merged_alone range) (opens_once bytes one.0 other.0 one.1 other.1) ∙ sym other.2
+
+pub opened_once : (range : HashRange) (inputs : List (List ℕ)) (cs ds : List Content) → AreOpened range inputs cs → AreOpened range inputs ds → cs ≡ ds
+opened_once range [] [] [] one other = refl
+opened_once range [] [] (d ∷ ds) one other = absurd other
+opened_once range [] (c ∷ cs) ds one other = absurd one
+opened_once range (x ∷ inputs) [] ds one other = absurd one
+opened_once range (x ∷ inputs) (c ∷ cs) [] one other = absurd other
+opened_once range (x ∷ inputs) (c ∷ cs) (d ∷ ds) one other =
+    let first = opens_within_once range x c d one.0 other.0 in
+    let rest = opened_once range inputs cs ds one.1 other.1 in
+    λ i. first i ∷ rest i

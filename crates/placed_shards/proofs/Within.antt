@@ -91,7 +91,7 @@ module _ (passes : DataHash → Bool) where
   pub in_whole : {X : Type 0} (m n : FinMap hash_cmp X) → IsRestriction passes m n → (q : DataHash) (x : X) → get n q ≡ Some x → get m q ≡ Some x
   in_whole m n keeps q x at = (cond-is_some (passes q) (get m q) x (sym (keeps q) ∙ at)).1
 
-  all_of_part : {X : Type 0} (P : DataHash × X → Type 0) (m n : FinMap hash_cmp X) → IsRestriction passes m n → All P (entries m) → All P (entries n)
+  pub all_of_part : {X : Type 0} (P : DataHash × X → Type 0) (m n : FinMap hash_cmp X) → IsRestriction passes m n → All P (entries m) → All P (entries n)
   all_of_part P m n keeps all = all_of_map hash_cmp-IsTotalOrder hash_cmp-IsAntisymmetric P n (λ q x at. holds_in_map P m q x all (in_whole m n keeps q x at))
 
   pub sum_of_part : {X : Type 0} (f : X → ℕ) (m n : FinMap hash_cmp X) → IsRestriction passes m n → sum_by f (values n) ≤ sum_by f (values m)

@@ -1,7 +1,9 @@
 pub mod Agreement
 pub mod Anew
+pub mod ByTables
 pub mod Content
 pub mod Filling
+pub mod Findings
 pub mod Given
 pub mod Merging
 pub mod Opening
@@ -10,5 +12,8 @@ pub mod Ranges
 pub mod Records
 pub mod Sections
 pub mod Sets
+pub mod Sizes
 pub mod Steps
+pub mod Strict
+pub mod Tables
 pub mod Unions

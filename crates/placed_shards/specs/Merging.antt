@@ -7,13 +7,11 @@ use Rattle.xet_base.specs.declared.error.CoreError.TheVariants.{InvalidArguments
 use Rattle.xet_base.specs.declared.merklehash.DataHash.{DataHash}
 use Rattle.xet_base.specs.Hash.{hash_cmp}
 use Rattle.xet_shards.specs.Content.Joins.{IsJoinOf, AgreePairwise}
-use Rattle.xet_shards.specs.Content.Shard.{Shard}
-use Rattle.xet_core_structures.specs.Records.ShardContents.{HoldsShard}
+use Rattle.xet_shards.specs.Content.Shard.{Shard, IsShard}
 use Rattle.xet_core_structures.specs.TwoShards.ByteResults.{keyed_options}
 use Rattle.placed_shards.specs.declared.range.HashRange.{HashRange}
 use Rattle.placed_shards.specs.Content.{Content, content_within}
 use Rattle.placed_shards.specs.Opening.{Opens, ShardRefusal}
-use Rattle.placed_shards.specs.Ranges.{is_within}
 use Rattle.placed_shards.specs.Unions.{IsUnionOf, UnionRefusal}
 
 -- a map is the restriction of another to the hashes that pass a test
@@ -63,17 +61,23 @@ module _ (range : HashRange) where
         (c d : Content) → AreHalves inputs firsts seconds → IsMergeOf firsts c
         → IsMergeOf seconds d → UnionRefusal c d e → MergeRefusal inputs e
 
--- the byte strings, at least one, hold these well-formed shards under one key; each two of the
--- shards agree, `join` is their join, and `part` has its records in a range
-pub record IsRangeMergeOfList (range : HashRange) (key : DataHash) (inputs : List (List ℕ)) (shards : List Shard)
-    (join part : Shard) : Type 0 where
-  pub some : 0 < length inputs
-  pub are_held : AllZip (HoldsShard key) shards inputs
-  pub agree : AgreePairwise (Contains shards)
-  pub is_join : IsJoinOf (Contains shards) join
-  pub is_part : IsPartOf (is_within range) join part
-
 -- the records of a shard, with all tables, a key, creation 0 and no expiry
 abbrev pub shard_content : DataHash → Shard → Content
 shard_content key s =
     record { files = values s.files; xorbs = values s.xorbs; options = keyed_options key }
+
+-- bytes hold a shard under a key, and this well-formed shard has its records in a range
+pub record HoldsWithin (range : HashRange) (key : DataHash) (x : List ℕ) (part : Shard) : Type 0 where
+  pub shard : IsShard part
+  pub opened : Content
+  pub opens : Opens x opened
+  pub is : merged_alone range opened ≡ shard_content key part
+
+-- the byte strings, at least one, hold shards under one key, of which these well-formed shards have the
+-- records in a range; each two of these agree, and this is their join
+pub record IsMergeOfList (range : HashRange) (key : DataHash) (inputs : List (List ℕ)) (parts : List Shard)
+    (join : Shard) : Type 0 where
+  pub some : 0 < length inputs
+  pub are_held : AllZip (HoldsWithin range key) inputs parts
+  pub agree : AgreePairwise (Contains parts)
+  pub is_join : IsJoinOf (Contains parts) join

@@ -2,19 +2,24 @@
 //! that of the second. An input is opened where its half comes down to it alone, so that of two small
 //! shards that lie side by side, the second is still near when they are united.
 
-ghost use Rattle.std.specs.Prelude.{◌≡◌, List, map, true, MatchResult};
+ghost use Rattle.std.specs.Prelude.{◌≡◌, List, map, length, true, IsTrue, IfOk, MatchResult};
 ghost use Rattle.xet_base.specs.declared.merklehash.DataHash.{DataHash};
+ghost use Rattle.xet_records.specs.declared.record_reader.FormatVersion.{FormatVersion};
 ghost use Rattle.xet_shards.specs.Content.Shard.{Shard};
 ghost use Rattle.xet_core_structures.specs.Trees.MergeTrees.{MergeRefused};
-ghost use Rattle.placed_shards.specs.Content.{content, AscendBoth};
-ghost use Rattle.placed_shards.specs.Merging.{IsMergeOf, MergeRefusal, IsRangeMergeOfList, shard_content, merged_alone};
-ghost use Rattle.placed_shards.specs.Opening.{Opens, ShardRefusal};
-ghost use Rattle.placed_shards.specs.Steps.Merging.{IsMerged, IsOpenedAlone};
+ghost use Rattle.placed_shards.specs.Content.{Content, content, content_layout};
+ghost use Rattle.placed_shards.specs.Findings.{HasFormedRecords, OpensWithin};
+ghost use Rattle.placed_shards.specs.Merging.{IsMergeOf, MergeRefusal, IsMergeOfList, shard_content};
+ghost use Rattle.placed_shards.specs.Opening.{ShardRefusal};
+ghost use Rattle.placed_shards.specs.Sizes.{IsResultSize};
+ghost use Rattle.placed_shards.specs.Steps.Merging.{IsMerged, IsOpenedAlone, NotMerged};
 
+use crate::findings::malformed_in;
+use crate::of_agreeing::OfAgreeing;
 use crate::open::open;
 use crate::placed_shard::PlacedShard;
 use crate::range::HashRange;
-use crate::unions::union;
+use crate::unions::{union, unite_shards};
 use bumpalo::Bump;
 use std::alloc::Global;
 use xet_base::error::{CoreError, Result};
@@ -22,7 +27,8 @@ use xet_shards::shard_writer::LayoutOptions;
 
 /// The union of the records in a range of one shard or more under one key, with all tables, this key,
 /// creation 0 and no expiry. Files and xorbs are each taken by their own hash. Of shards that agree
-/// pairwise it has the records of their join, in any order of the list.
+/// pairwise it has the records of their join, in any order of the list. In any version it has at most
+/// 344 bytes and 8/3 of the inputs'.
 ///
 /// The inputs are opened in the order of the list, and the error is that of the first input or union
 /// that fails, of a union after both its halves: those of [`open`] and of [`union`]. `InvalidArguments`
@@ -37,37 +43,68 @@ pub fn merge<'a>(
         (λ made. (made.as_read ≡ true)
         × IsMergeOf range.now (map (λ x. x.now) inputs.now) (content made))
         (MergeRefusal range.now (map (λ x. x.now) inputs.now)) }
-    ensures one_byte_string { (key : DataHash) → (all : List Shard) → (join part : Shard)
-        → IsRangeMergeOfList range.now key (map (λ x. x.now) inputs.now) all join part
-        → MatchResult result (λ made. content made ≡ shard_content key part) (MergeRefused part) }
+    ensures one_byte_string { (key : DataHash) → (parts : List Shard) → (join : Shard)
+        → IsMergeOfList range.now key (map (λ x. x.now) inputs.now) parts join
+        → MatchResult result (λ made. content made ≡ shard_content key join) (MergeRefused join) }
+    ensures size { IfOk result (λ made. (version : FormatVersion)
+        → IsResultSize (map (λ x. x.now) inputs.now) (length (content_layout version (content made)))) }
 {
-    merge_halves(alloc, arena, inputs, *range)
+    merge_halves(alloc, arena, inputs, *range, false)
 }
 
-// `merge` without its clause on inputs that agree.
-fn merge_halves<'a>(
+/// The same of inputs that have to be well-formed and to agree, if `strict` is set. If they don't, its
+/// error says no more than that.
+pub(crate) fn merge_halves<'a>(
     alloc: Global,
     arena: &'a Bump,
     inputs: &[&'a [u8]],
     range: HashRange,
+    strict: bool,
 ) -> Result<PlacedShard<'a>>
-    ensures { MatchResult result (IsMerged range (map (λ x. x.now) inputs.now))
-        (MergeRefusal range (map (λ x. x.now) inputs.now)) }
+    ensures { MatchResult result (IsMerged strict range (map (λ x. x.now) inputs.now))
+        (NotMerged strict range (map (λ x. x.now) inputs.now)) }
 {
     if inputs.is_empty() {
         return Err(CoreError::InvalidArguments);
     }
     if inputs.len() == 1 {
-        return open_within(alloc, inputs[0], range);
+        return open_alone(alloc, inputs[0], range, strict);
     }
     let (first, second) = inputs.split_at(inputs.len() / 2);
-    let one = merge_halves(alloc, arena, first, range)?;
-    let other = merge_halves(alloc, arena, second, range)?;
+    let one = merge_halves(alloc, arena, first, range, strict)?;
+    let other = merge_halves(alloc, arena, second, range, strict)?;
+    if strict {
+        return unite_shards::<OfAgreeing, OfAgreeing>(alloc, arena, &one, &other);
+    }
     union(alloc, arena, &one, &other)
 }
 
-// The records of an input in a range, with all tables, its key, creation 0 and no expiry.
-fn open_within<'a>(alloc: Global, bytes: &'a [u8], range: HashRange) -> Result<PlacedShard<'a>>
+// The records of an input in a range, which have to be well-formed if `strict` is set.
+fn open_alone<'a>(
+    alloc: Global,
+    bytes: &'a [u8],
+    range: HashRange,
+    strict: bool,
+) -> Result<PlacedShard<'a>>
+    ensures { MatchResult result
+        (λ opened. IsOpenedAlone range bytes.now opened
+        × (IsTrue strict → HasFormedRecords (content opened)))
+        (λ e. (IsTrue strict → (c : Content) → OpensWithin range bytes.now c → HasFormedRecords c)
+        → ShardRefusal bytes.now e) }
+{
+    let opened = open_within(alloc, bytes, range)?;
+    if strict && malformed_in(&opened).is_some() {
+        return Err(CoreError::InvalidShard(String::new(alloc)));
+    }
+    Ok(opened)
+}
+
+/// The records of an input in a range, with all tables, its key, creation 0 and no expiry.
+pub(crate) fn open_within<'a>(
+    alloc: Global,
+    bytes: &'a [u8],
+    range: HashRange,
+) -> Result<PlacedShard<'a>>
     ensures { MatchResult result (IsOpenedAlone range bytes.now) (ShardRefusal bytes.now) }
 {
     let shard = open(alloc, bytes)?;

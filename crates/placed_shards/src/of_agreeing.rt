@@ -52,7 +52,11 @@ impl<'a> Union<'a, PlacedFile<'a>> for OfAgreeing {
 }
 
 // Whether two files agree, as reading returns them. Copies are not read.
-fn files_agree(alloc: Global, first: &PlacedFile<'_>, second: &PlacedFile<'_>) -> Result<bool>
+pub(crate) fn files_agree(
+    alloc: Global,
+    first: &PlacedFile<'_>,
+    second: &PlacedFile<'_>,
+) -> Result<bool>
     ensures { MatchResult result
         (λ agreed. IsTrue agreed ↔ Agree (as_read first.now) (as_read second.now))
         (λ e. e ≡ OutOfMemory) }
@@ -66,7 +70,7 @@ fn files_agree(alloc: Global, first: &PlacedFile<'_>, second: &PlacedFile<'_>) -
 }
 
 // Whether two records have the same bytes.
-fn are_copies<'a, P: PlacedRecord<'a>>(first: &P, second: &P) -> bool
+pub(crate) fn are_copies<'a, P: PlacedRecord<'a>>(first: &P, second: &P) -> bool
     ensures { IsTrue result ↔ (first.now ≡ second.now) }
 {
     P::laws();

@@ -16,6 +16,12 @@ pub struct HashRange {
 }
 
 impl HashRange {
+    /// The range of all hashes.
+    pub const ALL: HashRange = HashRange {
+        from: None,
+        to: None,
+    };
+
     /// Whether a hash is in the range.
     pub fn contains(&self, hash: &MerkleHash) -> bool
         ensures { result ≡ is_within self.now hash.now }

@@ -95,8 +95,8 @@ pub fn read_ascending<'a, P: PlacedRecord<'a> + Drop>(
     Ok(records)
 }
 
-// Whether a hash is above another, if there is one.
-fn is_after(before: Option<MerkleHash>, hash: &MerkleHash) -> bool
+/// Whether a hash is above another, if there is one.
+pub fn is_after(before: Option<MerkleHash>, hash: &MerkleHash) -> bool
     ensures { IsTrue result ↔ IfSome before (λ b. hash_cmp b hash.now ≡ Less) }
 {
     match before {

@@ -1,0 +1,172 @@
+//! What keeps shards from being merged: records with one hash that do not agree, and records that
+//! no shard may have.
+//!
+//! Shards agree if each two xorbs with one hash are equal, and each two files with one hash have
+//! equal segments, and equal optional parts wherever both have them. Which do not is found by
+//! sorting (`differing`), so that records are compared only with others of their hash, and every
+//! hash under which some do not agree is found. Unlike a union, this looks at all bytes of records
+//! with one hash: of shards that are mostly the same it takes longer than their merge.
+
+ghost use Rattle.std.specs.Prelude.{◌≡◌, ⊤, ◌++◌, List, map, All, true, MatchOption, MatchResult, OnOk, IfErr};
+ghost use Rattle.std.specs.List.{AllZip};
+ghost use Rattle.xet_base.specs.declared.error.CoreError.TheVariants.{OutOfMemory};
+ghost use Rattle.placed_shards.specs.Content.{Content, content, AscendBoth};
+ghost use Rattle.placed_shards.specs.Findings.{AreOpened, FirstRefusal, HasAllDisagreements, HasFormedRecords, HasMalformed, IsFirstMalformed};
+ghost use Rattle.placed_shards.specs.Steps.Differing.{disagreement_of, IsReadInOrder};
+ghost use Rattle.placed_shards.specs.Steps.Merging.{IsOpenedAlone};
+
+use crate::agreement::Agreement;
+use crate::differing::{Differing, find_differing};
+use crate::malformed::find_malformed_record;
+use crate::merge::open_within;
+use crate::placed_file::PlacedFile;
+use crate::placed_shard::PlacedShard;
+use crate::placed_xorb::PlacedXorb;
+use crate::range::HashRange;
+use std::alloc::Global;
+use xet_base::error::Result;
+use xet_base::merklehash::MerkleHash;
+
+/// The hash of a file or of a xorb.
+#[derive(Clone, Copy)]
+pub enum RecordHash {
+    File(MerkleHash),
+    Xorb(MerkleHash),
+}
+
+/// Two inputs that hold records with one hash that do not agree.
+#[derive(Clone, Copy)]
+pub struct Disagreement {
+    /// The hash, and whose it is.
+    pub record_hash: RecordHash,
+    /// The number of the one input.
+    pub first: usize,
+    /// The number of the other.
+    pub second: usize,
+}
+
+/// A malformed record: a file whose header has an unknown flag or a reserved word that is not zero,
+/// or a xorb whose chunks have more than 4294967295 bytes together.
+#[derive(Clone, Copy)]
+pub struct MalformedRecord {
+    /// The hash of the record, and whether it is of a file or of a xorb.
+    pub record_hash: RecordHash,
+    /// The number of the input that holds it.
+    pub input: usize,
+}
+
+/// The hashes in a range under which two of the shards that inputs hold disagree, each with two
+/// inputs that hold such records: files first, then xorbs, each in ascending order. There is none
+/// exactly if each two of the shards agree in the range.
+///
+/// The error is that of the first input that cannot be read, as [`open`](crate::open::open) has it,
+/// or `OutOfMemory` if an allocation fails.
+pub fn find_disagreements(
+    alloc: Global,
+    inputs: &[&[u8]],
+    range: &HashRange,
+) -> Result<Vec<Disagreement>>
+    ensures { MatchResult result
+        (λ found. (cs : List Content) × AreOpened range.now (map (λ x. x.now) inputs.now) cs
+        × HasAllDisagreements cs found.items)
+        (FirstRefusal range.now (λ c. ⊤) (map (λ x. x.now) inputs.now)) }
+{
+    let shards = open_all(alloc, inputs, *range)?;
+    disagreements_of(alloc, shards.as_slice())
+}
+
+// The records of inputs in a range.
+fn open_all<'a>(
+    alloc: Global,
+    inputs: &[&'a [u8]],
+    range: HashRange,
+) -> Result<Vec<PlacedShard<'a>>>
+    ensures { MatchResult result
+        (λ opened. AllZip (IsOpenedAlone range) (map (λ x. x.now) inputs.now) opened.items)
+        (FirstRefusal range (λ c. ⊤) (map (λ x. x.now) inputs.now)) }
+{
+    let mut opened = Vec::with_capacity(alloc, inputs.len())?;
+    for input in inputs {
+        opened.push(open_within(alloc, input, range)?)?;
+    }
+    Ok(opened)
+}
+
+// The same of shards.
+fn disagreements_of(alloc: Global, shards: &[PlacedShard<'_>]) -> Result<Vec<Disagreement>>
+    requires { All IsReadInOrder shards.now }
+    ensures { MatchResult result (λ found. HasAllDisagreements (map content shards.now) found.items)
+        (λ e. e ≡ OutOfMemory) }
+{
+    let files = find_differing::<PlacedFile<'_>>(alloc, shards)?;
+    let xorbs = find_differing::<PlacedXorb<'_>>(alloc, shards)?;
+    let mut found = Vec::new(alloc);
+    add_all::<PlacedFile<'_>>(&mut found, files.as_slice())?;
+    add_all::<PlacedXorb<'_>>(&mut found, xorbs.as_slice())?;
+    Ok(found)
+}
+
+// Adds what differs in one kind of records.
+fn add_all<'a, P: Agreement<'a>>(
+    found: &mut Vec<Disagreement>,
+    differing: &[Differing],
+) -> Result<()>
+    ensures ok { OnOk result
+        (found.new.items ≡ found.old.items ++ map (disagreement_of P.named) differing.now) }
+    ensures causes { IfErr result (λ e. e ≡ OutOfMemory) }
+{
+    for one in differing {
+        found.push(Disagreement {
+            record_hash: P::name(one.hash),
+            first: one.first,
+            second: one.second,
+        })?;
+    }
+    Ok(())
+}
+
+/// A record in a range that no shard may have, of the first input that holds one, or `None` if a
+/// shard may have all records in the range that inputs hold. If shards of such records agree
+/// pairwise, under one key, each order of their unions gives the same records.
+///
+/// The inputs are opened one after another, up to the first that holds such a record, or that
+/// cannot be read, whose error is that of [`open`](crate::open::open). `OutOfMemory` if an
+/// allocation fails.
+pub fn find_malformed(
+    alloc: Global,
+    inputs: &[&[u8]],
+    range: &HashRange,
+) -> Result<Option<MalformedRecord>>
+    ensures { MatchResult result
+        (λ found. MatchOption found
+        ((cs : List Content) × AreOpened range.now (map (λ x. x.now) inputs.now) cs
+        × All HasFormedRecords cs)
+        (IsFirstMalformed range.now (map (λ x. x.now) inputs.now)))
+        (FirstRefusal range.now HasFormedRecords (map (λ x. x.now) inputs.now)) }
+{
+    for input in 0..inputs.len() {
+        let shard = open_within(alloc, inputs[input], *range)?;
+        if let Some(record_hash) = malformed_in(&shard) {
+            return Ok(Some(MalformedRecord { record_hash, input }));
+        }
+    }
+    Ok(None)
+}
+
+/// The hash of a record of a shard that no shard may have, of a file rather than of a xorb.
+pub(crate) fn malformed_in(shard: &PlacedShard<'_>) -> Option<RecordHash>
+    requires read { shard.now.as_read ≡ true }
+    requires ascend { AscendBoth (content shard.now) }
+    ensures { MatchOption result (HasFormedRecords (content shard.now))
+        (HasMalformed (content shard.now)) }
+{
+    let file = find_malformed_record::<PlacedFile<'_>>(shard.files.as_slice());
+    if let Some(hash) = file {
+        return Some(RecordHash::File(hash));
+    }
+    let xorb = find_malformed_record::<PlacedXorb<'_>>(shard.xorbs.as_slice());
+    match xorb {
+        Some(hash) => Some(RecordHash::Xorb(hash)),
+        None => None,
+    }
+}

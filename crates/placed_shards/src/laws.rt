@@ -1,0 +1,57 @@
+//! Laws of shards that are opened in parts.
+
+ghost use Rattle.std.specs.Prelude.{◌≡◌, ℕ, ◌+◌, ◌*◌, ◌≤◌, true, List, length, None};
+ghost use Rattle.std.specs.List.{AllZip};
+ghost use Rattle.xet_base.specs.declared.merklehash.DataHash.{DataHash};
+ghost use Rattle.xet_records.specs.declared.record_reader.FormatVersion.{FormatVersion};
+ghost use Rattle.xet_records.specs.FileRecord.{file_records};
+ghost use Rattle.xet_records.specs.XorbRecord.{xorb_records};
+ghost use Rattle.xet_shards.specs.Write.Layout.{info_of};
+ghost use Rattle.xet_shards.specs.Write.Section.{total_rows};
+ghost use Rattle.xet_shards.specs.Write.WithOptions.{FitsSection};
+ghost use Rattle.placed_shards.specs.declared.range.HashRange.{HashRange};
+ghost use Rattle.placed_shards.specs.ByTables.{OpensByTables, HasOwnTables, IsCutByWords};
+ghost use Rattle.placed_shards.specs.Content.{Content, content_layout, options_in};
+ghost use Rattle.placed_shards.specs.Merging.{merged_alone};
+ghost use Rattle.placed_shards.specs.Opening.{Opens};
+ghost use Rattle.placed_shards.specs.Ranges.{ranges_between, AreCuts};
+
+/// Does nothing. Its contract says of [`open_by_tables`](crate::by_tables::open_by_tables), for
+/// ranges that follow one another and leave no hash out: if it opens bytes in each of them, these
+/// hold one shard, as [`open`](crate::open::open) opens it, and each part has the records of this
+/// shard in its range. So by wrong tables no record is lost: some call fails instead.
+pub fn tables_lose_no_record()
+    ensures { (bytes : List ℕ) → (cuts : List DataHash) → (parts : List Content)
+        → AreCuts None cuts None
+        → AllZip (λ range part. OpensByTables range bytes part) (ranges_between None cuts None)
+        parts → (whole : Content) × Opens bytes whole
+        × AllZip (λ range part. part ≡ merged_alone range whole) (ranges_between None cuts None)
+        parts }
+{}
+
+/// Does nothing. Its contract says that [`open_by_tables`](crate::by_tables::open_by_tables) has
+/// one value for bytes and a range (`one`), and that the rows of its files and those of its xorbs
+/// are each in the bytes (`rows`).
+pub fn tables_find_one_part()
+    ensures one { (range : HashRange) → (bytes : List ℕ) → (c d : Content)
+        → OpensByTables range bytes c → OpensByTables range bytes d → c ≡ d }
+    ensures rows { (range : HashRange) → (bytes : List ℕ) → (c : Content)
+        → OpensByTables range bytes c
+        → 48 * (total_rows file_records c.files + total_rows xorb_records c.xorbs)
+        ≤ 2 * length bytes }
+{}
+
+/// Does nothing. Its contract says that [`open_by_tables`](crate::by_tables::open_by_tables) finds
+/// the records of a range in bytes that have the tables of their records, if none below a bound of
+/// the range has the bound's first word (`opened`). Bytes that are written with both tables have
+/// the tables of their records (`written`).
+pub fn own_tables_find_records()
+    ensures opened { (range : HashRange) → (bytes : List ℕ) → (whole : Content)
+        → (opens : Opens bytes whole) → HasOwnTables bytes opens.info whole
+        → IsCutByWords range whole → OpensByTables range bytes (merged_alone range whole) }
+    ensures written { (version : FormatVersion) → (c : Content) → FitsSection file_records c.files
+        → FitsSection xorb_records c.xorbs → c.options.file_table ≡ true
+        → c.options.xorb_table ≡ true
+        → HasOwnTables (content_layout version c) (info_of c.files c.xorbs (options_in version c))
+        c }
+{}
