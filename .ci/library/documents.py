@@ -9,7 +9,8 @@ from .crates import used_by
 # The pages that quote contracts.
 QUOTING = ("README.md", "docs/HEADLINE.md", "crates/xet_core_structures/CALLING.md")
 # The crates each of whose modules the tree in docs/ARCHITECTURE.md names.
-IN_TREE = ("xet_base", "xet_records", "xet_shards", "xet_core_structures", "shard_merging", "shard_bytes", "xet_c")
+IN_TREE = ("xet_base", "xet_records", "xet_shards", "xet_core_structures", "placed_shards", "shard_merging",
+           "shard_bytes", "xet_c")
 
 
 def flat(text):

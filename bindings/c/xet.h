@@ -205,9 +205,9 @@ uint32_t xet_union_in(const uint8_t *first, size_t first_length, const uint8_t *
                       uint64_t version, uint8_t *out, size_t capacity, size_t *written);
 
 /* Writes the union of one shard or more: that of the first half of the list with that of the second, each made in the
- * same way, down to single shards; if only one is given it is united with itself. If the sections of the inputs hold
- * well-formed shards that agree pairwise, under one key, it is the bytes of their join, which has no order, or fails
- * for memory or for too many rows. xet_merge_agreeing finds out whether they do. It is written to `out` itself, when
+ * same way, down to single shards, whose records are written anew. If the sections of the inputs hold well-formed
+ * shards that agree pairwise, under one key, it is the bytes of their join, which has no order, or fails for memory or
+ * for too many rows. xet_merge_agreeing finds out whether they do. It is written to `out` itself, when
  * all that can fail is done, and so is what xet_merge_range and xet_merge_agreeing write; other calls make their bytes
  * first, and copy them, but for xet_concatenate.
  *

@@ -670,11 +670,11 @@ def test_merge_names_the_input():
     assert refused("InvalidArguments", xet_shards.merge, [ONE_FILE, ONE_FILE, keyed]).index == 2
     for named in ({}, {"strict": True}, {"start": hash_text("0")}):
         assert refused("InvalidArguments", xet_shards.merge, [keyed, keyed, ONE_FILE, keyed], **named).index == 2
-    # The first shard has a key, though its files do not ascend; of one without a footer no key is known.
+    # Shards are read in the order of the list, before their keys are compared.
     two = shard_of("file 100 200:0:5:5", "file 101 200:0:5:5")
     descending = two[:48] + two[144:240] + two[48:144] + two[240:]
-    assert refused("InvalidArguments", xet_shards.merge, [descending, keyed, ONE_FILE]).index == 1
-    assert refused("InvalidArguments", xet_shards.merge, [b"?" * 500, keyed, ONE_FILE]).index is None
+    assert refused("InvalidShard", xet_shards.merge, [descending, keyed, ONE_FILE]).index == 0
+    assert refused("ShardVersion", xet_shards.merge, [b"?" * 500, keyed, ONE_FILE]).index == 0
     error = refused("ShardVersion", xet_shards.merge, [b"?" * 500, ONE_FILE], strict=True)
     assert error.index == 0
     text = "the shard at 0: the bytes are no shard of version 2 or 3 (ShardVersion)"

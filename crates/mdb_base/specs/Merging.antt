@@ -1,17 +1,18 @@
 -- What a merge of shards writes, and why it does not.
-use Rattle.std.specs.Prelude.{ℕ, ◌≡◌, ◌⊎◌, List, ◌∷◌, length, slice_get}
+use Rattle.std.specs.Prelude.{ℕ, ◌≡◌, ◌⊎◌, ⊤, List, ◌∷◌, length, slice_get}
 use Rattle.std.specs.Borrow.{Bor}
 use Rattle.std.specs.Option.{MatchOption}
 use Rattle.xet_core_structures.specs.declared.error.CoreError.{CoreError}
 use Rattle.xet_core_structures.specs.declared.error.CoreError.TheVariants.{OutOfMemory as no_memory}
-use Rattle.shard_merging.specs.declared.merging.agreement.Disagreement.{Disagreement}
-use Rattle.shard_merging.specs.declared.merging.agreement.MalformedRecord.{MalformedRecord}
-use Rattle.shard_merging.specs.Agreement.Agreement.{HoldShards, IsFirstMalformed, InputsAgree, InputsRefusal}
-use Rattle.shard_merging.specs.Agreement.Agreement.{HasAllDisagreements}
-use Rattle.shard_merging.specs.Trees.InVersions.{MadeIn, RefusedIn}
+use Rattle.placed_shards.specs.declared.findings.Disagreement.{Disagreement}
+use Rattle.placed_shards.specs.declared.findings.MalformedRecord.{MalformedRecord}
+use Rattle.placed_shards.specs.Content.{Content}
+use Rattle.placed_shards.specs.Findings.{AreOpened, FirstRefusal, HasAllDisagreements, IsFirstMalformed}
+use Rattle.placed_shards.specs.Merging.{IsMergeOf, MergeRefusal}
+use Rattle.placed_shards.specs.Ranges.{all_hashes}
+use Rattle.placed_shards.specs.Strict.{AreAgreeing, AgreedRefusal, IsJoinedMerge}
 use Rattle.xet_records.specs.declared.record_reader.FormatVersion.{FormatVersion}
-use Rattle.shard_bytes.specs.Agreeing.{IsMergeOfAgreeing, RefusesAgreeing}
-use Rattle.shard_bytes.specs.Merging.{MergesBytes, RefusesMerge}
+use Rattle.shard_bytes.specs.Versions.{IsWrittenIn, NotWrittenIn}
 use Rattle.mdb_report.specs.declared.fault.Fault.TheVariants.{OutOfMemory, Disagree, Malformed}
 use Rattle.mdb_base.specs.declared.failure.Failure.{Failure}
 use Rattle.mdb_base.specs.declared.failure.Subject.TheVariants.{File, StandardOutput}
@@ -21,22 +22,23 @@ use Rattle.mdb_base.specs.declared.request.Strictness.TheVariants.{Lenient, Stri
 -- the bytes of the merge of inputs in a version; of a strict one each input holds a well-formed
 -- shard, these agree pairwise, and the bytes are those of their join
 abbrev pub UnitesTo : Strictness → FormatVersion → List (List ℕ) → List ℕ → Type 0
-UnitesTo Lenient version inputs out = MadeIn version (MergesBytes inputs) out
+UnitesTo Lenient version inputs out = IsWrittenIn version (IsMergeOf all_hashes inputs) out
 UnitesTo Strict version inputs out =
-    HoldShards inputs × InputsAgree inputs × MadeIn version (MergesBytes inputs) out
-    × MadeIn version (IsMergeOfAgreeing inputs) out
+    AreAgreeing all_hashes inputs × IsWrittenIn version (IsJoinedMerge all_hashes inputs) out
 
 -- the failure names a record that no shard may have, and the file that has it
 abbrev pub SaysMalformed : List (Bor (List ℕ)) → List (List ℕ) → Failure → Type 0
 SaysMalformed files inputs failure =
-    (m : MalformedRecord) × IsFirstMalformed inputs m × (failure.fault ≡ Malformed m.record_hash)
+    (m : MalformedRecord) × IsFirstMalformed all_hashes inputs m
+    × (failure.fault ≡ Malformed m.record_hash)
     × MatchOption (slice_get files m.input) (failure.subject ≡ StandardOutput)
     (λ file. failure.subject ≡ File file)
 
 -- the failure counts the hashes with records that disagree, at least one, and names the first
 abbrev pub SaysDisagree : List (List ℕ) → Failure → Type 0
 SaysDisagree inputs failure =
-    (first : Disagreement) × (others : List Disagreement) × HasAllDisagreements inputs (first ∷ others)
+    (cs : List Content) × AreOpened all_hashes inputs cs × (first : Disagreement)
+    × (others : List Disagreement) × HasAllDisagreements cs (first ∷ others)
     × (failure.fault ≡ Disagree (length (first ∷ others)) first.record_hash)
 
 -- there is an error of such a cause; a lack of memory is reported as such
@@ -47,7 +49,8 @@ SaysCause IsCause failure =
 -- an input is not read, or the inputs have no merge in a version
 abbrev pub SaysNotMerged : FormatVersion → List (List ℕ) → Failure → Type 0
 SaysNotMerged version inputs = SaysCause
-    (λ e. InputsRefusal inputs e ⊎ RefusedIn version (MergesBytes inputs) (RefusesMerge inputs) e)
+    (λ e. FirstRefusal all_hashes (λ c. ⊤) inputs e
+    ⊎ NotWrittenIn version (IsMergeOf all_hashes inputs) (MergeRefusal all_hashes inputs) e)
 
 -- why inputs have no merge in a version
 abbrev pub UnionFails : Strictness → FormatVersion → List (Bor (List ℕ)) → List (List ℕ) → Failure
@@ -55,4 +58,5 @@ abbrev pub UnionFails : Strictness → FormatVersion → List (Bor (List ℕ)) �
 UnionFails Lenient version files inputs failure = SaysNotMerged version inputs failure
 UnionFails Strict version files inputs failure =
     SaysMalformed files inputs failure ⊎ SaysDisagree inputs failure
-    ⊎ SaysCause (RefusesAgreeing version inputs) failure
+    ⊎ SaysCause (AgreedRefusal all_hashes inputs
+    (NotWrittenIn version (IsJoinedMerge all_hashes inputs) (MergeRefusal all_hashes inputs))) failure

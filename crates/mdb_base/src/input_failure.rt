@@ -1,17 +1,20 @@
 //! Why inputs cannot be combined, and which of them is at fault.
 
-ghost use Rattle.std.specs.Prelude.{◌≡◌, [], map, slice_get, IsTrue, MatchOption, MatchResult};
-ghost use Rattle.shard_merging.specs.Agreement.Agreement.{HasAllDisagreements, InputsRefusal};
+ghost use Rattle.std.specs.Prelude.{◌≡◌, ⊤, List, [], map, slice_get, IsTrue, MatchOption, MatchResult};
+ghost use Rattle.placed_shards.specs.Content.{Content};
+ghost use Rattle.placed_shards.specs.Findings.{AreOpened, FirstRefusal, HasAllDisagreements};
+ghost use Rattle.placed_shards.specs.Ranges.{all_hashes};
 ghost use Rattle.mdb_base.specs.Merging.{SaysDisagree, SaysCause};
 
 use crate::failure::{Failure, Subject};
 use crate::request::Target;
 use mdb_report::fault::{Fault, first_blocking_finding, has_wrong_footer};
+use placed_shards::findings::{Disagreement, MalformedRecord, find_disagreements};
+use placed_shards::range::HashRange;
 use shard_bytes::check::{Finding, Part};
 use shard_bytes::combine::{Operation, combine_bytes};
 use shard_bytes::load::load_bytes;
 use shard_files::files::read_shard;
-use shard_merging::{Disagreement, MalformedRecord, find_disagreements};
 use std::alloc::Global;
 use std::rt::Files;
 use xet_core_structures::error::CoreError;
@@ -129,7 +132,7 @@ fn footer_failure<'a>(alloc: Global, files: &[&'a str], inputs: &[&[u8]]) -> Fai
 /// The failure of inputs that have no union together: that of the first two with different records
 /// under one hash that have none, else of all.
 pub fn union_failure<'a>(alloc: Global, files: &[&'a str], inputs: &[&[u8]]) -> Failure<'a> {
-    let Ok(found) = find_disagreements(alloc, inputs) else {
+    let Ok(found) = find_disagreements(alloc, inputs, &HashRange::ALL) else {
         return failure_on_all(files, Fault::NoUnion);
     };
     // The pair that was tried last.
@@ -169,11 +172,13 @@ pub fn disagreement_failure<'a>(
     inputs: &[&[u8]],
 ) -> Result<Option<Failure<'a>>, Failure<'a>>
     ensures { MatchResult result
-        (λ found. MatchOption found (HasAllDisagreements (map (λ x. x.now) inputs.now) [])
+        (λ found. MatchOption found
+        ((cs : List Content) × AreOpened all_hashes (map (λ x. x.now) inputs.now) cs
+        × HasAllDisagreements cs [])
         (SaysDisagree (map (λ x. x.now) inputs.now)))
-        (SaysCause (InputsRefusal (map (λ x. x.now) inputs.now))) }
+        (SaysCause (FirstRefusal all_hashes (λ c. ⊤) (map (λ x. x.now) inputs.now))) }
 {
-    let found = match find_disagreements(alloc, inputs) {
+    let found = match find_disagreements(alloc, inputs, &HashRange::ALL) {
         Ok(found) => found,
         Err(error) => return Err(combine_failure(alloc, files, inputs, error)),
     };

@@ -1,8 +1,9 @@
 //! The command that merges shards.
 
 ghost use Rattle.std.specs.Prelude.{◌≡◌, List, ℕ, Option, zip, map, IfOk, MatchResult};
-ghost use Rattle.shard_bytes.specs.Merging.{MergesBytes};
-ghost use Rattle.shard_merging.specs.Trees.InVersions.{MadeIn};
+ghost use Rattle.placed_shards.specs.Merging.{IsMergeOf};
+ghost use Rattle.placed_shards.specs.Ranges.{all_hashes};
+ghost use Rattle.shard_bytes.specs.Versions.{IsWrittenIn};
 ghost use Rattle.mdb_base.specs.Expiries.{IsNewExpiry};
 ghost use Rattle.mdb_base.specs.Merging.{UnitesTo, UnionFails, SaysNotMerged};
 ghost use Rattle.mdb_base.specs.Writing.{HasExpiry};
@@ -25,9 +26,11 @@ use mdb_base::request::{Merge, Strictness, Target};
 use mdb_base::status::Status;
 use mdb_base::terminals::Terminals;
 use mdb_report::fault::Fault;
+use placed_shards::range::HashRange;
+use placed_shards::strict::Agreed;
 use record_report::line::Style;
 use record_report::shown::ShownText;
-use shard_bytes::agree::{AgreeingMerge, merge_agreeing_bytes};
+use shard_bytes::agree::merge_agreeing_bytes;
 use shard_bytes::merge::merge_bytes;
 use shard_files::files::{Contents, STANDARD_STREAM, is_worth_reading, open_sized, read_ends};
 use shard_files::free_memory::free_memory;
@@ -321,12 +324,12 @@ fn unite_agreeing<'a>(
         (UnionFails Strictness.Strict target.entry.version files.now
         (map (λ x. x.now) inputs.now)) }
 {
-    match merge_agreeing_bytes(alloc, inputs, target.version) {
-        Ok(AgreeingMerge::Bytes(bytes)) => Ok(bytes),
-        Ok(AgreeingMerge::Disagreements(found)) => {
+    match merge_agreeing_bytes(alloc, inputs, &HashRange::ALL, target.version) {
+        Ok(Agreed::Made(bytes)) => Ok(bytes),
+        Ok(Agreed::Disagreements(found)) => {
             Err(disagreement_under(files, &found[0], found.len()))
         }
-        Ok(AgreeingMerge::Malformed(malformed)) => Err(failure_on_malformed(files, &malformed)),
+        Ok(Agreed::Malformed(malformed)) => Err(failure_on_malformed(files, &malformed)),
         Err(error) => Err(combine_failure_in(alloc, files, inputs, target, error)),
     }
 }
@@ -341,18 +344,18 @@ fn unite_leniently<'a, R: Eprint + AllocGlobal>(
     progress: &mut Progress,
 ) -> Result<Vec<u8>, Failure<'a>>
     ensures { MatchResult result
-        (λ bytes. MadeIn target.entry.version (MergesBytes (map (λ x. x.now) inputs.now))
-        bytes.items)
+        (λ bytes. IsWrittenIn target.entry.version
+        (IsMergeOf all_hashes (map (λ x. x.now) inputs.now)) bytes.items)
         (SaysNotMerged target.entry.version (map (λ x. x.now) inputs.now)) }
 {
     let alloc = rt.alloc();
-    match merge_agreeing_bytes(alloc, inputs, target.version) {
-        Ok(AgreeingMerge::Bytes(bytes)) => Ok(bytes),
-        Ok(AgreeingMerge::Disagreements(found)) => {
+    match merge_agreeing_bytes(alloc, inputs, &HashRange::ALL, target.version) {
+        Ok(Agreed::Made(bytes)) => Ok(bytes),
+        Ok(Agreed::Disagreements(found)) => {
             let choice = Some(disagreement_under(files, &found[0], found.len()));
             unite_and_report(rt, files, inputs, target, &None, &choice, progress)
         }
-        Ok(AgreeingMerge::Malformed(malformed)) => {
+        Ok(Agreed::Malformed(malformed)) => {
             let choice = disagreement_failure(alloc, files, inputs)?;
             let malformed = Some(failure_on_malformed(files, &malformed));
             unite_and_report(rt, files, inputs, target, &malformed, &choice, progress)
@@ -372,12 +375,12 @@ fn unite_and_report<'a, R: Eprint + AllocGlobal>(
     progress: &mut Progress,
 ) -> Result<Vec<u8>, Failure<'a>>
     ensures { MatchResult result
-        (λ bytes. MadeIn target.entry.version (MergesBytes (map (λ x. x.now) inputs.now))
-        bytes.items)
+        (λ bytes. IsWrittenIn target.entry.version
+        (IsMergeOf all_hashes (map (λ x. x.now) inputs.now)) bytes.items)
         (SaysNotMerged target.entry.version (map (λ x. x.now) inputs.now)) }
 {
     let alloc = rt.alloc();
-    match merge_bytes(alloc, inputs, target.version) {
+    match merge_bytes(alloc, inputs, &HashRange::ALL, target.version) {
         Ok(bytes) => {
             report_findings(rt, malformed, choice, progress);
             Ok(bytes)

@@ -1,8 +1,8 @@
 //! How values are printed: short, and in the form in which commands take them.
 
 use crate::ranges::hex_digits;
+use placed_shards::findings::{Disagreement, MalformedRecord, RecordHash};
 use shard_bytes::check::Finding;
-use shard_merging::{Disagreement, MalformedRecord, RecordHash};
 use std::alloc::Global;
 use std::io::{self, Write};
 use std::rc::Rc;

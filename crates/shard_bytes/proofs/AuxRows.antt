@@ -18,8 +18,8 @@ use Rattle.xet_core_structures.specs.FileRecord.{file_records, file_records_in, 
 use Rattle.shard_merging.specs.InARow.{ShardPart, bytes_of_part, options_in, IsPartUnder, files_in}
 use Rattle.xet_core_structures.specs.SectionReading.{IsSection}
 use Rattle.shard_merging.specs.Steps.InVersions.{AreNumbered, with_number_2}
-use Rattle.shard_merging.specs.Trees.Filling.{Fills}
-use Rattle.shard_merging.proofs.Records.Items.{below_or_at}
+use Rattle.placed_shards.specs.Filling.{Fills}
+use Rattle.placed_shards.proofs.Items.{below_or_at}
 use Rattle.shard_merging.proofs.Trees.InVersions.{filled_numbered}
 use Rattle.xet_shards.proofs.Export.Rewriting.{sections_of_layout}
 use Rattle.xet_shards.proofs.Write.Sections.{fits_ever}

@@ -15,7 +15,9 @@ use Rattle.xet_core_structures.specs.declared.record_reader.FormatVersion.TheVar
 use Rattle.xet_core_structures.specs.Errors.{IsWriteError}
 use Rattle.shard_merging.specs.InARow.{ShardPart, bytes_of_part, IsPartUnder, files_in, xorbs_in, options_under, AscendBoth, ArePartsInARow, AreBytesOf, AreInARow, IsConcatenation, RefusesShardsInARow}
 use Rattle.xet_core_structures.specs.Layout.{layout_of, plain_options}
-use Rattle.shard_merging.specs.Records.Ranges.{IsPartOf, is_within, ranges_between, AreCuts}
+use Rattle.placed_shards.specs.Merging.{IsPartOf}
+use Rattle.placed_shards.specs.Ranges.{is_within}
+use Rattle.placed_shards.specs.Ranges.{ranges_between, AreCuts}
 use Rattle.xet_core_structures.specs.Shard.{Shard, IsShard}
 use Rattle.shard_merging.specs.Trees.RangeTrees.{IsHeldLayout}
 use Rattle.shard_merging.proofs.Trees.InVersions.{in_version_2}

@@ -4,21 +4,15 @@ use Rattle.xet_core_structures.specs.declared.error.CoreError.{CoreError}
 use Rattle.xet_core_structures.specs.declared.error.CoreError.TheVariants.{InvalidArguments}
 use Rattle.xet_core_structures.specs.declared.file_structs.MDBFileInfo.{MDBFileInfo}
 use Rattle.xet_core_structures.specs.declared.xorb_structs.MDBXorbInfo.{MDBXorbInfo}
-use Rattle.xet_core_structures.specs.declared.set_operations.MergePlan.{MergePlan}
-use Rattle.shard_merging.specs.declared.merging.ranges.HashRange.{HashRange}
-use Rattle.shard_merging.specs.Trees.InVersions.{AreInBothVersions, MadeIn, RefusedIn, TreeWritesIn, TreeRefusalIn}
-use Rattle.xet_core_structures.specs.Trees.MergeTrees.{TreeWrites, TreeRefusal}
-use Rattle.shard_merging.specs.Trees.RangeTrees.{RangeWrites, RangeRefusal}
+use Rattle.shard_merging.specs.Trees.InVersions.{AreInBothVersions, MadeIn}
 use Rattle.xet_core_structures.specs.TwoShards.ByteResults.{keyed_options}
-use Rattle.shard_merging.proofs.Trees.InVersions.{in_version_2, has_header, number_keeps_size, made_as, refused_as, made_by_tree, refused_by_tree}
+use Rattle.shard_merging.proofs.Trees.InVersions.{in_version_2, has_header, number_keeps_size}
 use Rattle.xet_records.specs.declared.record_reader.FormatVersion.{FormatVersion}
 use Rattle.xet_records.specs.declared.record_reader.FormatVersion.TheVariants.{V2, V3}
 use Rattle.xet_shards.specs.declared.shard_writer.LayoutOptions.{LayoutOptions}
 use Rattle.std.specs.FinMap.{values}
 use Rattle.shard_bytes.specs.Steps.Versions.{IsLayoutWith, has_new_files}
 use Rattle.shard_bytes.specs.Versions.{AreBytesIn3, LaidOutIn, NotLaidOutIn}
-use Rattle.shard_bytes.specs.Merging.{IsMergePlan, MergesBytes, RefusesMerge, MergesRange, RefusesRange}
-use Rattle.shard_bytes.proofs.Merging.{plan_covers}
 
 -- bytes in both versions have one size
 same_size : (bytes out : List ℕ) → AreInBothVersions bytes out → length out ≡ length bytes
@@ -32,24 +26,6 @@ same_size bytes out both =
 pub size_in : (version : FormatVersion) (Makes : List ℕ → Type 0) (Says : ℕ → Type 0) (out : List ℕ) → ((bytes : List ℕ) → Makes bytes → Says (length bytes)) → MadeIn version Makes out → Says (length out)
 size_in V3 Makes Says out says makes = says out makes
 size_in V2 Makes Says out says (bytes, makes, both) = subst Says (sym (same_size bytes out both)) (says bytes makes)
-
-module _ (inputs : List (List ℕ)) (plan : MergePlan) (is_plan : IsMergePlan (length inputs) plan) (version : FormatVersion) where
-  pub merge_made : (out : List ℕ) → TreeWritesIn version inputs plan out → MadeIn version (MergesBytes inputs) out
-  merge_made out writes =
-      made_as (TreeWrites inputs plan) (MergesBytes inputs) (TreeRefusal inputs plan) (RefusesMerge inputs) (λ bytes written. (plan, is_plan, written)) (λ e refusal. inr (inr (plan, is_plan, refusal))) version out
-      (made_by_tree inputs version plan out (plan_covers (length inputs) plan is_plan).union writes)
-
-  pub merge_refused : (e : CoreError) → TreeRefusalIn version inputs plan e → RefusedIn version (MergesBytes inputs) (RefusesMerge inputs) e
-  merge_refused e refused =
-      refused_as (TreeWrites inputs plan) (MergesBytes inputs) (TreeRefusal inputs plan) (RefusesMerge inputs) (λ bytes written. (plan, is_plan, written)) (λ e refusal. inr (inr (plan, is_plan, refusal))) version e
-      (refused_by_tree inputs version plan e (plan_covers (length inputs) plan is_plan).union refused)
-
-  pub range_made : (range : HashRange) (out : List ℕ) → MadeIn version (RangeWrites range inputs plan) out → MadeIn version (MergesRange range inputs) out
-  range_made range = made_as (RangeWrites range inputs plan) (MergesRange range inputs) (RangeRefusal range inputs plan) (RefusesRange range inputs) (λ bytes written. (plan, is_plan, written)) (λ e refusal. inr (inr (plan, is_plan, refusal))) version
-
-  pub range_refused : (range : HashRange) (e : CoreError) → RefusedIn version (RangeWrites range inputs plan) (RangeRefusal range inputs plan) e → RefusedIn version (MergesRange range inputs) (RefusesRange range inputs) e
-  range_refused range =
-      refused_as (RangeWrites range inputs plan) (MergesRange range inputs) (RangeRefusal range inputs plan) (RefusesRange range inputs) (λ bytes written. (plan, is_plan, written)) (λ e refusal. inr (inr (plan, is_plan, refusal))) version
 
 -- what is made of records that a call lays out
 module _ (Makes : List ℕ → Type 0) (Refuses : CoreError → Type 0) where

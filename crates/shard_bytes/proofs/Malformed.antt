@@ -22,8 +22,8 @@ use Rattle.xet_core_structures.specs.declared.xorb_structs.MDBXorbInfo.{MDBXorbI
 use Rattle.xet_core_structures.specs.declared.xorb_structs.XorbChunkSequenceHeader.{XorbChunkSequenceHeader}
 use Rattle.xet_core_structures.specs.FileRecord.{IsPlainHeader, IsWellFormed, file_records, file_rows_bytes}
 use Rattle.xet_core_structures.specs.XorbRecord.{IsXorb, size_of_chunks, xorb_records}
-use Rattle.shard_merging.proofs.Records.FrontRows.{FirstOf, first_of, none_left}
-use Rattle.shard_merging.proofs.Records.Items.{below_or_at}
+use Rattle.placed_shards.proofs.FrontRows.{FirstOf, first_of, none_left}
+use Rattle.placed_shards.proofs.Items.{below_or_at}
 use Rattle.xet_shards.specs.declared.shard_writer.PlacedRecord.{PlacedRecord}
 use Rattle.xet_shards.specs.declared.shard_writer.StoredSection.{StoredSection}
 use Rattle.xet_shards.specs.Read.StoredSection.{StoresRecord, StoresSection}

@@ -1,5 +1,5 @@
--- A list of byte strings is merged by a tree with each of them at a leaf. Of shards that agree it gives the bytes of their
--- join, and of a range those of the join's records in it.
+-- A list of byte strings is merged by a tree with each of them at a leaf. Of a range of shards that agree it gives the bytes of
+-- the join's records in it.
 use Rattle.std.proofs.Common.{◌≡◌, inl, inr, ℕ, zero, suc, ◌+◌, ◌-◌, ◌/◌, ◌<◌, ◌≤◌, List, [], ◌∷◌, ◌++◌, length, map, get_or, refl, sym, ap, ◌∙◌, subst, arith}
 use Rattle.std.specs.Prelude.{Contains}
 use Rattle.std.specs.List.{AllZip}
@@ -9,16 +9,15 @@ use Rattle.xet_core_structures.specs.declared.set_operations.MergePlan.{MergePla
 use Rattle.xet_core_structures.specs.declared.set_operations.MergePlan.TheVariants.{Leaf, Both'}
 use Rattle.xet_core_structures.specs.Records.ShardContents.{HoldsShard}
 use Rattle.xet_core_structures.specs.declared.merklehash.DataHash.{DataHash}
-use Rattle.shard_merging.specs.declared.merging.ranges.HashRange.{HashRange}
+use Rattle.placed_shards.specs.declared.range.HashRange.{HashRange}
 use Rattle.xet_core_structures.specs.Joins.{IsJoinOf, AgreePairwise}
-use Rattle.xet_core_structures.specs.KeyedHash.{no_key}
-use Rattle.xet_core_structures.specs.Trees.MergeTrees.{leaves, HasUnion, InputIs, IsMerge}
+use Rattle.xet_core_structures.specs.Trees.MergeTrees.{leaves, HasUnion, InputIs}
 use Rattle.shard_merging.specs.Trees.RangeTrees.{IsRangeMerge}
 use Rattle.xet_core_structures.specs.Shard.{Shard, empty_shard}
 use Rattle.xet_shards.proofs.Content.MappedShards.{mapped_member, unmapped_member}
 use Rattle.xet_shards.proofs.Read.Zipped.{zipped_made}
 use Rattle.xet_core_structures.proofs.Trees.SameTrees.{join_of_same}
-use Rattle.shard_bytes.specs.Merging.{IsBalanced, IsMergePlan, IsMergeOfList, IsRangeMergeOfList}
+use Rattle.shard_bytes.specs.Merging.{IsBalanced, IsMergePlan, IsRangeMergeOfList}
 
 only_member : (i j : ℕ) → Contains (j ∷ []) i → j ≡ i
 only_member i j (zero, within, is) = is
@@ -122,17 +121,7 @@ module _ (key : DataHash) where
     pub leaves_join : (join : Shard) → IsJoinOf (Contains all) join → IsJoinOf (Contains at_leaves) join
     leaves_join join is = join_of_same (Contains all) (Contains at_leaves) to_leaves from_list join is
 
--- a tree with each of the byte strings at a leaf merges them
-pub merges : (all : List Shard) (inputs : List (List ℕ)) (join : Shard) (have : IsMergeOfList inputs all join) (plan : MergePlan) (covers : Covers (length inputs) plan)
-    → IsMerge inputs plan (at_leaves no_key all inputs have.are_held plan covers) join
-merges all inputs join have plan covers = record {
-  union = covers.union;
-  inputs_are = leaves_hold no_key all inputs have.are_held plan covers;
-  agree = leaves_agree no_key all inputs have.are_held plan covers have.agree;
-  is_join = leaves_join no_key all inputs have.are_held plan covers join have.is_join;
-}
-
--- and their records in a range, under any key
+-- a tree with each of the byte strings at a leaf merges their records in a range, under any key
 pub merges_range : (range : HashRange) (key : DataHash) (all : List Shard) (inputs : List (List ℕ)) (join part : Shard) (have : IsRangeMergeOfList range key inputs all join part) (plan : MergePlan)
     (covers : Covers (length inputs) plan) → IsRangeMerge range key inputs plan (at_leaves key all inputs have.are_held plan covers) join part
 merges_range range key all inputs join part have plan covers = record {

@@ -3,14 +3,14 @@ use Rattle.std.proofs.Common.{inl, inr, ℕ, ◌-◌, ◌+◌, ◌/◌, ◌<◌,
 use Rattle.std.specs.List.{AllZip}
 use Rattle.xet_core_structures.specs.declared.merklehash.DataHash.{DataHash}
 use Rattle.xet_core_structures.specs.declared.set_operations.MergePlan.TheVariants.{Leaf, Both'}
-use Rattle.shard_merging.specs.Records.Ranges.{ranges_between, AreCuts}
+use Rattle.placed_shards.specs.Ranges.{ranges_between, AreCuts}
 use Rattle.shard_merging.specs.Trees.RangeTrees.{RangeWrites}
 use Rattle.shard_merging.specs.Trees.RowTrees.{InputRowsAre, IsRowsOf, WriteInRows}
 use Rattle.shard_merging.proofs.LawProofs.RowRanges.{rows_cover_ranges as by_one_tree}
 use Rattle.xet_core_structures.specs.declared.error.CoreError.{CoreError}
 use Rattle.xet_core_structures.specs.declared.record_reader.FormatVersion.{FormatVersion}
 use Rattle.xet_core_structures.specs.declared.set_operations.MergePlan.{MergePlan}
-use Rattle.shard_merging.specs.declared.merging.ranges.HashRange.{HashRange}
+use Rattle.placed_shards.specs.declared.range.HashRange.{HashRange}
 use Rattle.shard_merging.specs.declared.merging.rows.SectionRows.{SectionRows}
 use Rattle.shard_merging.specs.Trees.InVersions.{MadeIn, RefusedIn}
 use Rattle.shard_merging.specs.Trees.RowTrees.{RowsWrite, RowsRefusal}

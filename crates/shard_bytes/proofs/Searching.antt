@@ -6,7 +6,7 @@ use Rattle.std.proofs.lemmas.List.{map_push}
 use Rattle.std.proofs.lemmas.Option.{none-some, slice_get_cases}
 use Rattle.std.proofs.lemmas.List.Sorted.{Contains-permutation, IsPermutation-sym}
 use Rattle.xet_base.specs.declared.merklehash.DataHash.{DataHash}
-use Rattle.shard_merging.proofs.Records.Items.{has_mapped, mapped_back}
+use Rattle.placed_shards.proofs.Items.{has_mapped, mapped_back}
 use Rattle.xet_core_structures.specs.Shard.{xorb_hash_of}
 use Rattle.xet_core_structures.specs.declared.xorb_structs.MDBXorbInfo.{MDBXorbInfo}
 use Rattle.xet_core_structures.specs.MinimalShard.{MinimalShard}

@@ -7,10 +7,10 @@ use Rattle.xet_core_structures.specs.declared.error.CoreError.{CoreError}
 use Rattle.xet_core_structures.specs.declared.set_operations.MergePlan.{MergePlan}
 use Rattle.xet_core_structures.specs.declared.set_operations.MergePlan.TheVariants.{Leaf, Both'}
 use Rattle.xet_core_structures.specs.TwoShards.ByteResults.{UnitesBytes}
-use Rattle.shard_merging.specs.Trees.Filling.{FillsWith}
+use Rattle.placed_shards.specs.Filling.{FillsWith}
 use Rattle.xet_core_structures.specs.Trees.MergeTrees.{leaves, HasUnion, TreeMakes, LeafWrites, TreeWrites}
 use Rattle.xet_core_structures.specs.Records.Sizes.{bytes_at}
-use Rattle.shard_merging.specs.declared.merging.ranges.HashRange.{HashRange}
+use Rattle.placed_shards.specs.declared.range.HashRange.{HashRange}
 use Rattle.shard_merging.specs.Trees.RangeTrees.{IsRangeOf, LeafWritesRange, RangeWrites}
 use Rattle.shard_merging.specs.declared.merging.rows.SectionRows.{SectionRows}
 use Rattle.shard_merging.specs.Trees.RowTrees.{IsRowsOf, LeafWritesRows, RowsWrite}
@@ -18,7 +18,7 @@ use Rattle.shard_merging.proofs.LawProofs.RangeSizes.{bytes_of_range, bytes_of_r
 use Rattle.shard_merging.proofs.LawProofs.RowSizes.{bytes_of_rows, bytes_of_repeated_rows}
 use Rattle.xet_core_structures.proofs.LawProofs.UnionSizes.{bytes_of_tree, bytes_of_repetition}
 use Rattle.shard_bytes.specs.Merging.{IsBalanced, IsMergePlan}
-use Rattle.shard_bytes.specs.Sizes.{IsResultSize}
+use Rattle.placed_shards.specs.Sizes.{IsResultSize}
 
 module _ {X : Type 0} where
   -- the sizes of so many lists from an index on
@@ -77,19 +77,6 @@ module _ (inputs : List (List ℕ)) (Makes : ℕ → List ℕ → Type 0) (bytes
       bytes_of_one x y out one (subst (λ l. TreeMakes Makes l x) first x_made) (subst (λ l. TreeMakes Makes l y) second y_made) unites
   size_made (Both' p left q right) out (inr (more, balanced)) made =
       omega (arith, bytes_made (Both' p left q right) out tt made, balanced_bytes inputs 0 (length inputs) (Both' p left q right) balanced, sizes_of_all inputs)
-
-pub size_of_merge : (inputs : List (List ℕ)) (plan : MergePlan) (out : List ℕ) → IsMergePlan (length inputs) plan → TreeWrites inputs plan out → IsResultSize inputs (length out)
-size_of_merge inputs = size_made inputs (LeafWrites inputs) (bytes_of_tree inputs) of_one where
-  of_one : (x y out : List ℕ) → length inputs ≡ 1 → LeafWrites inputs 0 x → LeafWrites inputs 0 y → UnitesBytes x y out → 3 * length out ≤ 1032 + 8 * sum_by length inputs
-  of_one x y out one x_is y_is unites = omega (arith, bytes_of_repetition x out (subst (λ z. UnitesBytes x z out) (same_item inputs x y x_is y_is) unites), only_input inputs x one x_is)
-
--- a range of a merge has no more bytes than a merge may have
-pub size_of_range : (range : HashRange) (inputs : List (List ℕ)) (plan : MergePlan) (out : List ℕ) → IsMergePlan (length inputs) plan → RangeWrites range inputs plan out → IsResultSize inputs (length out)
-size_of_range range inputs = size_made inputs (LeafWritesRange range inputs) (bytes_of_range range inputs) of_one where
-  of_one : (x y out : List ℕ) → length inputs ≡ 1 → LeafWritesRange range inputs 0 x → LeafWritesRange range inputs 0 y → UnitesBytes x y out → 3 * length out ≤ 1032 + 8 * sum_by length inputs
-  of_one x y out one x_is y_is unites =
-      let same = same_item inputs x_is.0 y_is.0 x_is.1 y_is.1 in
-      omega (arith, bytes_of_repeated_range range x_is.0 x y out x_is.2 (subst (λ b. IsRangeOf range b y) same y_is.2) unites, only_input inputs x_is.0 one x_is.1)
 
 -- so have the rows of a merge
 pub size_of_rows : (range : HashRange) (starts ends : List SectionRows) (inputs : List (List ℕ)) (plan : MergePlan) (out : List ℕ) → IsMergePlan (length inputs) plan → RowsWrite range starts ends inputs plan out → IsResultSize inputs (length out)

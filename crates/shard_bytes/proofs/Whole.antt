@@ -25,7 +25,7 @@ use Rattle.xet_core_structures.specs.declared.merklehash.DataHash.{DataHash}
 use Rattle.xet_core_structures.specs.Hash.{hash_cmp}
 use Rattle.xet_core_structures.specs.Records.ShardContents.{Holds, HoldsShard, IsSectionOf, files_at, xorbs_at}
 use Rattle.xet_core_structures.specs.Shard.{Shard}
-use Rattle.shard_merging.proofs.Records.Items.{has_at}
+use Rattle.placed_shards.proofs.Items.{has_at}
 use Rattle.xet_core_structures.proofs.Records.ListMaps.{list_map, section_of_list, values-list_map}
 use Rattle.xet_records.specs.Limits.{MAX_ROWS}
 use Rattle.xet_shards.specs.declared.shard_writer.LayoutOptions.{LayoutOptions}

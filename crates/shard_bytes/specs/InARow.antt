@@ -11,7 +11,9 @@ use Rattle.xet_core_structures.specs.declared.record_reader.FormatVersion.{Forma
 use Rattle.xet_core_structures.specs.declared.record_reader.FormatVersion.TheVariants.{V2, V3}
 use Rattle.shard_merging.specs.InARow.{ShardPart, bytes_of_part, IsPartUnder, files_in, xorbs_in, options_under, AscendBoth, ArePartsInARow, AreBytesOf, AreInARow, IsConcatenation, RefusesShardsInARow}
 use Rattle.xet_core_structures.specs.Layout.{layout_in, layout_of}
-use Rattle.shard_merging.specs.Records.Ranges.{IsPartOf, is_within, ranges_between, AreCuts}
+use Rattle.placed_shards.specs.Merging.{IsPartOf}
+use Rattle.placed_shards.specs.Ranges.{is_within}
+use Rattle.placed_shards.specs.Ranges.{ranges_between, AreCuts}
 use Rattle.xet_core_structures.specs.Shard.{Shard, IsShard}
 use Rattle.shard_merging.specs.Trees.RangeTrees.{IsHeldLayout}
 use Rattle.xet_core_structures.specs.WrittenShard.{HasFilesIn}

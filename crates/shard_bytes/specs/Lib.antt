@@ -1,4 +1,3 @@
-pub mod Agreeing
 pub mod Checking
 pub mod ChunkRows
 pub mod Combining

@@ -1,4 +1,4 @@
--- The union of a list of byte strings.
+-- The tree by which a list of byte strings is merged, and the merge of a range by it.
 use Rattle.std.specs.Prelude.{◌≡◌, ◌⊎◌, ℕ, ◌+◌, ◌-◌, ◌/◌, ◌<◌, List, [], length, Contains}
 use Rattle.std.specs.List.{AllZip}
 use Rattle.xet_core_structures.specs.declared.error.CoreError.{CoreError}
@@ -7,12 +7,11 @@ use Rattle.xet_core_structures.specs.declared.set_operations.MergePlan.{MergePla
 use Rattle.xet_core_structures.specs.declared.set_operations.MergePlan.TheVariants.{Leaf, Both'}
 use Rattle.xet_core_structures.specs.Records.ShardContents.{HoldsShard}
 use Rattle.xet_core_structures.specs.Joins.{IsJoinOf, AgreePairwise}
-use Rattle.xet_core_structures.specs.KeyedHash.{no_key}
 use Rattle.xet_core_structures.specs.declared.merklehash.DataHash.{DataHash}
-use Rattle.shard_merging.specs.declared.merging.ranges.HashRange.{HashRange}
-use Rattle.shard_merging.specs.Records.Ranges.{IsPartOf, is_within}
-use Rattle.xet_core_structures.specs.Trees.MergeTrees.{TreeWrites, TreeRefusal}
-use Rattle.shard_merging.specs.Trees.RangeTrees.{RangeWrites, RangeRefusal}
+use Rattle.placed_shards.specs.declared.range.HashRange.{HashRange}
+use Rattle.placed_shards.specs.Merging.{IsPartOf}
+use Rattle.placed_shards.specs.Ranges.{is_within}
+use Rattle.shard_merging.specs.Trees.RangeTrees.{RangeWrites}
 use Rattle.xet_core_structures.specs.Shard.{Shard}
 
 -- a tree over so many inputs from an index on: of two or more, half of them are at its left
@@ -43,29 +42,9 @@ PlanRefuses inputs Refuses e =
     ((e ≡ InvalidArguments) × (inputs ≡ [])) ⊎ (e ≡ OutOfMemory)
     ⊎ ((plan : MergePlan) × IsMergePlan (length inputs) plan × Refuses plan e)
 
--- the bytes to which inputs are merged
-abbrev pub MergesBytes : List (List ℕ) → List ℕ → Type 0
-MergesBytes inputs = PlanMakes (length inputs) (TreeWrites inputs)
-
--- why inputs are not merged
-abbrev pub RefusesMerge : List (List ℕ) → CoreError → Type 0
-RefusesMerge inputs = PlanRefuses inputs (TreeRefusal inputs)
-
--- the byte strings hold these shards, without a key; there is at least one, each two of the shards
--- agree, and this is their join
-pub record IsMergeOfList (inputs : List (List ℕ)) (shards : List Shard) (join : Shard) : Type 0 where
-  pub some : 0 < length inputs
-  pub are_held : AllZip (HoldsShard no_key) shards inputs
-  pub agree : AgreePairwise (Contains shards)
-  pub is_join : IsJoinOf (Contains shards) join
-
 -- the bytes to which the records of inputs in a range are merged
 abbrev pub MergesRange : HashRange → List (List ℕ) → List ℕ → Type 0
 MergesRange range inputs = PlanMakes (length inputs) (RangeWrites range inputs)
-
--- why the records of inputs in a range are not merged
-abbrev pub RefusesRange : HashRange → List (List ℕ) → CoreError → Type 0
-RefusesRange range inputs = PlanRefuses inputs (RangeRefusal range inputs)
 
 -- the byte strings, at least one, hold these well-formed shards under one key; each two of the
 -- shards agree, `join` is their join, and `part` has its records in a range

@@ -1,7 +1,7 @@
 //! Concatenation: one shard made of many whose records follow one another.
 
 ghost use Rattle.std.specs.Prelude.{map};
-ghost use Rattle.shard_merging.specs.Trees.Filling.{FillsWith};
+ghost use Rattle.placed_shards.specs.Filling.{FillsWith};
 ghost use Rattle.shard_bytes.specs.InARow.{Concatenates};
 
 use crate::aux_rows::have_new_files;
@@ -20,7 +20,7 @@ use xet_core_structures::record_reader::FormatVersion;
 ///
 /// So a merge may be made range by range, on many machines, and then be put together. If the merged
 /// shards are well-formed, have one key and agree pairwise, the results in version 3 of
-/// [`merge_range_bytes_into`](crate::merge::merge_range_bytes_into) for ranges that follow one
+/// [`merge_bytes`](crate::merge::merge_bytes) for ranges that follow one
 /// another without a gap give the bytes of the one merge. Records are copied and not checked: if
 /// shards are not trusted, [`check_bytes`](crate::check::check_bytes) checks the result.
 ///

@@ -19,6 +19,7 @@ pub mod merge;
 pub mod minimal;
 mod number;
 pub mod parts;
+mod plan;
 pub mod query;
 pub mod records;
 pub mod rows;

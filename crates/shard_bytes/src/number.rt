@@ -1,7 +1,7 @@
 //! Changes the version number in the header of bytes that were made in version 3.
 
 ghost use Rattle.std.specs.Prelude.{ℕ, List};
-ghost use Rattle.shard_merging.specs.Trees.Filling.{Fills};
+ghost use Rattle.placed_shards.specs.Filling.{Fills};
 ghost use Rattle.shard_bytes.specs.Steps.Versions.{IsNumberedIn};
 
 use shard_merging::put_number;

@@ -4,8 +4,8 @@ ghost use Rattle.std.specs.Prelude.{◌≡◌, ◌+◌, ◌*◌, ◌<◌, ◌≤
 ghost use Rattle.std.specs.List.{AllZip};
 ghost use Rattle.xet_core_structures.specs.declared.merklehash.DataHash.{DataHash};
 ghost use Rattle.shard_merging.specs.declared.merging.rows.SectionRows.{SectionRows};
-ghost use Rattle.shard_merging.specs.Records.Ranges.{ranges_between, AreCuts};
-ghost use Rattle.shard_merging.specs.Trees.Filling.{FillsWith};
+ghost use Rattle.placed_shards.specs.Ranges.{ranges_between, AreCuts};
+ghost use Rattle.placed_shards.specs.Filling.{FillsWith};
 ghost use Rattle.shard_merging.specs.Trees.InVersions.{MadeIn, RefusedIn};
 ghost use Rattle.xet_core_structures.specs.Trees.MergeTrees.{MergeRefused};
 ghost use Rattle.shard_merging.specs.Trees.RangeTrees.{IsHeldLayout};
@@ -14,11 +14,12 @@ ghost use Rattle.xet_core_structures.specs.Shard.{Shard};
 ghost use Rattle.xet_core_structures.specs.TwoShards.ByteResults.{LoadRefusal};
 ghost use Rattle.shard_bytes.specs.Merging.{MergesRange, IsRangeMergeOfList};
 ghost use Rattle.shard_bytes.specs.Rows.{MergesRows, MergeInRows, RefusesRows, word_in, IsRowIn, IsPlaceOf, IsEndRow, AreEndRows, AreEndsOf, RefusesEnds, table_rows, last_row};
-ghost use Rattle.shard_bytes.specs.Sizes.{IsResultSize};
+ghost use Rattle.placed_shards.specs.Sizes.{IsResultSize};
 
 use crate::load::load_bytes;
-use crate::merge::merge_plan;
-use shard_merging::{HashRange, SectionRows, merge_rows_into};
+use crate::plan::merge_plan;
+use placed_shards::range::HashRange;
+use shard_merging::{SectionRows, merge_rows_into};
 use std::alloc::Global;
 use xet_core_structures::error::{CoreError, Result};
 use xet_core_structures::fields::{split_u32, split_u64};
@@ -27,9 +28,10 @@ use xet_core_structures::record_reader::FormatVersion;
 use xet_core_structures::rows::{ROW_LIMIT, ROW_SIZE};
 use xet_core_structures::shard_format::START_ROW_SIZE;
 
-/// As [`merge_range_bytes_into`](crate::merge::merge_range_bytes_into), but it reads only some rows
-/// of each shard: shard i from the rows `starts[i]` on and before the rows `ends[i]`. The bytes are
-/// at most 344 and 8/3 of the shards'.
+/// Writes the bytes that [`merge_bytes`](crate::merge::merge_bytes) makes of a range to the front of a
+/// slice, if they fit, and returns their number; but it reads only some rows of each shard: shard i from
+/// the rows `starts[i]` on and before the rows `ends[i]`. If the bytes don't fit, or if the call fails,
+/// the slice stays as it is. The bytes are at most 344 and 8/3 of the shards'.
 ///
 /// `InvalidArguments` if the list is empty. Else the errors are those of [`merge_rows_into`].
 #[tactic(auto, using(shard_merging::proofs::Trees::InVersions::refused_in_version))]
@@ -65,8 +67,8 @@ pub fn merge_rows_bytes_into(
 
 /// Does nothing. Its contract says of [`merge_rows_bytes_into`], for ranges that follow one another
 /// and leave no hash out: let all calls succeed, and each begin at the rows before which the one
-/// before it ended. Then each writes what
-/// [`merge_range_bytes_into`](crate::merge::merge_range_bytes_into) may write of its range.
+/// before it ended. Then each writes a merge of all records
+/// of its range.
 pub fn rows_cover_ranges()
     ensures { (shards : List (List ℕ)) → (cuts : List DataHash) → (rows : List (List SectionRows))
         → (outs : List (List ℕ)) → AreCuts None cuts None

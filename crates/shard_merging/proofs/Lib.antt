@@ -1,4 +1,3 @@
-pub mod Agreement
 pub mod LawProofs
 pub mod Records
 pub mod Trees

@@ -10,7 +10,7 @@ pub mod RowTrees
 pub mod RowsOfRanges
 pub mod Parts
 pub mod InVersions
-pub mod OpenedInputs
+pub mod PlacedChunks
 pub mod PlacedMixes
 pub mod PlacedShards
 pub mod PlacedRanges

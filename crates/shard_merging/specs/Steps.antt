@@ -1,7 +1,5 @@
 -- Words that only proofs speak of, and contracts of this crate and of those above.
 
-pub mod Agreement
-pub mod Differing
 pub mod Filling
 pub mod InVersions
 pub mod Parts

@@ -3,5 +3,3 @@
 pub mod RangeTrees
 pub mod RowTrees
 pub mod InVersions
-pub mod Parts
-pub mod Filling

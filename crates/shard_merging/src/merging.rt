@@ -1,6 +1,4 @@
-//! Trees of unions over inputs in memory, and whether inputs agree.
+//! Trees of unions over inputs in memory.
 
-pub(super) mod agreement;
-pub(super) mod ranges;
 pub(super) mod rows;
 pub(super) mod trees;

@@ -1,8 +1,10 @@
-//! Shards that are not written yet: merges of lists in a range, also put into memory that is there.
+//! Shards that are not written yet: merges of lists in a range, also put into memory that is there, and
+//! ranges that are opened by lookup tables.
 
 use crate::probe::Probe;
 use crate::stop::Stop;
 use bumpalo::Bump;
+use placed_shards::by_tables::open_by_tables;
 use placed_shards::merge::merge;
 use placed_shards::range::HashRange;
 use script_lines::words::{parse_hash, parse_u64};
@@ -26,6 +28,9 @@ impl Probe {
             ["placed_merge", name, version, from, to, names @ ..] => {
                 self.merge_in_range(name, parse_version(version)?, parse_range(from, to)?, names)
             }
+            ["placed_by_tables", name, from, to, input] => {
+                self.open_range(name, parse_range(from, to)?, input)
+            }
             ["placed_fill", name, size, names @ ..] => self.fill(
                 name,
                 parse_u64(size)?,
@@ -45,6 +50,16 @@ impl Probe {
         names: &[&str],
     ) -> std::result::Result<(), Stop> {
         let bytes = merged(self.alloc, self.buffers(names)?.as_slice(), range, version)?;
+        self.put_buffer(name, bytes)
+    }
+
+    fn open_range(
+        &mut self,
+        name: &str,
+        range: HashRange,
+        input: &str,
+    ) -> std::result::Result<(), Stop> {
+        let bytes = found_by_tables(self.alloc, self.buffer(input)?, &range)?;
         self.put_buffer(name, bytes)
     }
 
@@ -77,22 +92,23 @@ fn merged(
     merge(alloc, &arena, inputs, &range)?.to_bytes(alloc, version)
 }
 
+// The bytes of the records in a range of a shard, found by its lookup tables.
+fn found_by_tables(alloc: Global, bytes: &[u8], range: &HashRange) -> Result<Vec<u8>> {
+    open_by_tables(alloc, bytes, range)?.to_bytes(alloc, FormatVersion::V3)
+}
+
 // The number of the bytes of a list of shards, which are put into memory if they fit.
 fn filled(alloc: Global, inputs: &[&[u8]], out: &mut [u8]) -> Result<usize> {
     let arena = Bump::new(alloc);
-    let all = HashRange {
-        from: None,
-        to: None,
-    };
-    merge(alloc, &arena, inputs, &all)?.write_into(alloc, FormatVersion::V3, out)
+    merge(alloc, &arena, inputs, &HashRange::ALL)?.write_into(alloc, FormatVersion::V3, out)
 }
 
 fn parse_version(word: &str) -> std::result::Result<FormatVersion, Stop> {
     FormatVersion::of_number(parse_u64(word)?).ok_or(Stop::Unreadable)
 }
 
-// The range from a hash on and below another; `-` is no bound.
-fn parse_range(from: &str, to: &str) -> std::result::Result<HashRange, Stop> {
+/// The range from a hash on and below another; `-` is no bound.
+pub fn parse_range(from: &str, to: &str) -> std::result::Result<HashRange, Stop> {
     Ok(HashRange {
         from: parse_bound(from)?,
         to: parse_bound(to)?,

@@ -1,11 +1,15 @@
 //! Unions of many buffers, by a tree, whether buffers agree, and what a check of one finds.
 
+use crate::placed::parse_range;
 use crate::probe::Probe;
 use crate::stop::Stop;
+use placed_shards::findings::{find_disagreements, find_malformed};
+use placed_shards::range::HashRange;
+use placed_shards::strict::Agreed;
 use script_lines::show::show_line;
 use script_lines::words::parse_u64;
+use shard_bytes::agree::merge_agreeing_bytes;
 use shard_bytes::check::check_bytes;
-use shard_merging::{AgreeingMerge, find_disagreements, find_malformed, merge_or_disagreements};
 use std::alloc::Global;
 use xet_core_structures::record_reader::FormatVersion;
 use xet_core_structures::set_operations::{MergePlan, shard_union_tree};
@@ -15,9 +19,17 @@ impl Probe {
     pub fn run_on_sets(&mut self, words: &[&str], out: &mut Vec<u8>) -> Result<bool, Stop> {
         match words {
             ["set_tree", name, words @ ..] => self.unite(name, words),
-            ["set_agreeing", name, words @ ..] => self.unite_agreeing(name, words, out),
-            ["disagreements", names @ ..] => self.show_disagreements(names, out),
-            ["malformed", names @ ..] => self.show_malformed(names, out),
+            ["set_agreeing", name, from, to, names @ ..] => {
+                self.unite_agreeing(name, parse_range(from, to)?, names, out)
+            }
+            ["disagreements", names @ ..] => self.show_disagreements(HashRange::ALL, names, out),
+            ["disagreements_in", from, to, names @ ..] => {
+                self.show_disagreements(parse_range(from, to)?, names, out)
+            }
+            ["malformed", names @ ..] => self.show_malformed(HashRange::ALL, names, out),
+            ["malformed_in", from, to, names @ ..] => {
+                self.show_malformed(parse_range(from, to)?, names, out)
+            }
             ["check", name] => self.show_findings(name, out),
             _ => return Ok(false),
         }?;
@@ -34,31 +46,40 @@ impl Probe {
     fn unite_agreeing(
         &mut self,
         name: &str,
-        words: &[&str],
+        range: HashRange,
+        names: &[&str],
         out: &mut Vec<u8>,
     ) -> Result<(), Stop> {
-        let (tree, names) = split_at_with(words)?;
-        let tree = parse_tree(self.alloc, tree)?;
-        let merged = merge_or_disagreements(
+        let merged = merge_agreeing_bytes(
             self.alloc,
-            &tree,
             self.buffers(names)?.as_slice(),
+            &range,
             FormatVersion::V3,
         )?;
         match merged {
-            AgreeingMerge::Bytes(bytes) => self.put_buffer(name, bytes),
-            AgreeingMerge::Disagreements(found) => Ok(show_line(&found, out)?),
-            AgreeingMerge::Malformed(found) => Ok(show_line(&found, out)?),
+            Agreed::Made(bytes) => self.put_buffer(name, bytes),
+            Agreed::Disagreements(found) => Ok(show_line(&found, out)?),
+            Agreed::Malformed(found) => Ok(show_line(&found, out)?),
         }
     }
 
-    fn show_disagreements(&self, names: &[&str], out: &mut Vec<u8>) -> Result<(), Stop> {
-        let found = find_disagreements(self.alloc, self.buffers(names)?.as_slice())?;
+    fn show_disagreements(
+        &self,
+        range: HashRange,
+        names: &[&str],
+        out: &mut Vec<u8>,
+    ) -> Result<(), Stop> {
+        let found = find_disagreements(self.alloc, self.buffers(names)?.as_slice(), &range)?;
         Ok(show_line(&found, out)?)
     }
 
-    fn show_malformed(&self, names: &[&str], out: &mut Vec<u8>) -> Result<(), Stop> {
-        let found = find_malformed(self.alloc, self.buffers(names)?.as_slice())?;
+    fn show_malformed(
+        &self,
+        range: HashRange,
+        names: &[&str],
+        out: &mut Vec<u8>,
+    ) -> Result<(), Stop> {
+        let found = find_malformed(self.alloc, self.buffers(names)?.as_slice(), &range)?;
         Ok(show_line(&found, out)?)
     }
 

@@ -10,7 +10,7 @@ use Rattle.xet_core_structures.specs.declared.xorb_structs.MDBXorbInfo.{MDBXorbI
 use Rattle.xet_core_structures.specs.Errors.{CoreResult, variant_number}
 use Rattle.xet_core_structures.specs.KeyedHash.{no_key}
 use Rattle.xet_core_structures.specs.Shard.{Shard}
-use Rattle.shard_merging.specs.Trees.Filling.{Fills, FillsWith}
+use Rattle.placed_shards.specs.Filling.{Fills, FillsWith}
 use Rattle.xet_core_structures.specs.WrittenQueries.{RunAmong, RunInXorb}
 use Rattle.xet_core_structures.specs.WrittenShard.{IsBytesOf}
 use Rattle.xet_core_structures.specs.XorbRecord.{xorb_records}

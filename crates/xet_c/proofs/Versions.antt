@@ -3,7 +3,7 @@ use Rattle.std.proofs.Common.{◌≡◌, inr, ℕ, List, Ok, Err, Result, MatchR
 use Rattle.std.specs.declared.vec.Vec.{Vec}
 use Rattle.xet_core_structures.specs.declared.error.CoreError.{CoreError}
 use Rattle.xet_core_structures.specs.declared.record_reader.FormatVersion.{FormatVersion}
-use Rattle.shard_merging.specs.Trees.Filling.{FillsWith}
+use Rattle.placed_shards.specs.Filling.{FillsWith}
 use Rattle.xet_core_structures.specs.Version.{number_of}
 use Rattle.xet_core_structures.specs.declared.record_reader.FormatVersion.TheVariants.{V2, V3}
 use Rattle.shard_bytes.specs.Versions.{LaidOutIn}

@@ -1,18 +1,20 @@
 -- How disagreements of shards, and a merge of those that agree, are shown.
-use Rattle.std.specs.Prelude.{◌≡◌, ◌⊎◌, ℕ, ◌<◌, Bool, true, false, List, [], ◌∷◌, length, map, Option, None, Some}
-use Rattle.shard_merging.specs.declared.merging.agreement.Disagreement.{Disagreement}
-use Rattle.shard_merging.specs.declared.merging.agreement.MalformedRecord.{MalformedRecord}
-use Rattle.shard_merging.specs.declared.merging.agreement.RecordHash.{RecordHash}
-use Rattle.shard_merging.specs.declared.merging.agreement.RecordHash.TheVariants.{File, Xorb}
+use Rattle.std.specs.Prelude.{◌≡◌, ◌⊎◌, ℕ, ◌<◌, Bool, true, false, List, [], ◌∷◌, length, map, All, Option, None, Some}
+use Rattle.placed_shards.specs.declared.findings.Disagreement.{Disagreement}
+use Rattle.placed_shards.specs.declared.findings.MalformedRecord.{MalformedRecord}
+use Rattle.placed_shards.specs.declared.findings.RecordHash.{RecordHash}
+use Rattle.placed_shards.specs.declared.findings.RecordHash.TheVariants.{File, Xorb}
+use Rattle.placed_shards.specs.Content.{Content}
+use Rattle.placed_shards.specs.Findings.{AreOpened, HasAllDisagreements, HasFormedRecords, IsFirstMalformed}
+use Rattle.placed_shards.specs.Merging.{MergeRefusal}
+use Rattle.placed_shards.specs.Ranges.{all_hashes}
+use Rattle.placed_shards.specs.Strict.{AreAgreeing, AgreedRefusal, IsJoinedMerge}
 use Rattle.xet_core_structures.specs.declared.error.CoreError.{CoreError}
 use Rattle.xet_core_structures.specs.declared.error.CoreError.TheVariants.{InvalidArguments}
 use Rattle.xet_core_structures.specs.declared.record_reader.FormatVersion.{FormatVersion}
-use Rattle.shard_merging.specs.Agreement.Agreement.{HoldShards, IsFirstMalformed, InputsAgree, HasAllDisagreements}
 use Rattle.xet_core_structures.specs.Hash.{words_of}
-use Rattle.shard_merging.specs.Trees.InVersions.{MadeIn}
 use Rattle.xet_core_structures.specs.Version.{IsVersion, number_of}
-use Rattle.shard_bytes.specs.Agreeing.{IsMergeOfAgreeing, HoldNoneAgreeing, RefusesAgreeing}
-use Rattle.shard_bytes.specs.Merging.{MergesBytes}
+use Rattle.shard_bytes.specs.Versions.{IsWrittenIn, NotWrittenIn}
 use Rattle.xet_c.specs.declared.agree.XetDisagreement.{XetDisagreement}
 use Rattle.xet_c.specs.Output.{Delivers, Refuses}
 
@@ -36,7 +38,8 @@ c_malformed m = c_record m.record_hash m.input m.input
 -- these show all disagreements of byte strings, in their order
 abbrev pub AreAllDisagreements : List (List ℕ) → List XetDisagreement → Type 0
 AreAllDisagreements inputs shown =
-    (all : List Disagreement) × HasAllDisagreements inputs all × (shown ≡ map c_disagreement all)
+    (cs : List Content) × (all : List Disagreement) × AreOpened all_hashes inputs cs
+    × HasAllDisagreements cs all × (shown ≡ map c_disagreement all)
 
 -- whether there is a record that no shard may have, and the record; if there is none it stays
 abbrev pub ShowsMalformed : Option MalformedRecord → (old new : XetDisagreement) → Bool → Type 0
@@ -48,11 +51,11 @@ abbrev pub ShowsFirst : List Disagreement → (old new : XetDisagreement) → �
 ShowsFirst [] old new count = (count ≡ 0) × (new ≡ old)
 ShowsFirst (d ∷ ds) old new count = (count ≡ length (d ∷ ds)) × (new ≡ c_disagreement d)
 
--- the bytes in a version of the join of the shards that byte strings hold, which agree
+-- the bytes in a version of the join of the shards that byte strings hold, which are well-formed and
+-- agree
 abbrev pub AreMerged : FormatVersion → List (List ℕ) → List ℕ → Type 0
 AreMerged version inputs bytes =
-    HoldShards inputs × InputsAgree inputs × MadeIn version (MergesBytes inputs) bytes
-    × MadeIn version (IsMergeOfAgreeing inputs) bytes
+    AreAgreeing all_hashes inputs × IsWrittenIn version (IsJoinedMerge all_hashes inputs) bytes
 
 -- a merge in a version of byte strings whose shards have to agree: its bytes are delivered; or all
 -- that do not agree are counted, and the first is shown; or a record that no shard may have is
@@ -62,12 +65,14 @@ abbrev pub MergesIfAgreeing : FormatVersion → List (List ℕ) → (before afte
 MergesIfAgreeing version inputs before after written old new count result =
     ((bytes : List ℕ) × AreMerged version inputs bytes
     × Delivers bytes before after written result × (count ≡ 0) × (new ≡ old))
-    ⊎ ((all : List Disagreement) × HoldShards inputs × HasAllDisagreements inputs all
-    × HoldNoneAgreeing inputs × ShowsFirst all old new count × (0 < count) × (result ≡ 20)
-    × (written ≡ 0) × (after ≡ before))
-    ⊎ ((m : MalformedRecord) × IsFirstMalformed inputs m × HoldNoneAgreeing inputs
-    × (new ≡ c_malformed m) × (count ≡ 0) × (result ≡ 21) × (written ≡ 0) × (after ≡ before))
-    ⊎ ((e : CoreError) × RefusesAgreeing version inputs e
+    ⊎ ((¬ AreAgreeing all_hashes inputs) × (cs : List Content) × (all : List Disagreement)
+    × AreOpened all_hashes inputs cs × All HasFormedRecords cs × HasAllDisagreements cs all × ShowsFirst all old new count
+    × (0 < count) × (result ≡ 20) × (written ≡ 0) × (after ≡ before))
+    ⊎ ((¬ AreAgreeing all_hashes inputs) × (m : MalformedRecord)
+    × IsFirstMalformed all_hashes inputs m × (new ≡ c_malformed m)
+    × (count ≡ 0) × (result ≡ 21) × (written ≡ 0) × (after ≡ before))
+    ⊎ ((e : CoreError) × AgreedRefusal all_hashes inputs
+    (NotWrittenIn version (IsJoinedMerge all_hashes inputs) (MergeRefusal all_hashes inputs)) e
     × Refuses e before after written result × (count ≡ 0) × (new ≡ old))
 
 -- the same in the version with a number, or the number is that of no version

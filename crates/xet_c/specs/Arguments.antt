@@ -8,7 +8,7 @@ use Rattle.xet_core_structures.specs.declared.file_structs.HashRow.{HashRow}
 use Rattle.xet_core_structures.specs.declared.file_structs.MDBFileInfo.{MDBFileInfo}
 use Rattle.xet_core_structures.specs.declared.merklehash.DataHash.{DataHash}
 use Rattle.xet_core_structures.specs.declared.shard_format.MDBShardInfo.{MDBShardInfo}
-use Rattle.shard_merging.specs.declared.merging.ranges.HashRange.{HashRange}
+use Rattle.placed_shards.specs.declared.range.HashRange.{HashRange}
 use Rattle.xet_core_structures.specs.declared.xorb_structs.MDBXorbInfo.{MDBXorbInfo}
 use Rattle.xet_core_structures.specs.Errors.{variant_number}
 use Rattle.xet_core_structures.specs.FileRecord.{has_verification}

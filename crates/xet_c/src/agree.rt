@@ -1,22 +1,29 @@
 //! Whether shards are well-formed and agree, and the union of those that are and do.
 
-ghost use Rattle.std.specs.Prelude.{◌≡◌, ◌⊎◌, false, List, Option, map, IfOk, IfErr, MatchOption, MatchResult};
+ghost use Rattle.std.specs.Prelude.{◌≡◌, ◌⊎◌, ⊤, false, List, Option, All, map, IfOk, IfErr, MatchOption, MatchResult};
 ghost use Rattle.xet_core_structures.specs.declared.error.CoreError.{CoreError};
 ghost use Rattle.xet_core_structures.specs.declared.record_reader.FormatVersion.TheVariants.{V3};
-ghost use Rattle.shard_merging.specs.declared.merging.agreement.Disagreement.{Disagreement};
-ghost use Rattle.shard_merging.specs.declared.merging.agreement.MalformedRecord.{MalformedRecord};
-ghost use Rattle.shard_merging.specs.Agreement.Agreement.{HasAllDisagreements, HoldShards, IsFirstMalformed, InputsRefusal, WellFormedRefusal};
+ghost use Rattle.placed_shards.specs.declared.findings.Disagreement.{Disagreement};
+ghost use Rattle.placed_shards.specs.declared.findings.MalformedRecord.{MalformedRecord};
+ghost use Rattle.placed_shards.specs.Content.{Content};
+ghost use Rattle.placed_shards.specs.Findings.{AreOpened, FirstRefusal, HasAllDisagreements, HasFormedRecords, IsFirstMalformed};
+ghost use Rattle.placed_shards.specs.Merging.{MergeRefusal};
+ghost use Rattle.placed_shards.specs.Ranges.{all_hashes};
+ghost use Rattle.placed_shards.specs.Strict.{AgreedRefusal, IsJoinedMerge};
 ghost use Rattle.xet_core_structures.specs.Errors.{variant_number};
-ghost use Rattle.shard_bytes.specs.Sizes.{IsResultSize};
+ghost use Rattle.placed_shards.specs.Sizes.{IsResultSize};
+ghost use Rattle.shard_bytes.specs.Versions.{NotWrittenIn};
 ghost use Rattle.xet_c.specs.Agreeing.{c_record, c_disagreement, c_malformed, AreAllDisagreements, ShowsFirst, ShowsMalformed, MergesIfAgreeing, MergesIfAgreeingIn};
-ghost use Rattle.xet_c.specs.Steps.Agreeing.{ShowsFill};
+ghost use Rattle.xet_c.specs.Steps.Agreeing.{FillsAgreed, HasFillSize, ShowsFill};
 ghost use Rattle.xet_c.specs.Output.{Outcome};
 
 use crate::output::{XET_DISAGREE, XET_MALFORMED, answer, deliver, error_number};
-use shard_bytes::agree::{AgreeingFill, merge_agreeing_bytes_into};
-use shard_merging::{
+use bumpalo::Bump;
+use placed_shards::findings::{
     Disagreement, MalformedRecord, RecordHash, find_disagreements, find_malformed,
 };
+use placed_shards::range::HashRange;
+use placed_shards::strict::{Agreed, merge_agreeing};
 use std::alloc::Global;
 use xet_core_structures::error::{CoreError, Result};
 use xet_core_structures::record_reader::FormatVersion;
@@ -42,13 +49,14 @@ pub extern "C" fn xet_find_disagreement(
     differing: &mut usize,
     found: &mut XetDisagreement,
 ) -> u32
-    ensures { ((all : List Disagreement) × HasAllDisagreements (map (λ x. x.now) shards.now) all
+    ensures { ((cs : List Content) × (all : List Disagreement)
+        × AreOpened all_hashes (map (λ x. x.now) shards.now) cs × HasAllDisagreements cs all
         × ShowsFirst all found.old found.new differing.new × (result ≡ 0))
-        ⊎ ((e : CoreError) × InputsRefusal (map (λ x. x.now) shards.now) e
+        ⊎ ((e : CoreError) × FirstRefusal all_hashes (λ c. ⊤) (map (λ x. x.now) shards.now) e
         × (found.new ≡ found.old) × (differing.new ≡ 0) × (result ≡ variant_number e)) }
 {
     *differing = 0;
-    match find_disagreements(alloc, shards) {
+    match find_disagreements(alloc, shards, &HashRange::ALL) {
         Ok(all) => {
             show_first(all.as_slice(), differing, found);
             0
@@ -67,7 +75,8 @@ pub extern "C" fn xet_find_disagreements(
     written: &mut usize,
 ) -> u32
     ensures { Outcome (AreAllDisagreements (map (λ x. x.now) shards.now))
-        (InputsRefusal (map (λ x. x.now) shards.now)) out.old out.new written.new result }
+        (FirstRefusal all_hashes (λ c. ⊤) (map (λ x. x.now) shards.now)) out.old out.new
+        written.new result }
 {
     let found = shown_disagreements(alloc, shards);
     deliver(found, out, written)
@@ -76,9 +85,9 @@ pub extern "C" fn xet_find_disagreements(
 fn shown_disagreements(alloc: Global, shards: &[&[u8]]) -> Result<Vec<XetDisagreement>>
     ensures { MatchResult result
         (λ shown. AreAllDisagreements (map (λ x. x.now) shards.now) shown.items)
-        (InputsRefusal (map (λ x. x.now) shards.now)) }
+        (FirstRefusal all_hashes (λ c. ⊤) (map (λ x. x.now) shards.now)) }
 {
-    let all = find_disagreements(alloc, shards)?;
+    let all = find_disagreements(alloc, shards, &HashRange::ALL)?;
     shown_all(alloc, all.as_slice())
 }
 
@@ -104,14 +113,17 @@ pub extern "C" fn xet_find_malformed(
     found: &mut XetDisagreement,
 ) -> u32
     ensures { ((one : Option MalformedRecord)
-        × MatchOption one (HoldShards (map (λ x. x.now) shards.now))
-        (IsFirstMalformed (map (λ x. x.now) shards.now))
+        × MatchOption one
+        ((cs : List Content) × AreOpened all_hashes (map (λ x. x.now) shards.now) cs
+        × All HasFormedRecords cs)
+        (IsFirstMalformed all_hashes (map (λ x. x.now) shards.now))
         × ShowsMalformed one found.old found.new malformed.new × (result ≡ 0))
-        ⊎ ((e : CoreError) × WellFormedRefusal (map (λ x. x.now) shards.now) e
+        ⊎ ((e : CoreError)
+        × FirstRefusal all_hashes HasFormedRecords (map (λ x. x.now) shards.now) e
         × (found.new ≡ found.old) × (malformed.new ≡ false) × (result ≡ variant_number e)) }
 {
     *malformed = false;
-    match find_malformed(alloc, shards) {
+    match find_malformed(alloc, shards, &HashRange::ALL) {
         Ok(one) => {
             show_malformed(&one, malformed, found);
             0
@@ -188,13 +200,35 @@ fn merge(
         written.new found.old found.new differing.new result }
     ensures size { IsResultSize (map (λ x. x.now) shards.now) written.new }
 {
-    let filled = merge_agreeing_bytes_into(alloc, shards, version, out);
+    let filled = merge_into(alloc, shards, version, out);
     show_fill(filled, out.len(), written, differing, found)
+}
+
+// The merge of shards that have to agree in a version, to the front of a slice, if it fits.
+fn merge_into<'a>(
+    alloc: Global,
+    shards: &[&'a [u8]],
+    version: FormatVersion,
+    out: &mut [u8],
+) -> Result<Agreed<usize>>
+    ensures merged { MatchResult result
+        (FillsAgreed version (map (λ x. x.now) shards.now) out.old out.new)
+        (λ e. AgreedRefusal all_hashes (map (λ x. x.now) shards.now)
+        (NotWrittenIn version (IsJoinedMerge all_hashes (map (λ x. x.now) shards.now))
+        (MergeRefusal all_hashes (map (λ x. x.now) shards.now))) e × (out.new ≡ out.old)) }
+    ensures size { IfOk result (HasFillSize (map (λ x. x.now) shards.now)) }
+{
+    let arena = Bump::new(alloc);
+    match merge_agreeing(alloc, &arena, shards, &HashRange::ALL)? {
+        Agreed::Made(made) => Ok(Agreed::Made(made.write_into(alloc, version, out)?)),
+        Agreed::Disagreements(all) => Ok(Agreed::Disagreements(all)),
+        Agreed::Malformed(one) => Ok(Agreed::Malformed(one)),
+    }
 }
 
 // Shows a merge to an output of so many bytes.
 fn show_fill(
-    filled: Result<AgreeingFill>,
+    filled: Result<Agreed<usize>>,
     room: usize,
     written: &mut usize,
     differing: &mut usize,
@@ -205,12 +239,12 @@ fn show_fill(
     *written = 0;
     *differing = 0;
     match filled {
-        Ok(AgreeingFill::Bytes(size)) => answer(Ok(size), room, written),
-        Ok(AgreeingFill::Disagreements(all)) => {
+        Ok(Agreed::Made(size)) => answer(Ok(size), room, written),
+        Ok(Agreed::Disagreements(all)) => {
             show_first(all.as_slice(), differing, found);
             XET_DISAGREE
         }
-        Ok(AgreeingFill::Malformed(one)) => {
+        Ok(Agreed::Malformed(one)) => {
             *found = malformed_of(&one);
             XET_MALFORMED
         }

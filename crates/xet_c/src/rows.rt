@@ -2,14 +2,14 @@
 
 ghost use Rattle.std.specs.Prelude.{◌<◌, List, length, map};
 ghost use Rattle.xet_core_structures.specs.declared.merklehash.DataHash.{DataHash};
-ghost use Rattle.shard_merging.specs.declared.merging.ranges.HashRange.{HashRange};
+ghost use Rattle.placed_shards.specs.declared.range.HashRange.{HashRange};
 ghost use Rattle.xet_core_structures.specs.Shard.{Shard};
 ghost use Rattle.xet_core_structures.specs.Trees.MergeTrees.{MergeRefused};
 ghost use Rattle.shard_merging.specs.Trees.RangeTrees.{IsHeldLayout};
 ghost use Rattle.shard_merging.specs.Trees.RowTrees.{HaveRowsOfRange};
 ghost use Rattle.shard_bytes.specs.Merging.{IsRangeMergeOfList};
 ghost use Rattle.shard_bytes.specs.Rows.{MergesRows, RefusesRows, AreEndsOf, RefusesEnds};
-ghost use Rattle.shard_bytes.specs.Sizes.{IsResultSize};
+ghost use Rattle.placed_shards.specs.Sizes.{IsResultSize};
 ghost use Rattle.xet_c.specs.Arguments.{AsksForRange};
 ghost use Rattle.xet_c.specs.Output.{Outcome};
 

@@ -16,10 +16,12 @@ use mdb_base::progress::{Progress, Stage};
 use mdb_base::request::{Merge, NewExpiry, Strictness};
 use mdb_base::shard_file::{Cursor, RoundFault, ShardFile};
 use mdb_report::fault::Fault;
+use placed_shards::range::HashRange;
+use placed_shards::strict::Agreed;
 use shard_assembly::assembly::Assembly;
 use shard_assembly::block::{Block, Mark};
 use shard_assembly::share::share_of;
-use shard_bytes::agree::{AgreeingMerge, merge_agreeing_bytes};
+use shard_bytes::agree::merge_agreeing_bytes;
 use shard_bytes::check::Section;
 use shard_bytes::merge::merge_bytes;
 use std::alloc::{AllocError, Global};
@@ -148,13 +150,18 @@ impl<'a, F: Read + Write + Seek + Drop> Rounds<'a, F> {
         if self.fails() {
             return self.add_findings(rt, inputs);
         }
-        match merge_agreeing_bytes(rt.alloc(), inputs, self.merge.target.version) {
-            Ok(AgreeingMerge::Bytes(part)) => self.write_part(section, part),
-            Ok(AgreeingMerge::Disagreements(found)) => {
+        match merge_agreeing_bytes(
+            rt.alloc(),
+            inputs,
+            &HashRange::ALL,
+            self.merge.target.version,
+        ) {
+            Ok(Agreed::Made(part)) => self.write_part(section, part),
+            Ok(Agreed::Disagreements(found)) => {
                 self.findings.add_disagreements(found.as_slice());
                 self.merge_differing(rt, section, inputs)
             }
-            Ok(AgreeingMerge::Malformed(_)) => {
+            Ok(Agreed::Malformed(_)) => {
                 self.add_findings(rt, inputs)?;
                 self.merge_differing(rt, section, inputs)
             }
@@ -191,7 +198,12 @@ impl<'a, F: Read + Write + Seek + Drop> Rounds<'a, F> {
         if self.fails() {
             return Ok(());
         }
-        match merge_bytes(rt.alloc(), inputs, self.merge.target.version) {
+        match merge_bytes(
+            rt.alloc(),
+            inputs,
+            &HashRange::ALL,
+            self.merge.target.version,
+        ) {
             Ok(part) => self.write_part(section, part),
             Err(error) => self.merge_failure(rt, inputs, error),
         }

@@ -15,7 +15,7 @@ ghost use Rattle.xet_shards.specs.Read.StoredSection.{StoresRecord, StoresSectio
 ghost use Rattle.shard_bytes.specs.Steps.Checking.{AddsMalformed, HasRows};
 
 use super::{Finding, Section, push_unless};
-use shard_merging::well_formed::have_few_bytes;
+use placed_shards::well_formed::have_few_bytes;
 use xet_core_structures::error::Result;
 use xet_core_structures::fields::{split_hash, split_u64};
 use xet_core_structures::file_structs::{FileDataSequenceHeader, MDBFileInfo};

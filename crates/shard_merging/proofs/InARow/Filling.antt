@@ -5,7 +5,7 @@ use Rattle.std.specs.declared.result.Result.{Result}
 use Rattle.xet_base.specs.declared.error.CoreError.{CoreError}
 use Rattle.xet_shards.specs.Content.Shard.{Shard}
 use Rattle.shard_merging.specs.InARow.{AppendsShardsInARow, IsConcatenation}
-use Rattle.shard_merging.specs.Trees.Filling.{Fills, FillsWith}
+use Rattle.placed_shards.specs.Filling.{Fills, FillsWith}
 use Rattle.std.proofs.lemmas.List.{length-take-le, take_more, take_all}
 use Rattle.std.proofs.Math.Seq.{take-length}
 use Rattle.std.proofs.lemmas.List.Sums.{sum_by_more, sum_by_more_le}

@@ -4,16 +4,17 @@ use Rattle.xet_records.specs.FileRecord.{file_records}
 use Rattle.xet_records.specs.XorbRecord.{xorb_records}
 use Rattle.xet_shards.specs.Content.Shard.{Shard}
 use Rattle.xet_core_structures.specs.declared.set_operations.MergePlan.{MergePlan}
-use Rattle.shard_merging.specs.declared.merging.ranges.HashRange.{HashRange}
+use Rattle.placed_shards.specs.declared.range.HashRange.{HashRange}
 use Rattle.xet_core_structures.specs.TwoShards.ByteResults.{UnitesBytes}
-use Rattle.shard_merging.specs.Records.Ranges.{IsPartOf, is_within}
+use Rattle.placed_shards.specs.Merging.{IsPartOf}
+use Rattle.placed_shards.specs.Ranges.{is_within}
 use Rattle.xet_core_structures.specs.Records.ShardContents.{HasShard}
 use Rattle.xet_core_structures.specs.Records.Sizes.{rows_of_shard, bytes_at}
 use Rattle.xet_core_structures.specs.Trees.MergeTrees.{leaves, HasUnion}
 use Rattle.shard_merging.specs.Trees.RangeTrees.{IsRangeOf, LeafWritesRange, RangeWrites}
 use Rattle.xet_core_structures.proofs.LawProofs.UnionSizes.{rows_held, bytes_made, bytes_of_one, input_there}
 use Rattle.xet_core_structures.proofs.Records.ShardContents.{only_shard}
-use Rattle.shard_merging.proofs.Records.Within.{sum_of_part, one_part}
+use Rattle.placed_shards.proofs.Within.{sum_of_part, one_part}
 
 pub rows_of_part : (range : HashRange) (s t : Shard) → IsPartOf (is_within range) s t → rows_of_shard t ≤ rows_of_shard s
 rows_of_part range s t part =

@@ -28,19 +28,21 @@ use Rattle.xet_shards.proofs.Write.SameBytes.{same_values}
 use Rattle.xet_shards.proofs.Write.Sections.{files_laws}
 use Rattle.xet_core_structures.specs.declared.set_operations.MergePlan.{MergePlan}
 use Rattle.xet_core_structures.specs.declared.set_operations.MergePlan.TheVariants.{Leaf, Both'}
-use Rattle.shard_merging.specs.declared.merging.ranges.HashRange.{HashRange}
+use Rattle.placed_shards.specs.declared.range.HashRange.{HashRange}
 use Rattle.shard_merging.specs.declared.merging.rows.SectionRows.{SectionRows}
-use Rattle.shard_merging.specs.Records.Ranges.{IsRestriction, is_from, is_within, ranges_between, AreCuts}
-use Rattle.shard_merging.specs.Steps.Placed.{records_passing}
+use Rattle.placed_shards.specs.Merging.{IsRestriction}
+use Rattle.placed_shards.specs.Ranges.{is_from, is_within}
+use Rattle.placed_shards.specs.Ranges.{ranges_between, AreCuts}
+use Rattle.placed_shards.specs.Ranges.{records_passing}
 use Rattle.xet_core_structures.specs.Records.RecordPairs.{key_of_record}
 use Rattle.xet_core_structures.specs.Records.ShardContents.{IsSectionOf, HasShard, files_at, xorbs_at}
 use Rattle.shard_merging.specs.Trees.RangeTrees.{IsRangeOf, RangeWrites}
 use Rattle.shard_merging.specs.Trees.RowTrees.{HasInRows, IsRowsOf, RowsWrite, WriteInRows}
 use Rattle.xet_core_structures.specs.TwoShards.ByteResults.{keyed_layout, key_of, UnitesBytes}
 use Rattle.xet_core_structures.proofs.Records.ListMaps.{list_map, values-list_map, section_of_list}
-use Rattle.shard_merging.proofs.Records.RangeLists.{AreIn, all_of, each_has_its_own, all_ascend}
+use Rattle.placed_shards.proofs.RangeLists.{AreIn, all_of, each_has_its_own, all_ascend}
 use Rattle.xet_core_structures.proofs.Records.ShardContents.{rows_handed}
-use Rattle.shard_merging.proofs.Records.Within.{list_map-those}
+use Rattle.placed_shards.proofs.Within.{list_map-those}
 use Rattle.shard_merging.proofs.Trees.RowLists.{rest_behind}
 use Rattle.shard_merging.proofs.Trees.RowParts.{map_alone}
 

@@ -17,7 +17,7 @@ use Rattle.xet_shards.proofs.Read.SectionUnique.{only_list}
 use Rattle.xet_shards.proofs.Write.SameBytes.{same_values}
 use Rattle.xet_shards.proofs.Write.Sections.{files_laws}
 use Rattle.xet_core_structures.specs.declared.set_operations.MergePlan.{MergePlan}
-use Rattle.shard_merging.specs.declared.merging.ranges.HashRange.{HashRange}
+use Rattle.placed_shards.specs.declared.range.HashRange.{HashRange}
 use Rattle.shard_merging.specs.declared.merging.rows.SectionRows.{SectionRows}
 use Rattle.xet_core_structures.specs.TwoShards.ByteResults.{keyed_layout, key_of, UnitesBytes}
 use Rattle.xet_core_structures.specs.Records.RecordPairs.{key_of_record}

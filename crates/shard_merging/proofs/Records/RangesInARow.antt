@@ -16,9 +16,11 @@ use Rattle.xet_shards.specs.Content.Shard.{Shard}
 use Rattle.shard_merging.specs.InARow.{AreInARow}
 use Rattle.xet_shards.proofs.Content.Maps.{both_left, both_right}
 use Rattle.xet_shards.proofs.ShardInMemory.Sums.{all_of_map}
-use Rattle.shard_merging.specs.Records.Ranges.{IsRestriction, IsPartOf, is_from, is_before, is_up_to, is_within, ranges_between, AreCuts}
-use Rattle.shard_merging.proofs.Records.Parts.{cond-is_some}
-use Rattle.shard_merging.proofs.Records.Within.{one_part, part_of, part_of_is}
+use Rattle.placed_shards.specs.Merging.{IsRestriction, IsPartOf}
+use Rattle.placed_shards.specs.Ranges.{is_from, is_before, is_within}
+use Rattle.placed_shards.specs.Ranges.{is_up_to, ranges_between, AreCuts}
+use Rattle.placed_shards.proofs.FileParts.{cond-is_some}
+use Rattle.placed_shards.proofs.Within.{one_part, part_of, part_of_is}
 
 both_true : (a b : Bool) → T a → T b → T (a && b)
 both_true true b first second = second

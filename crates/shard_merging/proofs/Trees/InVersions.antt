@@ -21,7 +21,7 @@ use Rattle.xet_records.specs.Version.{number_of}
 use Rattle.xet_records.specs.XorbRecord.{xorb_records}
 use Rattle.xet_records.proofs.RecordKinds.{file_laws}
 use Rattle.xet_shards.specs.declared.shard_format.read.stored_section.PlacedRecord.{PlacedRecord}
-use Rattle.shard_merging.specs.Trees.Filling.{Fills, FillsWith}
+use Rattle.placed_shards.specs.Filling.{Fills, FillsWith}
 use Rattle.xet_shards.specs.declared.shard_format.ends.options.LayoutOptions.{LayoutOptions}
 use Rattle.xet_shards.specs.Write.Layout.{header_tag, layout_of, shard_header_bytes}
 use Rattle.xet_shards.specs.Write.Section.{section_bytes}
@@ -33,12 +33,11 @@ use Rattle.shard_merging.specs.declared.merging.trees.parts.TreePart.{TreePart}
 use Rattle.shard_merging.specs.declared.merging.trees.parts.TreePart.TheVariants.{Input, United}
 use Rattle.shard_merging.specs.declared.merging.trees.parts.PlacedShard.{PlacedShard}
 use Rattle.xet_core_structures.specs.TwoShards.ByteResults.{keyed_options}
-use Rattle.shard_merging.specs.Trees.InVersions.{HasNewFiles, MadeIn, RefusedIn, TreeWritesIn, TreeRefusalIn}
+use Rattle.shard_merging.specs.Trees.InVersions.{HasNewFiles, MadeIn, RefusedIn}
 use Rattle.xet_core_structures.specs.Trees.MergeTrees.{HasUnion, TreeWrites, TreeRefusal}
 use Rattle.shard_merging.specs.Steps.InVersions.{with_number_2, AreNumbered, IsPartIn, IsNotWritten, GetsNumber}
-use Rattle.shard_merging.specs.Steps.Parts.{IsPart, IsUnionPart, IsPartOfTree}
+use Rattle.shard_merging.specs.Steps.Parts.{IsPart, IsUnionPart}
 use Rattle.shard_merging.specs.Steps.Placed.{PlacesAll}
-use Rattle.shard_merging.proofs.Trees.Parts.{no_memory_after_tree}
 use Rattle.shard_merging.proofs.Trees.PlacedUnions.{header_placed}
 use Rattle.xet_core_structures.proofs.Trees.TreeXorbs.{shard_under}
 
@@ -171,43 +170,6 @@ module _ (Makes : List ℕ → Type 0) (Refuses : CoreError → Type 0) (bytes :
   refused_of_union V2 part e is (inl lacks) = inl (subst Refuses (sym lacks) no_memory)
   refused_of_union V2 (Input x placed) e is (inr (invalid, new)) = absurd new
   refused_of_union V2 (United shard) e is (inr (invalid, new)) = inr (invalid, (bytes, makes, new))
-
--- what is made of what a tree gives
-module _ (inputs : List (List ℕ)) where
-  pub made_of_tree : (version : FormatVersion) (plan : MergePlan) (bytes : List ℕ) (part : TreePart) (out : List ℕ) → TreeWrites inputs plan bytes → IsPartOfTree plan bytes part → IsPartIn version part bytes out
-      → TreeWritesIn version inputs plan out
-  made_of_tree V3 plan bytes part out writes is same = subst (TreeWrites inputs plan) (sym same) writes
-  made_of_tree V2 (Leaf i) bytes (Input x placed) out writes is same = subst (TreeWrites inputs (Leaf i)) (sym same) writes
-  made_of_tree V2 (Leaf i) bytes (United shard) out writes is same = absurd is
-  made_of_tree V2 (Both' p left q right) bytes part out writes is made =
-      made_of_union (TreeWrites inputs (Both' p left q right)) (TreeRefusal inputs (Both' p left q right)) bytes writes (no_memory_after_tree inputs (Both' p left q right) bytes writes) V2 part out is made
-
-  pub refused_of_tree : (version : FormatVersion) (plan : MergePlan) (bytes : List ℕ) (part : TreePart) (e : CoreError) → TreeWrites inputs plan bytes → IsPartOfTree plan bytes part → IsNotWritten version part bytes e
-      → TreeRefusalIn version inputs plan e
-  refused_of_tree V3 plan bytes part e writes is (inl lacks) = subst (TreeRefusal inputs plan) (sym lacks) (no_memory_after_tree inputs plan bytes writes)
-  refused_of_tree V3 plan bytes part e writes is (inr (invalid, new)) = absurd new
-  refused_of_tree V2 (Leaf i) bytes part e writes is (inl lacks) = subst (TreeRefusal inputs (Leaf i)) (sym lacks) (no_memory_after_tree inputs (Leaf i) bytes writes)
-  refused_of_tree V2 (Leaf i) bytes (Input x placed) e writes is (inr (invalid, new)) = absurd new
-  refused_of_tree V2 (Leaf i) bytes (United shard) e writes is (inr (invalid, new)) = absurd is
-  refused_of_tree V2 (Both' p left q right) bytes part e writes is refused =
-      refused_of_union (TreeWrites inputs (Both' p left q right)) (TreeRefusal inputs (Both' p left q right)) bytes writes (no_memory_after_tree inputs (Both' p left q right) bytes writes) V2 part e is refused
-
-  -- a tree with a union, as any call that makes bytes
-  pub made_by_tree : (version : FormatVersion) (plan : MergePlan) (out : List ℕ) → HasUnion plan → TreeWritesIn version inputs plan out → MadeIn version (TreeWrites inputs plan) out
-  made_by_tree V3 plan out union writes = writes
-  made_by_tree V2 (Leaf i) out union writes = absurd union
-  made_by_tree V2 (Both' p left q right) out union made = made
-
-  pub refused_by_tree : (version : FormatVersion) (plan : MergePlan) (e : CoreError) → HasUnion plan → TreeRefusalIn version inputs plan e → RefusedIn version (TreeWrites inputs plan) (TreeRefusal inputs plan) e
-  refused_by_tree V3 plan e union refused = refused
-  refused_by_tree V2 (Leaf i) e union refused = absurd union
-  refused_by_tree V2 (Both' p left q right) e union refused = refused
-
-  -- an error before a tree is done
-  pub refused_early : (version : FormatVersion) (plan : MergePlan) (e : CoreError) → TreeRefusal inputs plan e → TreeRefusalIn version inputs plan e
-  refused_early V3 plan e refused = refused
-  refused_early V2 (Leaf i) e refused = refused
-  refused_early V2 (Both' p left q right) e refused = inl refused
 
 -- what holds of all that is made and of all refusals
 module _ (Makes As : List ℕ → Type 0) (Refuses For : CoreError → Type 0) (made : (bytes : List ℕ) → Makes bytes → As bytes) (refused : (e : CoreError) → Refuses e → For e) where

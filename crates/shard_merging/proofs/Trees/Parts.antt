@@ -35,8 +35,8 @@ use Rattle.xet_core_structures.specs.Records.RecordPairs.{key_of_record, with_ha
 use Rattle.xet_core_structures.specs.Records.ShardContents.{IsSectionOf, HasFiles, files_at, xorbs_at}
 use Rattle.xet_core_structures.specs.Steps.ShardContents.{IsListOf, HoldsLists}
 use Rattle.xet_core_structures.specs.Trees.MergeTrees.{LeafWrites, LeafRefusal, TreeWrites, TreeRefusal}
-use Rattle.shard_merging.specs.Trees.Parts.{SectionsRefusal}
-use Rattle.shard_merging.specs.Steps.Parts.{PlacesRecords, MayBeUnited, MayBeWritten, PlacesShard, HaveNoRecordUnion, IsUnited, IsPart, IsUnionPart, IsPartOfTree}
+use Rattle.placed_shards.specs.Opening.{SectionsRefusal}
+use Rattle.shard_merging.specs.Steps.Parts.{PlacesRecords, MayBeUnited, MayBeWritten, PlacesShard, HaveNoRecordUnion, IsUnited, IsPart, IsUnionPart}
 use Rattle.shard_merging.specs.Steps.Placed.{HaveNoListUnion}
 use Rattle.shard_merging.specs.Steps.Placed.{PlacesAll}
 use Rattle.xet_core_structures.specs.Steps.MergeJoin.{SectionRefusal}
@@ -220,16 +220,6 @@ lists_refused x i y j one other e first second (inr (invalid, none)) = inr (inva
 pub part_of_union : (bytes : List ℕ) (part : TreePart) → IsUnionPart bytes part → IsPart bytes part
 part_of_union bytes (Input x placed) is = absurd is
 part_of_union bytes (United shard) is = is
-
--- so is what a tree gives
-pub part_of_tree : (plan : MergePlan) (bytes : List ℕ) (part : TreePart) → IsPartOfTree plan bytes part → IsPart bytes part
-part_of_tree (Leaf i) bytes (Input x placed) is = is
-part_of_tree (Leaf i) bytes (United shard) is = absurd is
-part_of_tree (Both' p left q right) bytes part is = part_of_union bytes part is
-
--- an allocation may fail after a tree is done
-pub no_memory_after_tree : (inputs : List (List ℕ)) (plan : MergePlan) (bytes : List ℕ) → TreeWrites inputs plan bytes → TreeRefusal inputs plan OutOfMemory
-no_memory_after_tree inputs = no_memory_after (LeafWrites inputs) (LeafRefusal inputs) (λ i out is. inr (refl, slice_get_within inputs i out is))
 
 -- what a part stands for may be written
 pub union_may_be_written : (bytes : List ℕ) (info : MDBShardInfo) (shard : PlacedShard) (is : IsUnited bytes info shard) → MayBeWritten shard (record { files = values is.union.files; xorbs = values is.union.xorbs })

@@ -13,18 +13,20 @@ use Rattle.xet_shards.specs.Read.SectionReading.{files_of}
 use Rattle.xet_shards.specs.Write.Section.{total_rows}
 use Rattle.xet_shards.proofs.Write.Sections.{files_laws}
 use Rattle.shard_merging.specs.declared.merging.trees.parts.PlacedShard.{PlacedShard}
-use Rattle.shard_merging.specs.declared.merging.ranges.HashRange.{HashRange}
-use Rattle.shard_merging.specs.Records.Ranges.{IsPartOf, is_within}
+use Rattle.placed_shards.specs.declared.range.HashRange.{HashRange}
+use Rattle.placed_shards.specs.Merging.{IsPartOf}
+use Rattle.placed_shards.specs.Ranges.{is_within}
 use Rattle.xet_core_structures.specs.Records.ShardContents.{Holds}
 use Rattle.xet_core_structures.specs.Steps.ByteResults.{Records}
 use Rattle.shard_merging.specs.Steps.Parts.{PlacesShard, IsUnited}
-use Rattle.shard_merging.specs.Steps.Placed.{PlacesAll, records_passing}
+use Rattle.shard_merging.specs.Steps.Placed.{PlacesAll}
+use Rattle.placed_shards.specs.Ranges.{records_passing}
 use Rattle.shard_merging.specs.Trees.RangeTrees.{IsRangeOf}
 use Rattle.xet_core_structures.specs.TwoShards.ByteResults.{keyed_layout, keyed_info, key_of}
 use Rattle.xet_core_structures.specs.TwoShards.Readable.{IsBytesUnderKey}
 use Rattle.xet_core_structures.proofs.LawProofs.FileLookups.{under_key_of}
 use Rattle.xet_core_structures.proofs.Records.ListMaps.{values-list_map, shard_of, lists_hold}
-use Rattle.shard_merging.proofs.Records.Within.{in_whole, sum_of_part, part_of_lists, those_ascend}
+use Rattle.placed_shards.proofs.Within.{in_whole, sum_of_part, part_of_lists, those_ascend}
 use Rattle.xet_core_structures.proofs.Trees.TreeXorbs.{shard_under}
 use Rattle.xet_core_structures.proofs.TwoShards.Readable.{IsReadable, section_readable, readable_if_each, readable_ever, handed_twice}
 

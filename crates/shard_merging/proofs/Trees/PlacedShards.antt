@@ -18,7 +18,7 @@ use Rattle.shard_merging.specs.declared.merging.trees.parts.PlacedShard.{PlacedS
 use Rattle.xet_core_structures.specs.TwoShards.ByteResults.{key_of}
 use Rattle.xet_core_structures.specs.Records.ShardContents.{HasFiles, files_at, xorbs_at}
 use Rattle.xet_core_structures.specs.Steps.ShardContents.{HoldsLists}
-use Rattle.shard_merging.specs.Trees.Parts.{SectionsRefusal}
+use Rattle.placed_shards.specs.Opening.{SectionsRefusal}
 use Rattle.shard_merging.specs.Steps.Parts.{PlacesShard}
 use Rattle.shard_merging.specs.Steps.Placed.{PlacesAll, ReadsPlaced}
 use Rattle.xet_core_structures.specs.Steps.MergeJoin.{SectionRefusal, AscendingNotStreamed}

@@ -17,7 +17,9 @@ use Rattle.xet_shards.specs.Write.WithOptions.{Ascends}
 use Rattle.shard_merging.proofs.InARow.InARow.{plain_widths, fit_together}
 use Rattle.xet_shards.proofs.Write.Sections.{files_fit, xorbs_fit}
 use Rattle.xet_shards.proofs.Write.WithOptions.{files_ascend, xorbs_ascend}
-use Rattle.shard_merging.specs.Records.Ranges.{IsPartOf, is_within, ranges_between, AreCuts}
+use Rattle.placed_shards.specs.Merging.{IsPartOf}
+use Rattle.placed_shards.specs.Ranges.{is_within}
+use Rattle.placed_shards.specs.Ranges.{ranges_between, AreCuts}
 use Rattle.shard_merging.specs.Trees.RangeTrees.{IsHeldLayout, AreRangesOf}
 use Rattle.xet_core_structures.specs.TwoShards.ByteResults.{keyed_options}
 use Rattle.shard_merging.proofs.Records.RangesInARow.{ranges_in_a_row}

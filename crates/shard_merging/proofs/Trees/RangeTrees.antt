@@ -14,18 +14,19 @@ use Rattle.xet_shards.proofs.Write.Sections.{files_fit}
 use Rattle.xet_core_structures.specs.declared.set_operations.MergePlan.{MergePlan}
 use Rattle.xet_core_structures.specs.declared.set_operations.MergePlan.TheVariants.{Leaf}
 use Rattle.shard_merging.specs.declared.merging.trees.parts.TreePart.{TreePart}
-use Rattle.shard_merging.specs.declared.merging.ranges.HashRange.{HashRange}
+use Rattle.placed_shards.specs.declared.range.HashRange.{HashRange}
 use Rattle.shard_merging.specs.Steps.Parts.{IsUnionPart}
 use Rattle.xet_core_structures.specs.TwoShards.ByteResults.{keyed_options, keyed_layout, key_of}
 use Rattle.xet_core_structures.specs.Trees.ExportTrees.{FitsOptions}
-use Rattle.shard_merging.specs.Records.Ranges.{IsPartOf, is_within}
+use Rattle.placed_shards.specs.Merging.{IsPartOf}
+use Rattle.placed_shards.specs.Ranges.{is_within}
 use Rattle.xet_core_structures.specs.Records.ShardContents.{HoldsShard, IsTruncated, IsMalformed}
 use Rattle.xet_core_structures.specs.Trees.MergeTrees.{leaves, InputIs, MergeRefused}
-use Rattle.shard_merging.specs.Trees.Parts.{ShardRefusal}
+use Rattle.placed_shards.specs.Opening.{ShardRefusal}
 use Rattle.shard_merging.specs.Trees.RangeTrees.{IsRangeOf, LeafWritesRange, LeafRangeRefusal, RangeWrites, RangeRefusal, IsRangeMerge, IsHeldLayout}
 use Rattle.xet_core_structures.proofs.Records.ByteUnions.{held_with_options, info_found, loads_well, fits_key}
 use Rattle.xet_core_structures.proofs.Records.ShardContents.{only_shard, held_whole, held_well}
-use Rattle.shard_merging.proofs.Records.Within.{part_is_shard, one_part, part_of, part_of_is, part_of-preserves}
+use Rattle.placed_shards.proofs.Within.{part_is_shard, one_part, part_of, part_of_is, part_of-preserves}
 use Rattle.xet_shards.proofs.Read.Zipped.{zipped_with}
 use Rattle.xet_core_structures.proofs.Trees.MappedJoins.{mapped_agree}
 use Rattle.xet_core_structures.proofs.Trees.UnionTrees.{no_memory_after, tree_made, tree_refused}
@@ -100,14 +101,3 @@ pub at_input : (xs : List (Bor (List ℕ))) (i : ℕ) (d : Bor (List ℕ)) → i
 at_input [] i d low = absurd (omega (arith, low))
 at_input (x ∷ xs) zero d low = refl
 at_input (x ∷ xs) (suc i) d low = at_input xs i d (omega (arith, low))
-
-module _ (range : HashRange) (inputs : List (List ℕ)) where
-  -- an input gives a part, or is refused
-  pub leaf_part : (i : ℕ) (x : List ℕ) (r : Result TreePart CoreError) → slice_get inputs i ≡ Some x → MatchResult r (λ part. (out : List ℕ) × IsRangeOf range x out × IsUnionPart out part) (ShardRefusal x)
-      → MatchResult r (λ part. (bytes : List ℕ) × RangeWrites range inputs (Leaf i) bytes × IsUnionPart bytes part) (RangeRefusal range inputs (Leaf i))
-  leaf_part i x (Ok part) at (out, is, of_part) = (out, (x, at, is), of_part)
-  leaf_part i x (Err e) at refusal = inr (x, at, refusal)
-
-  -- an allocation may fail after a tree is done
-  pub no_memory_after_range : (plan : MergePlan) (bytes : List ℕ) → RangeWrites range inputs plan bytes → RangeRefusal range inputs plan OutOfMemory
-  no_memory_after_range = no_memory_after (LeafWritesRange range inputs) (LeafRangeRefusal inputs) (λ i out made. let (x, at, is) = made in inr (x, at, inr (is.has.info, is.has.ends, inl refl)))

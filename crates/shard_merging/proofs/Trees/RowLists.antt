@@ -17,8 +17,8 @@ use Rattle.xet_records.proofs.RecordKinds.{KindLaws, length-record_bytes}
 use Rattle.xet_shards.specs.Read.SectionReading.{BeginsWithBookend}
 use Rattle.xet_shards.specs.Write.Section.{total_rows}
 use Rattle.xet_shards.specs.Write.WithOptions.{Ascends}
-use Rattle.shard_merging.specs.declared.merging.ranges.HashRange.{HashRange}
-use Rattle.shard_merging.specs.Records.Ranges.{is_within}
+use Rattle.placed_shards.specs.declared.range.HashRange.{HashRange}
+use Rattle.placed_shards.specs.Ranges.{is_within}
 use Rattle.xet_core_structures.specs.Records.RecordPairs.{key_of_record}
 use Rattle.shard_merging.specs.Steps.Rows.{RowsFollow}
 use Rattle.shard_merging.specs.Trees.RowTrees.{HasInRows}

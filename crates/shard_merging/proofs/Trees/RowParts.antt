@@ -18,7 +18,7 @@ use Rattle.xet_shards.specs.Read.SectionReading.{files_of, IsSection}
 use Rattle.xet_shards.specs.Write.Section.{total_rows}
 use Rattle.xet_shards.proofs.Ends.EndsUnique.{only_info}
 use Rattle.xet_shards.proofs.Write.Sections.{files_laws}
-use Rattle.shard_merging.specs.declared.merging.ranges.HashRange.{HashRange}
+use Rattle.placed_shards.specs.declared.range.HashRange.{HashRange}
 use Rattle.shard_merging.specs.declared.merging.rows.SectionRows.{SectionRows}
 use Rattle.shard_merging.specs.declared.merging.trees.parts.PlacedShard.{PlacedShard}
 use Rattle.xet_core_structures.specs.Records.ShardContents.{IsSectionOf, files_at, xorbs_at}

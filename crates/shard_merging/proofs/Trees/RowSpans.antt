@@ -7,7 +7,7 @@ use Rattle.xet_records.specs.RecordKind.{RecordKind, in_version}
 use Rattle.xet_records.proofs.RecordKinds.{KindLaws, laws_in}
 use Rattle.xet_shards.specs.declared.shard_format.read.stored_section.PlacedRecord.{PlacedRecord}
 use Rattle.xet_shards.specs.Read.SectionReading.{BeginsWithBookend}
-use Rattle.shard_merging.specs.declared.merging.ranges.HashRange.{HashRange}
+use Rattle.placed_shards.specs.declared.range.HashRange.{HashRange}
 use Rattle.shard_merging.specs.Steps.Placed.{PlacesAll}
 use Rattle.shard_merging.specs.Steps.Rows.{RowsFollow}
 use Rattle.shard_merging.specs.Trees.RowTrees.{HasInRows}

@@ -6,7 +6,7 @@ use Rattle.xet_base.specs.declared.error.CoreError.{CoreError}
 use Rattle.xet_base.specs.declared.error.CoreError.TheVariants.{OutOfMemory}
 use Rattle.xet_core_structures.specs.declared.set_operations.MergePlan.{MergePlan}
 use Rattle.xet_core_structures.specs.declared.set_operations.MergePlan.TheVariants.{Leaf}
-use Rattle.shard_merging.specs.declared.merging.ranges.HashRange.{HashRange}
+use Rattle.placed_shards.specs.declared.range.HashRange.{HashRange}
 use Rattle.shard_merging.specs.declared.merging.rows.SectionRows.{SectionRows}
 use Rattle.shard_merging.specs.declared.merging.trees.parts.TreePart.{TreePart}
 use Rattle.shard_merging.specs.Steps.Parts.{IsUnionPart}

@@ -21,8 +21,8 @@ use Rattle.xet_shards.specs.declared.shard_format.read.stored_section.PlacedReco
 use Rattle.xet_shards.specs.Read.SectionReading.{SectionCase}
 use Rattle.xet_shards.specs.Read.SectionReading.SectionCase.{not_read, passes_limit}
 use Rattle.xet_shards.specs.Steps.SectionReading.{RecordFails}
-use Rattle.shard_merging.specs.declared.merging.ranges.HashRange.{HashRange}
-use Rattle.shard_merging.specs.Records.Ranges.{is_within}
+use Rattle.placed_shards.specs.declared.range.HashRange.{HashRange}
+use Rattle.placed_shards.specs.Ranges.{is_within}
 use Rattle.xet_core_structures.specs.Steps.MergeJoin.{Follows, FollowingFails}
 use Rattle.xet_core_structures.specs.Steps.MergeJoin.FollowingFails.{not_read as next_not_read, falls}
 use Rattle.shard_merging.specs.Steps.Placed.{PlacesAll}

@@ -6,10 +6,10 @@ use Rattle.std.proofs.lemmas.Option.{same_Some, none-some, slice_get_past}
 use Rattle.xet_base.specs.declared.error.CoreError.{CoreError}
 use Rattle.xet_core_structures.specs.declared.set_operations.MergePlan.{MergePlan}
 use Rattle.xet_core_structures.specs.declared.set_operations.MergePlan.TheVariants.{Leaf, Both'}
-use Rattle.shard_merging.specs.declared.merging.ranges.HashRange.{HashRange}
+use Rattle.placed_shards.specs.declared.range.HashRange.{HashRange}
 use Rattle.shard_merging.specs.declared.merging.rows.SectionRows.{SectionRows}
 use Rattle.xet_core_structures.specs.Trees.MergeTrees.{leaves}
-use Rattle.shard_merging.specs.Trees.Parts.{ShardRefusal}
+use Rattle.placed_shards.specs.Opening.{ShardRefusal}
 use Rattle.shard_merging.specs.Trees.RangeTrees.{IsRangeOf, RangeWrites, RangeRefusal}
 use Rattle.shard_merging.specs.Trees.RowTrees.{InputRowsAre, IsRowsOf, RowReadRefusal, RowsWrite, RowsRefusal, AreRowsOfRange, HaveRowsOfRange}
 use Rattle.shard_merging.proofs.LawProofs.RowSizes.{one_result}

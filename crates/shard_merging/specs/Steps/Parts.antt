@@ -1,7 +1,6 @@
 -- Steps towards what `Parts` defines, which only contracts inside the crate speak of.
 use Rattle.std.specs.Prelude.{◌≡◌, ◌⊎◌, ℕ, List, Option, IfSome}
 use Rattle.std.specs.FinMap.{values}
-use Rattle.std.specs.List.{AllZip}
 use Rattle.xet_records.specs.declared.file_structs.MDBFileInfo.{MDBFileInfo}
 use Rattle.xet_records.specs.declared.xorb_structs.MDBXorbInfo.{MDBXorbInfo}
 use Rattle.xet_records.specs.FileRecord.{file_records}
@@ -10,9 +9,6 @@ use Rattle.xet_shards.specs.declared.shard_format.ends.info.MDBShardInfo.{MDBSha
 use Rattle.xet_shards.specs.Ends.Ends.{HasHeaderAndFooter}
 use Rattle.xet_shards.specs.Write.WithOptions.{Ascends, FitsSection}
 use Rattle.xet_shards.specs.Content.Shard.{Shard}
-use Rattle.xet_core_structures.specs.declared.set_operations.MergePlan.{MergePlan}
-use Rattle.xet_core_structures.specs.declared.set_operations.MergePlan.TheVariants.{Leaf, Both'}
-use Rattle.shard_merging.specs.declared.merging.trees.inputs.OpenShard.{OpenShard}
 use Rattle.shard_merging.specs.declared.merging.trees.parts.PlacedShard.{PlacedShard}
 use Rattle.shard_merging.specs.declared.merging.trees.parts.TreePart.{TreePart}
 use Rattle.shard_merging.specs.declared.merging.trees.parts.TreePart.TheVariants.{Input, United}
@@ -56,14 +52,6 @@ abbrev pub IsPlacedOf : PlacedShard → List ℕ → Type 0
 IsPlacedOf shard bytes =
     (info : MDBShardInfo) × HasHeaderAndFooter bytes info × PlacesShard bytes info shard
 
--- an opened input has these bytes, and the records of the shard that they hold
-abbrev pub IsOpenOf : OpenShard → List ℕ → Type 0
-IsOpenOf opened bytes = (opened.bytes.now ≡ bytes) × IsPlacedOf opened.records bytes
-
--- these are inputs, opened
-abbrev pub AreOpened : List (List ℕ) → List OpenShard → Type 0
-AreOpened inputs opened = AllZip IsOpenOf opened inputs
-
 -- the shard in memory that has the records of a part
 abbrev pub shard_in : PartRecords → PlacedShard
 shard_in (Own shard) = shard
@@ -95,12 +83,6 @@ IsPart bytes (United shard) = (info : MDBShardInfo) × IsUnited bytes info shard
 abbrev pub IsUnionPart : List ℕ → TreePart → Type 0
 IsUnionPart bytes (Input x placed) = ⊥
 IsUnionPart bytes (United shard) = IsPart bytes (United shard)
-
--- a part that a tree gives stands for these bytes: that of a leaf is an input, any other a union
-abbrev pub IsPartOfTree : MergePlan → List ℕ → TreePart → Type 0
-IsPartOfTree (Leaf i) bytes (Input x placed) = IsPart bytes (Input x placed)
-IsPartOfTree (Leaf i) bytes (United shard) = ⊥
-IsPartOfTree (Both' p left q right) bytes part = IsUnionPart bytes part
 
 -- a part stands for these bytes, in which these are the header and the footer
 abbrev pub IsOpened : List ℕ → MDBShardInfo → OpenPart → Type 0

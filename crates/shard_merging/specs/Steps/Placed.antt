@@ -22,10 +22,6 @@ abbrev pub CountsRows : ℕ → ℕ → Type 0
 CountsRows total counted =
     (counted ≡ total) ⊎ ((MAX_ROWS < total) × (MAX_ROWS < counted))
 
--- the records of a list whose hashes pass a test
-abbrev pub records_passing : {H R : Type 0} → RecordKind H R → (DataHash → Bool) → List R → List R
-records_passing K passes rs = filter (λ r. passes (key_of_record K r)) rs
-
 module _ {H R : Type 0} (K : RecordKind H R) where
   -- a header, and bytes from the rows after it on, are those of a record, as reading returns it
   pub record Places (p : PlacedRecord H) (r : R) : Type 0 where

@@ -3,8 +3,8 @@ use Rattle.std.specs.Prelude.{◌≡◌, ℕ, ◌+◌, ◌≤◌, true, List, []
 use Rattle.xet_records.specs.declared.record_reader.FormatVersion.{FormatVersion}
 use Rattle.xet_records.specs.RecordKind.{RecordKind, in_version}
 use Rattle.xet_shards.specs.declared.shard_format.read.stored_section.PlacedRecord.{PlacedRecord}
-use Rattle.shard_merging.specs.declared.merging.ranges.HashRange.{HashRange}
-use Rattle.shard_merging.specs.Records.Ranges.{is_within}
+use Rattle.placed_shards.specs.declared.range.HashRange.{HashRange}
+use Rattle.placed_shards.specs.Ranges.{is_within}
 use Rattle.xet_core_structures.specs.Records.RecordPairs.{key_of_record}
 use Rattle.xet_core_structures.specs.Steps.MergeJoin.{Follows}
 use Rattle.shard_merging.specs.Steps.Placed.{Places}

@@ -9,10 +9,7 @@ use Rattle.xet_records.specs.declared.record_reader.FormatVersion.TheVariants.{V
 use Rattle.xet_shards.specs.Content.Shard.{Shard}
 use Rattle.xet_shards.specs.Write.Layout.{layout_of}
 use Rattle.xet_shards.specs.Write.WrittenShard.{HasFilesIn}
-use Rattle.xet_core_structures.specs.declared.set_operations.MergePlan.{MergePlan}
-use Rattle.xet_core_structures.specs.declared.set_operations.MergePlan.TheVariants.{Leaf, Both'}
 use Rattle.xet_core_structures.specs.Records.ShardContents.{HasShard}
-use Rattle.xet_core_structures.specs.Trees.MergeTrees.{TreeWrites, TreeRefusal}
 use Rattle.xet_core_structures.specs.TwoShards.ByteResults.{keyed_options, keyed_layout}
 
 -- the bytes of a shard in a version under a key, with all tables, creation 0 and no expiry
@@ -49,18 +46,3 @@ RefusedIn V3 Makes Refuses e = Refuses e
 RefusedIn V2 Makes Refuses e =
     Refuses e
     ⊎ ((e ≡ InvalidArguments) × ((bytes : List ℕ) × Makes bytes × HasNewFiles bytes))
-
--- what a tree writes in a version: at a leaf the input's bytes, whatever their version
-abbrev pub TreeWritesIn : FormatVersion → List (List ℕ) → MergePlan → List ℕ → Type 0
-TreeWritesIn V3 inputs plan out = TreeWrites inputs plan out
-TreeWritesIn V2 inputs (Leaf i) out = TreeWrites inputs (Leaf i) out
-TreeWritesIn V2 inputs (Both' p left q right) out =
-    MadeIn V2 (TreeWrites inputs (Both' p left q right)) out
-
--- why a tree writes nothing in a version
-abbrev pub TreeRefusalIn : FormatVersion → List (List ℕ) → MergePlan → CoreError → Type 0
-TreeRefusalIn V3 inputs plan e = TreeRefusal inputs plan e
-TreeRefusalIn V2 inputs (Leaf i) e = TreeRefusal inputs (Leaf i) e
-TreeRefusalIn V2 inputs (Both' p left q right) e =
-    RefusedIn V2 (TreeWrites inputs (Both' p left q right))
-    (TreeRefusal inputs (Both' p left q right)) e

@@ -10,12 +10,13 @@ use Rattle.xet_shards.specs.Content.Shard.{Shard, IsShard}
 use Rattle.shard_merging.specs.InARow.{ShardPart, bytes_of_part, IsPartUnder, files_in, xorbs_in, options_under, ArePartsInARow}
 use Rattle.xet_shards.specs.Write.Layout.{layout_of}
 use Rattle.xet_core_structures.specs.declared.set_operations.MergePlan.{MergePlan}
-use Rattle.shard_merging.specs.declared.merging.ranges.HashRange.{HashRange}
-use Rattle.shard_merging.specs.Records.Ranges.{IsPartOf, is_within}
+use Rattle.placed_shards.specs.declared.range.HashRange.{HashRange}
+use Rattle.placed_shards.specs.Merging.{IsPartOf}
+use Rattle.placed_shards.specs.Ranges.{is_within}
 use Rattle.xet_core_structures.specs.Records.ShardContents.{HasShard, HoldsShard}
 use Rattle.xet_core_structures.specs.TwoShards.ByteResults.{keyed_layout, key_of}
 use Rattle.xet_core_structures.specs.Trees.MergeTrees.{leaves, TreeMakes, TreeRefuses, InputIs}
-use Rattle.shard_merging.specs.Trees.Parts.{ShardRefusal}
+use Rattle.placed_shards.specs.Opening.{ShardRefusal}
 
 -- bytes hold a shard, and other bytes are the layout, under its key, of its records in a range
 pub record IsRangeOf (range : HashRange) (x out : List ℕ) : Type 0 where

@@ -9,7 +9,7 @@ ghost use Rattle.xet_records.specs.declared.xorb_structs.MDBXorbInfo.{MDBXorbInf
 ghost use Rattle.xet_records.specs.FileRecord.{file_records};
 ghost use Rattle.xet_records.specs.XorbRecord.{xorb_records};
 ghost use Rattle.xet_core_structures.specs.declared.set_operations.MergePlan.{MergePlan};
-ghost use Rattle.shard_merging.specs.declared.merging.ranges.HashRange.{HashRange};
+ghost use Rattle.placed_shards.specs.declared.range.HashRange.{HashRange};
 ghost use Rattle.shard_merging.specs.declared.merging.rows.SectionRows.{SectionRows};
 ghost use Rattle.xet_core_structures.specs.Records.Sizes.{rows_of_shard, bytes_at};
 ghost use Rattle.xet_core_structures.specs.Trees.MergeTrees.{leaves, HasUnion};
@@ -20,7 +20,9 @@ ghost use Rattle.xet_base.specs.KeyedHash.{no_key};
 ghost use Rattle.xet_shards.specs.Write.Layout.{layout_of, layout};
 ghost use Rattle.xet_core_structures.specs.Records.ByteUnion.{IsEitherFile, IsEitherXorb};
 ghost use Rattle.xet_core_structures.specs.Records.RecordPairs.{Combines, AreApart};
-ghost use Rattle.shard_merging.specs.Records.Ranges.{IsPartOf, is_within, ranges_between, AreCuts};
+ghost use Rattle.placed_shards.specs.Merging.{IsPartOf};
+ghost use Rattle.placed_shards.specs.Ranges.{is_within};
+ghost use Rattle.placed_shards.specs.Ranges.{ranges_between, AreCuts};
 ghost use Rattle.shard_merging.specs.InARow.{AreInARow};
 ghost use Rattle.xet_shards.specs.Content.Joins.{IsJoinOf};
 ghost use Rattle.xet_shards.specs.Content.SetOperations.{ShardsAgree};
@@ -72,8 +74,8 @@ pub fn ranges_have_all_records()
         (flat_map (λ s. values s.xorbs) parts) (keyed_options key) }
 {}
 
-/// In version 3 `merge_range_into` makes parts in a row of ranges that follow one another and leave
-/// no hash out. So `shards_in_a_row_into` writes the layout of the join from them, as the one merge
+/// The layouts of the parts of a shard in ranges that follow one another and leave no hash out are parts
+/// in a row. So `shards_in_a_row_into` writes the layout of the join from them, as the one merge
 /// does, or fails for lack of memory (`parts`). Without a key, `serialize_from` writes this layout of
 /// the join without expiry (`no_key`).
 pub fn ranges_concatenate()
@@ -85,8 +87,8 @@ pub fn ranges_concatenate()
 {}
 
 /// Let `merge_rows_into` succeed for ranges that follow one another and leave no hash out, and let
-/// each call begin at the rows before which the one before it ended. Then each writes what
-/// `merge_range_into` promises for its range, whatever the rows are.
+/// each call begin at the rows before which the one before it ended. Then each writes all
+/// records of its range, whatever the rows are.
 pub fn rows_cover_ranges()
     ensures { (inputs : List (List ℕ)) → (plan : MergePlan) → (cuts : List DataHash)
         → (rows : List (List SectionRows)) → (outs : List (List ℕ)) → AreCuts None cuts None

@@ -4,7 +4,7 @@
 ghost use Rattle.std.specs.Prelude.{◌≡◌, List, ℕ, map, Contains, MatchResult};
 ghost use Rattle.xet_core_structures.specs.declared.set_operations.MergePlan.TheVariants.{Leaf};
 ghost use Rattle.shard_merging.specs.Steps.Parts.{IsUnionPart};
-ghost use Rattle.shard_merging.specs.Trees.Filling.{FillsWith};
+ghost use Rattle.placed_shards.specs.Filling.{FillsWith};
 ghost use Rattle.shard_merging.specs.Trees.InVersions.{MadeIn, RefusedIn};
 ghost use Rattle.xet_core_structures.specs.Trees.MergeTrees.{MergeRefused, leaves};
 ghost use Rattle.shard_merging.specs.Trees.RangeTrees.{IsRangeMerge, IsHeldLayout};
@@ -12,11 +12,11 @@ ghost use Rattle.shard_merging.specs.Trees.RowTrees.{IsRowsOf, RowReadRefusal, R
 ghost use Rattle.xet_base.specs.declared.merklehash.DataHash.{DataHash};
 ghost use Rattle.xet_shards.specs.Content.Shard.{Shard};
 
-use crate::merging::ranges::HashRange;
 use crate::merging::trees::parts::{PlacedShard, TreePart, unite_parts};
 use crate::merging::trees::rows::{RowSpan, place_rows};
 use crate::merging::trees::versions::fill_with_part_in;
 use bumpalo::Bump;
+use placed_shards::range::HashRange;
 use std::alloc::Global;
 use xet_base::error::{CoreError, Result};
 use xet_base::source::MemorySource;
@@ -36,23 +36,24 @@ pub struct SectionRows {
     pub xorb: u32,
 }
 
-/// Writes, to the front of a slice, what [`merge_range_into`](super::merge_range_into) writes, but
-/// of the records in these rows alone: for the input at each index, from its rows in `starts` on and
-/// before its rows in `ends`. If the bytes don't fit, or if the call fails, the slice stays as it
-/// is.
+/// Writes the unions at the leaves of a tree, of the records in a range, to the front of a slice, but of
+/// those in given rows alone: for the input at each index, from its rows in `starts` on and before its
+/// rows in `ends`. If the bytes don't fit, or if the call fails, the slice stays as it is.
 ///
 /// Let calls for ranges that cut all hashes each take the `ends` of the one before as `starts`. If
-/// all succeed, each writes what `merge_range_into` may write. The rows need not be trusted.
+/// all succeed, each writes all records of its range. The rows need not be trusted.
 ///
 /// Let the inputs hold well-formed shards under one key that agree pairwise, and the rows be those of
-/// the range in each. Then the result is that of `merge_range_into`.
+/// the range in each. Then the result has the records of their join in the range.
 ///
 /// The error is that of the first leaf or union that fails, left sides first. `InvalidArguments` if
 /// a leaf has no input or no rows, the keys differ, or if in an input's rows there are not whole
 /// records whose hashes strictly ascend and are in the range. It is also if a range without a lower
 /// bound does not start at rows 0, or one without an upper bound does not end at the bookends.
 /// `ShardVersion` or `UnexpectedEof` if the header or the footer of an input is unsupported or
-/// truncated. Errors of a union, and those of the version, are those of `merge_range_into`.
+/// truncated. Errors of a union are those of
+/// [`shard_set_union`](xet_core_structures::set_operations::shard_set_union). `InvalidArguments` too if
+/// the union has an auxiliary row, and the version is 2, which has none.
 pub fn merge_rows_into(
     alloc: Global,
     plan: &MergePlan,

@@ -1,16 +1,37 @@
 -- How a merge of byte strings whose shards have to agree is shown.
-use Rattle.std.specs.Prelude.{◌≡◌, ℕ, Ok, Err}
-use Rattle.shard_merging.specs.declared.merging.agreement.AgreeingFill.{AgreeingFill}
-use Rattle.shard_merging.specs.declared.merging.agreement.AgreeingFill.TheVariants.{Bytes, Disagreements, Malformed}
+use Rattle.std.specs.Prelude.{◌≡◌, ⊤, ℕ, List, Ok, Err}
+use Rattle.placed_shards.specs.declared.strict.Agreed.{Agreed}
+use Rattle.placed_shards.specs.declared.strict.Agreed.TheVariants.{Made, Disagreements, Malformed}
+use Rattle.placed_shards.specs.Filling.{Fills}
+use Rattle.placed_shards.specs.Ranges.{all_hashes}
+use Rattle.placed_shards.specs.Sizes.{IsResultSize}
+use Rattle.placed_shards.specs.Strict.{IsAgreedOr}
+use Rattle.xet_core_structures.specs.declared.record_reader.FormatVersion.{FormatVersion}
 use Rattle.xet_core_structures.specs.Errors.{CoreResult, variant_number}
 use Rattle.xet_c.specs.declared.agree.XetDisagreement.{XetDisagreement}
-use Rattle.xet_c.specs.Agreeing.{ShowsFirst, c_malformed}
+use Rattle.xet_c.specs.Agreeing.{AreMerged, ShowsFirst, c_malformed}
 use Rattle.xet_c.specs.Output.{Answers}
 
+-- what a merge of byte strings that have to agree puts to the front of a slice, if there is a merge; else
+-- the slice stays
+abbrev pub FillsAgreed : FormatVersion → List (List ℕ) → (old new : List ℕ) → Agreed ℕ → Type 0
+FillsAgreed version inputs old new (Made size) =
+    (bytes : List ℕ) × AreMerged version inputs bytes × Fills bytes old new size
+FillsAgreed version inputs old new (Disagreements found) =
+    IsAgreedOr {T = ℕ} all_hashes inputs (λ size. ⊥) (Disagreements found) × (new ≡ old)
+FillsAgreed version inputs old new (Malformed m) =
+    IsAgreedOr {T = ℕ} all_hashes inputs (λ size. ⊥) (Malformed m) × (new ≡ old)
+
+-- it has at most so many bytes as a merge of any shards
+abbrev pub HasFillSize : List (List ℕ) → Agreed ℕ → Type 0
+HasFillSize inputs (Made size) = IsResultSize inputs size
+HasFillSize inputs (Disagreements found) = ⊤
+HasFillSize inputs (Malformed m) = ⊤
+
 -- how a merge to an output of so many bytes is shown
-abbrev pub ShowsFill : CoreResult AgreeingFill → ℕ → ℕ → (old new : XetDisagreement) → ℕ → ℕ
+abbrev pub ShowsFill : CoreResult (Agreed ℕ) → ℕ → ℕ → (old new : XetDisagreement) → ℕ → ℕ
     → Type 0
-ShowsFill (Ok (Bytes size)) room written old new count result =
+ShowsFill (Ok (Made size)) room written old new count result =
     Answers room written result size × (count ≡ 0) × (new ≡ old)
 ShowsFill (Ok (Disagreements all)) room written old new count result =
     (written ≡ 0) × ShowsFirst all.items old new count × (result ≡ 20)

@@ -1,6 +1,6 @@
 use Rattle.std.proofs.Common.{Bor, ℕ, List, map, refl, sym, ◌∙◌}
 use Rattle.shard_merging.specs.InARow.{RefusesShardsInARow, files_in}
-use Rattle.shard_merging.specs.Trees.Filling.{Fills}
+use Rattle.placed_shards.specs.Filling.{Fills}
 use Rattle.shard_bytes.proofs.InARow.{lacks_still, fails_for_memory, fails_for_files, refuses_new, none_concatenated, concatenates}
 use Rattle.shard_bytes.proofs.MemoryErrors.{from_memory}
 use Rattle.shard_bytes.proofs.in_a_row.concatenate_into.Goals as goal

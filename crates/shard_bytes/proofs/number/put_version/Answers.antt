@@ -1,6 +1,6 @@
 use Rattle.std.proofs.Common.{ℕ, List, sym, subst}
 use Rattle.std.proofs.lemmas.Bool.{leb-true, le-leb}
-use Rattle.shard_merging.specs.Trees.Filling.{Fills}
+use Rattle.placed_shards.specs.Filling.{Fills}
 use Rattle.shard_bytes.specs.Steps.Versions.{IsNumberedIn}
 use Rattle.shard_bytes.proofs.AuxRows.{version_put}
 use Rattle.shard_bytes.proofs.number.put_version.Goals as goal

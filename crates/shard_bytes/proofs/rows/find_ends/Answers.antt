@@ -3,7 +3,7 @@ use Rattle.std.specs.List.{AllZip}
 use Rattle.std.proofs.lemmas.Result.{err_from_is_err_and}
 use Rattle.shard_bytes.specs.Rows.{AreEndRows}
 use Rattle.xet_shards.proofs.Read.Zipped.{zipped_append}
-use Rattle.shard_merging.proofs.Trees.OpenedInputs.{taken_more}
+use Rattle.placed_shards.proofs.Items.{taken_more}
 use Rattle.shard_merging.proofs.Trees.RangeTrees.{at_input}
 use Rattle.shard_bytes.proofs.RowSearch.{all_have_ends}
 use Rattle.shard_bytes.proofs.rows.find_ends.Goals as goal

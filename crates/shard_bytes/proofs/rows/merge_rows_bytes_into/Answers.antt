@@ -3,7 +3,7 @@ use Rattle.std.proofs.lemmas.List.{length-map}
 use Rattle.shard_merging.proofs.Trees.InVersions.{if_filled}
 use Rattle.shard_bytes.specs.Merging.{IsMergePlan}
 use Rattle.shard_bytes.specs.Rows.{MergesRows}
-use Rattle.shard_bytes.specs.Sizes.{IsResultSize}
+use Rattle.placed_shards.specs.Sizes.{IsResultSize}
 use Rattle.shard_bytes.proofs.InVersions.{size_in}
 use Rattle.shard_bytes.proofs.Merging.{plan_covers, at_leaves, merges_range}
 use Rattle.shard_bytes.proofs.RowMerges.{rows_made, rows_refused}

@@ -11,13 +11,12 @@ ghost use Rattle.xet_shards.specs.Write.Layout.{layout_of};
 ghost use Rattle.xet_core_structures.specs.declared.set_operations.MergePlan.TheVariants.{Leaf};
 ghost use Rattle.xet_core_structures.specs.TwoShards.ByteResults.{keyed_options, key_of, UnitesBytes, BytesRefusal, LoadRefusal};
 ghost use Rattle.xet_core_structures.specs.Steps.ByteResults.{Records, AreCombined};
-ghost use Rattle.shard_merging.specs.Trees.Filling.{Fills, FillsWith};
+ghost use Rattle.placed_shards.specs.Filling.{Fills, FillsWith};
 ghost use Rattle.xet_core_structures.specs.Trees.MergeTrees.{TreeWrites, TreeRefusal};
-ghost use Rattle.shard_merging.specs.Trees.Parts.{SectionsRefusal};
-ghost use Rattle.shard_merging.specs.Steps.Parts.{PlacesRecords, MayBeUnited, MayBeWritten, PlacesShard, HaveNoRecordUnion, AreOpened, IsPart, IsUnionPart, IsPartOfTree, IsOpened, AreListed, shard_in};
+ghost use Rattle.placed_shards.specs.Opening.{SectionsRefusal};
+ghost use Rattle.shard_merging.specs.Steps.Parts.{PlacesRecords, MayBeUnited, MayBeWritten, PlacesShard, HaveNoRecordUnion, IsPart, IsUnionPart, IsOpened, AreListed, shard_in};
 
 use super::filling::{frame_of, put_shard};
-use super::inputs::OpenShard;
 use super::placed::{PlacedUnion, place_records, unite_placed};
 use crate::merging::trees::placed::OfUnion;
 use bumpalo::Bump;
@@ -25,7 +24,6 @@ use std::alloc::Global;
 use xet_base::error::{CoreError, Result};
 use xet_base::merklehash::HMACKey;
 use xet_base::source::{MemorySource, ShardSource};
-use xet_core_structures::set_operations::MergePlan;
 use xet_records::file_structs::{FileDataSequenceHeader, MDBFileInfo};
 use xet_records::record_reader::FormatVersion;
 use xet_records::xorb_structs::{MDBXorbInfo, XorbChunkSequenceHeader};
@@ -72,69 +70,6 @@ impl<'a> PartRecords<'a> {
 pub enum OpenPart<'a> {
     Input(&'a [u8], MDBShardInfo),
     Listed(PartRecords<'a>),
-}
-
-/// What a tree gives. Records that are in no input are placed in the arena.
-pub fn place_tree<'a>(
-    alloc: Global,
-    arena: &'a Bump,
-    plan: &MergePlan,
-    inputs: &[&'a [u8]],
-) -> Result<TreePart<'a>>
-    ensures { MatchResult result
-        (λ part. (bytes : List ℕ) × TreeWrites (map (λ x. x.now) inputs.now) plan.now bytes
-        × IsPartOfTree plan.now bytes part)
-        (TreeRefusal (map (λ x. x.now) inputs.now) plan.now) }
-{
-    match plan {
-        MergePlan::Leaf(index) => {
-            if *index >= inputs.len() {
-                return Err(CoreError::InvalidArguments);
-            }
-            Ok(TreePart::Input(inputs[*index], None))
-        }
-        MergePlan::Both(left, right) => {
-            let one = place_tree(alloc, arena, left, inputs)?;
-            let other = place_tree(alloc, arena, right, inputs)?;
-            unite_parts(alloc, arena, one, other)
-        }
-    }
-}
-
-/// The same of inputs whose records are placed already.
-pub fn place_tree_of<'a>(
-    alloc: Global,
-    arena: &'a Bump,
-    plan: &MergePlan,
-    opened: &'a [OpenShard<'a>],
-) -> Result<TreePart<'a>>
-    ensures { (inputs : List (List ℕ)) → AreOpened inputs opened.now → MatchResult result
-        (λ part. (bytes : List ℕ) × TreeWrites inputs plan.now bytes
-        × IsPartOfTree plan.now bytes part)
-        (TreeRefusal inputs plan.now) }
-{
-    match plan {
-        MergePlan::Leaf(index) => open_leaf(opened, *index),
-        MergePlan::Both(left, right) => {
-            let first = place_tree_of(alloc, arena, left, opened)?;
-            let second = place_tree_of(alloc, arena, right, opened)?;
-            unite_parts(alloc, arena, first, second)
-        }
-    }
-}
-
-/// The input at an index.
-pub fn open_leaf<'a>(opened: &'a [OpenShard<'a>], index: usize) -> Result<TreePart<'a>>
-    ensures { (inputs : List (List ℕ)) → AreOpened inputs opened.now → MatchResult result
-        (λ part. (bytes : List ℕ) × (slice_get inputs index ≡ Some bytes)
-        × IsPartOfTree (Leaf index) bytes part)
-        (λ e. (e ≡ InvalidArguments) × (length inputs ≤ index)) }
-{
-    if index >= opened.len() {
-        return Err(CoreError::InvalidArguments);
-    }
-    let shard = &opened[index];
-    Ok(TreePart::Input(shard.bytes, Some(&shard.records)))
 }
 
 /// The union of two parts.
@@ -284,31 +219,6 @@ pub fn unite_lists<'a, F: PlacedUnion<MDBFileInfo>, X: PlacedUnion<MDBXorbInfo>>
         files,
         xorbs,
     })
-}
-
-/// The bytes of a part of a tree.
-pub fn part_bytes(alloc: Global, part: TreePart<'_>) -> Result<Vec<u8>>
-    requires { (bytes : List ℕ) × IsPart bytes part }
-    ensures { (bytes : List ℕ) → IsPart bytes part.entry → MatchResult result
-        (λ written. written.items ≡ bytes) (λ e. e ≡ OutOfMemory) }
-{
-    match part {
-        TreePart::Input(bytes, _) => Ok(Vec::from_slice(alloc, bytes)?),
-        TreePart::United(shard) => shard_bytes(alloc, &shard),
-    }
-}
-
-fn shard_bytes(alloc: Global, shard: &PlacedShard<'_>) -> Result<Vec<u8>>
-    requires { (records : Records) × MayBeWritten shard.now records }
-    ensures { (records : Records) → MayBeWritten shard.now records → MatchResult result
-        (λ written. written.items
-        ≡ layout_of records.files records.xorbs (keyed_options shard.now.key))
-        (λ e. e ≡ OutOfMemory) }
-{
-    let frame = frame_of(alloc, shard)?;
-    let mut bytes = vec![in alloc; 0; frame.size]?;
-    put_shard(bytes.as_mut_slice(), shard, &frame);
-    Ok(bytes)
 }
 
 /// Writes the bytes of a part of a tree to the front of a slice, if they fit, and returns their

@@ -9,7 +9,7 @@ ghost use Rattle.shard_merging.specs.Trees.RowTrees.{HasInRows};
 ghost use Rattle.shard_merging.specs.Steps.Placed.{PlacesAll};
 ghost use Rattle.shard_merging.specs.Steps.Rows.{PlacesNext, NextIs, RowsFollow};
 
-use crate::merging::ranges::HashRange;
+use placed_shards::range::HashRange;
 use std::alloc::Global;
 use xet_base::error::{CoreError, Result};
 use xet_base::input::OfSource;

@@ -4,11 +4,11 @@
 
 ghost use Rattle.std.specs.Prelude.{◌≡◌, ◌≤◌, ℕ, true, List, length, MatchResult};
 ghost use Rattle.xet_base.specs.declared.error.CoreError.TheVariants.{InvalidArguments};
-ghost use Rattle.shard_merging.specs.Trees.Filling.{FillsWith};
+ghost use Rattle.placed_shards.specs.Filling.{FillsWith};
 ghost use Rattle.shard_merging.specs.Steps.InVersions.{AreNumbered, IsPartIn, IsTooNew, IsNotWritten, GetsNumber};
 ghost use Rattle.shard_merging.specs.Steps.Parts.{IsPart};
 
-use super::parts::{TreePart, fill_with_part, part_bytes};
+use super::parts::{TreePart, fill_with_part};
 use std::alloc::Global;
 use xet_base::error::{CoreError, Result};
 use xet_base::fields::put_u64;
@@ -19,23 +19,10 @@ use xet_shards::shard_writer::have_aux_rows;
 // Where the number of the version is in a header: after the tag.
 const VERSION_OFFSET: usize = TAG_SIZE;
 
-/// The bytes of a part of a tree in a version. Those of an input are in the version that they have.
+/// Writes the bytes of a part of a tree in a version to the front of a slice, if they fit, and
+/// returns their number. Those of an input are in the version that they have.
 ///
 /// `InvalidArguments` if a union has an auxiliary row, and the version is 2, which has none.
-pub fn part_bytes_in(alloc: Global, part: TreePart<'_>, version: FormatVersion) -> Result<Vec<u8>>
-    requires { (bytes : List ℕ) × IsPart bytes part }
-    ensures { (bytes : List ℕ) → IsPart bytes part.entry → MatchResult result
-        (λ written. IsPartIn version part.entry bytes written.items)
-        (IsNotWritten version part.entry bytes) }
-{
-    let gets_number = gets_number_2(&part, version)?;
-    let mut bytes = part_bytes(alloc, part)?;
-    put_number(gets_number, bytes.as_mut_slice());
-    Ok(bytes)
-}
-
-/// Writes the bytes of a part of a tree in a version to the front of a slice, if they fit, and
-/// returns their number. The errors are the same.
 pub fn fill_with_part_in(
     alloc: Global,
     part: TreePart<'_>,

@@ -1,5 +1,5 @@
 use Rattle.std.proofs.Common.{ℕ, List, map, Bor, inl, inr, refl, arith, subst, sym}
-use Rattle.shard_bytes.specs.Sizes.{IsResultSize}
+use Rattle.placed_shards.specs.Sizes.{IsResultSize}
 use Rattle.xet_c.proofs.agree.xet_merge_agreeing_in.Goals as goal
 
 pub returns-in-Some-clause-merged : goal.returns-in-Some-clause-merged

@@ -1,5 +1,5 @@
 use Rattle.std.proofs.Common.{[], ◌∷◌, arith}
-use Rattle.shard_bytes.specs.Sizes.{IsResultSize}
+use Rattle.placed_shards.specs.Sizes.{IsResultSize}
 use Rattle.xet_c.proofs.Outcomes.{count_given}
 use Rattle.xet_c.proofs.combine.xet_union_in.Goals as goal
 

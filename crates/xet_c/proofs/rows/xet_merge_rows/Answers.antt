@@ -1,5 +1,5 @@
 use Rattle.std.proofs.Common.{Bor, ℕ, List, map, arith}
-use Rattle.shard_bytes.specs.Sizes.{IsResultSize}
+use Rattle.placed_shards.specs.Sizes.{IsResultSize}
 use Rattle.xet_c.proofs.Outcomes.{outcome_of_fill, size_given}
 use Rattle.xet_c.proofs.rows.xet_merge_rows.Goals as goal
 

@@ -2,7 +2,7 @@ use Rattle.std.proofs.Common.{◌<◌, ◌^◌, ◌∙◌, ℕ, List, Bor, map, 
 use Rattle.std.proofs.lemmas.Result.{err_from_is_err_and}
 use Rattle.shard_merging.specs.InARow.{files_in, xorbs_in, options_under, RefusesShardsInARow}
 use Rattle.shard_merging.specs.Steps.PartFilling.{HoldAll}
-use Rattle.shard_merging.specs.Trees.Filling.{Fills}
+use Rattle.placed_shards.specs.Filling.{Fills}
 use Rattle.xet_shards.specs.Write.Layout.{layout_of}
 use Rattle.shard_merging.proofs.InARow.InARow.{parts_fit}
 use Rattle.shard_merging.proofs.in_a_row.filling.fill_parts.Goals as goal

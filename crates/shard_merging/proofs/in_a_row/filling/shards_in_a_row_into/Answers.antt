@@ -2,7 +2,7 @@ use Rattle.std.proofs.Common.{◌≡◌, Bor, List, ℕ, Some, [], map, refl}
 use Rattle.std.proofs.lemmas.Result.{IfOk-weaker}
 use Rattle.xet_base.specs.KeyedHash.{no_key}
 use Rattle.shard_merging.specs.InARow.{files_in, xorbs_in, options_under, AppendsShardsInARow, IsConcatenation, RefusesShardsInARow}
-use Rattle.shard_merging.specs.Trees.Filling.{Fills}
+use Rattle.placed_shards.specs.Filling.{Fills}
 use Rattle.xet_shards.specs.Write.Layout.{layout_of}
 use Rattle.shard_merging.proofs.InARow.Filling.{fills_known, concatenation_appended}
 use Rattle.shard_merging.proofs.InARow.InARow.{parts_of, row_written, parts_in_a_row}

@@ -1,4 +1,4 @@
-use Rattle.shard_merging.proofs.Records.Parts.{join_of_parts, parts_agree}
+use Rattle.placed_shards.proofs.FileParts.{join_of_parts, parts_agree}
 use Rattle.shard_merging.proofs.laws.ranges.joins_pass_to_parts.Goals as goal
 
 pub returns-clause-join : goal.returns-clause-join

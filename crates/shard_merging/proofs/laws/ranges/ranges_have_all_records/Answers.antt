@@ -1,8 +1,8 @@
 use Rattle.std.proofs.Common.{None, refl}
 use Rattle.xet_shards.specs.Write.Layout.{layout_of}
-use Rattle.shard_merging.specs.Records.Ranges.{is_within}
+use Rattle.placed_shards.specs.Ranges.{is_within}
 use Rattle.xet_core_structures.specs.TwoShards.ByteResults.{keyed_options}
-use Rattle.shard_merging.proofs.Records.Within.{one_part, part_of, part_of_is}
+use Rattle.placed_shards.proofs.Within.{one_part, part_of, part_of_is}
 use Rattle.shard_merging.proofs.Records.RangesInARow.{ranges_in_a_row}
 use Rattle.shard_merging.proofs.laws.ranges.ranges_have_all_records.Goals as goal
 

@@ -1,7 +1,7 @@
 use Rattle.std.proofs.Common.{◌+◌, ◌<◌, ◌≤◌, drop, length, rules, ap, ◌∙◌, subst}
 use Rattle.std.proofs.Math.ListN.{drop_of_length-le}
 use Rattle.shard_merging.specs.Steps.Filling.{Puts}
-use Rattle.shard_merging.proofs.Records.Turns.{drop_first}
+use Rattle.placed_shards.proofs.Turns.{drop_first}
 use Rattle.shard_merging.proofs.Trees.Filling.{IsPutting, putting_on, putting_ends}
 use Rattle.shard_merging.proofs.merging.trees.filling.put_section.Goals as goal
 

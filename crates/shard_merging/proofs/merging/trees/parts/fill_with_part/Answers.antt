@@ -1,7 +1,7 @@
 use Rattle.std.proofs.Common.{◌≡◌, sym, subst}
 use Rattle.std.specs.FinMap.{values}
 use Rattle.xet_base.specs.declared.error.CoreError.TheVariants.{OutOfMemory}
-use Rattle.shard_merging.specs.Trees.Filling.{FillsWith}
+use Rattle.placed_shards.specs.Filling.{FillsWith}
 use Rattle.shard_merging.specs.Steps.Parts.{IsPart}
 use Rattle.shard_merging.proofs.Trees.Parts.{union_may_be_written}
 use Rattle.shard_merging.proofs.merging.trees.parts.fill_with_part.Goals as goal

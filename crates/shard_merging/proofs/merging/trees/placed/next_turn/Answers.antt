@@ -3,7 +3,7 @@ use Rattle.std.specs.Prelude.{MatchOption}
 use Rattle.shard_merging.specs.Steps.Placed.{MakesPlaced, MakesNothing}
 use Rattle.shard_merging.specs.Steps.Placed.{hash_at}
 use Rattle.shard_merging.specs.Steps.Placed.KeepsNext.{takes_both}
-use Rattle.shard_merging.proofs.Records.Turns.{drop_first}
+use Rattle.placed_shards.proofs.Turns.{drop_first}
 use Rattle.shard_merging.proofs.merging.trees.placed.next_turn.Goals as goal
 
 pub returns-in-Some : goal.returns-in-Some

@@ -8,7 +8,7 @@ use Rattle.xet_records.specs.Reading.{ReadsNextHeader}
 use Rattle.xet_records.specs.Reading.NextRecordNotRead.{no_rows}
 use Rattle.xet_records.proofs.RecordKinds.{laws_in}
 use Rattle.xet_shards.proofs.Read.SectionReading.{record_fails}
-use Rattle.shard_merging.specs.Records.Ranges.{is_within}
+use Rattle.placed_shards.specs.Ranges.{is_within}
 use Rattle.xet_core_structures.specs.Steps.MergeJoin.{Follows}
 use Rattle.shard_merging.specs.Steps.Rows.{PlacesNext}
 use Rattle.shard_merging.proofs.Trees.RowWalks.{NoNextAt, header_not_read, bookend_read, header_outside, record_not_read, next_placed}

@@ -1,7 +1,7 @@
 use Rattle.std.proofs.Common.{◌≡◌, ◌≤◌, true, length, inl, sym, subst}
 use Rattle.std.proofs.lemmas.Bool.{leb-true, le-leb}
 use Rattle.std.proofs.lemmas.Result.{err_from_is_err_and}
-use Rattle.shard_merging.specs.Trees.Filling.{Fills}
+use Rattle.placed_shards.specs.Filling.{Fills}
 use Rattle.shard_merging.proofs.Trees.InVersions.{room_for_number, filled_numbered}
 use Rattle.shard_merging.proofs.merging.trees.versions.fill_with_part_in.Goals as goal
 

@@ -1,7 +1,7 @@
 use Rattle.std.proofs.Common.{sym, subst}
 use Rattle.std.proofs.lemmas.List.{length-take-le}
 use Rattle.shard_merging.specs.Steps.Filling.{Puts}
-use Rattle.shard_merging.proofs.Agreement.Malformed.{enough_rows, rows_of_chunks}
+use Rattle.shard_merging.proofs.Trees.PlacedChunks.{enough_rows, rows_of_chunks}
 use Rattle.shard_merging.proofs.merging.trees.filling.MDBXorbInfoPutRecord.put_rows.Goals as goal
 
 pub slice_bounds-put_bytes-end : goal.slice_bounds-put_bytes-end

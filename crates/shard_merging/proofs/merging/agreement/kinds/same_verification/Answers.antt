@@ -1,6 +1,0 @@
-use Rattle.std.proofs.lemmas.Slice.Eq.{slice_eq-Decides}
-use Rattle.shard_merging.proofs.Records.Equalities.{hash_rows_decide}
-use Rattle.shard_merging.proofs.merging.agreement.kinds.same_verification.Goals as goal
-
-pub returns : goal.returns
-returns c = slice_eq-Decides hash_rows_decide c.args.first.now.verification c.args.second.now.verification c.eq.result c.eq.ensures

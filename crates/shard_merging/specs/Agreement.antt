@@ -1,3 +1,0 @@
--- Whether shards agree, and where they do not.
-
-pub mod Agreement
