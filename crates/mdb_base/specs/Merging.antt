@@ -9,7 +9,7 @@ use Rattle.placed_shards.specs.declared.findings.MalformedRecord.{MalformedRecor
 use Rattle.placed_shards.specs.Content.{Content}
 use Rattle.placed_shards.specs.Findings.{AreOpened, FirstRefusal, HasAllDisagreements, IsFirstMalformed}
 use Rattle.placed_shards.specs.Merging.{IsMergeOf, MergeRefusal}
-use Rattle.placed_shards.specs.Ranges.{all_hashes}
+use Rattle.placed_shards.specs.Selections.{all_records}
 use Rattle.placed_shards.specs.Strict.{AreAgreeing, AgreedRefusal, IsJoinedMerge}
 use Rattle.xet_records.specs.declared.record_reader.FormatVersion.{FormatVersion}
 use Rattle.shard_bytes.specs.Versions.{IsWrittenIn, NotWrittenIn}
@@ -22,14 +22,14 @@ use Rattle.mdb_base.specs.declared.request.Strictness.TheVariants.{Lenient, Stri
 -- the bytes of the merge of inputs in a version; of a strict one each input holds a well-formed
 -- shard, these agree pairwise, and the bytes are those of their join
 abbrev pub UnitesTo : Strictness → FormatVersion → List (List ℕ) → List ℕ → Type 0
-UnitesTo Lenient version inputs out = IsWrittenIn version (IsMergeOf all_hashes inputs) out
+UnitesTo Lenient version inputs out = IsWrittenIn version (IsMergeOf all_records inputs) out
 UnitesTo Strict version inputs out =
-    AreAgreeing all_hashes inputs × IsWrittenIn version (IsJoinedMerge all_hashes inputs) out
+    AreAgreeing all_records inputs × IsWrittenIn version (IsJoinedMerge all_records inputs) out
 
 -- the failure names a record that no shard may have, and the file that has it
 abbrev pub SaysMalformed : List (Bor (List ℕ)) → List (List ℕ) → Failure → Type 0
 SaysMalformed files inputs failure =
-    (m : MalformedRecord) × IsFirstMalformed all_hashes inputs m
+    (m : MalformedRecord) × IsFirstMalformed all_records inputs m
     × (failure.fault ≡ Malformed m.record_hash)
     × MatchOption (slice_get files m.input) (failure.subject ≡ StandardOutput)
     (λ file. failure.subject ≡ File file)
@@ -37,7 +37,7 @@ SaysMalformed files inputs failure =
 -- the failure counts the hashes with records that disagree, at least one, and names the first
 abbrev pub SaysDisagree : List (List ℕ) → Failure → Type 0
 SaysDisagree inputs failure =
-    (cs : List Content) × AreOpened all_hashes inputs cs × (first : Disagreement)
+    (cs : List Content) × AreOpened all_records inputs cs × (first : Disagreement)
     × (others : List Disagreement) × HasAllDisagreements cs (first ∷ others)
     × (failure.fault ≡ Disagree (length (first ∷ others)) first.record_hash)
 
@@ -49,8 +49,8 @@ SaysCause IsCause failure =
 -- an input is not read, or the inputs have no merge in a version
 abbrev pub SaysNotMerged : FormatVersion → List (List ℕ) → Failure → Type 0
 SaysNotMerged version inputs = SaysCause
-    (λ e. FirstRefusal all_hashes (λ c. ⊤) inputs e
-    ⊎ NotWrittenIn version (IsMergeOf all_hashes inputs) (MergeRefusal all_hashes inputs) e)
+    (λ e. FirstRefusal all_records (λ c. ⊤) inputs e
+    ⊎ NotWrittenIn version (IsMergeOf all_records inputs) (MergeRefusal all_records inputs) e)
 
 -- why inputs have no merge in a version
 abbrev pub UnionFails : Strictness → FormatVersion → List (Bor (List ℕ)) → List (List ℕ) → Failure
@@ -58,5 +58,5 @@ abbrev pub UnionFails : Strictness → FormatVersion → List (Bor (List ℕ)) �
 UnionFails Lenient version files inputs failure = SaysNotMerged version inputs failure
 UnionFails Strict version files inputs failure =
     SaysMalformed files inputs failure ⊎ SaysDisagree inputs failure
-    ⊎ SaysCause (AgreedRefusal all_hashes inputs
-    (NotWrittenIn version (IsJoinedMerge all_hashes inputs) (MergeRefusal all_hashes inputs))) failure
+    ⊎ SaysCause (AgreedRefusal all_records inputs
+    (NotWrittenIn version (IsJoinedMerge all_records inputs) (MergeRefusal all_records inputs))) failure

@@ -3,14 +3,14 @@
 ghost use Rattle.std.specs.Prelude.{◌≡◌, ⊤, List, [], map, slice_get, IsTrue, MatchOption, MatchResult};
 ghost use Rattle.placed_shards.specs.Content.{Content};
 ghost use Rattle.placed_shards.specs.Findings.{AreOpened, FirstRefusal, HasAllDisagreements};
-ghost use Rattle.placed_shards.specs.Ranges.{all_hashes};
+ghost use Rattle.placed_shards.specs.Selections.{all_records};
 ghost use Rattle.mdb_base.specs.Merging.{SaysDisagree, SaysCause};
 
 use crate::failure::{Failure, Subject};
 use crate::request::Target;
 use mdb_report::fault::{Fault, first_blocking_finding, has_wrong_footer};
 use placed_shards::findings::{Disagreement, MalformedRecord, find_disagreements};
-use placed_shards::range::HashRange;
+use placed_shards::selection::Selection;
 use shard_bytes::check::{Finding, Part};
 use shard_bytes::combine::{Operation, combine_bytes};
 use shard_bytes::load::load_bytes;
@@ -132,7 +132,7 @@ fn footer_failure<'a>(alloc: Global, files: &[&'a str], inputs: &[&[u8]]) -> Fai
 /// The failure of inputs that have no union together: that of the first two with different records
 /// under one hash that have none, else of all.
 pub fn union_failure<'a>(alloc: Global, files: &[&'a str], inputs: &[&[u8]]) -> Failure<'a> {
-    let Ok(found) = find_disagreements(alloc, inputs, &HashRange::ALL) else {
+    let Ok(found) = find_disagreements(alloc, inputs, &Selection::ALL) else {
         return failure_on_all(files, Fault::NoUnion);
     };
     // The pair that was tried last.
@@ -173,12 +173,12 @@ pub fn disagreement_failure<'a>(
 ) -> Result<Option<Failure<'a>>, Failure<'a>>
     ensures { MatchResult result
         (λ found. MatchOption found
-        ((cs : List Content) × AreOpened all_hashes (map (λ x. x.now) inputs.now) cs
+        ((cs : List Content) × AreOpened all_records (map (λ x. x.now) inputs.now) cs
         × HasAllDisagreements cs [])
         (SaysDisagree (map (λ x. x.now) inputs.now)))
-        (SaysCause (FirstRefusal all_hashes (λ c. ⊤) (map (λ x. x.now) inputs.now))) }
+        (SaysCause (FirstRefusal all_records (λ c. ⊤) (map (λ x. x.now) inputs.now))) }
 {
-    let found = match find_disagreements(alloc, inputs, &HashRange::ALL) {
+    let found = match find_disagreements(alloc, inputs, &Selection::ALL) {
         Ok(found) => found,
         Err(error) => return Err(combine_failure(alloc, files, inputs, error)),
     };

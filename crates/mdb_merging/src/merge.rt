@@ -2,7 +2,7 @@
 
 ghost use Rattle.std.specs.Prelude.{◌≡◌, List, ℕ, Option, zip, map, IfOk, MatchResult};
 ghost use Rattle.placed_shards.specs.Merging.{IsMergeOf};
-ghost use Rattle.placed_shards.specs.Ranges.{all_hashes};
+ghost use Rattle.placed_shards.specs.Selections.{all_records};
 ghost use Rattle.shard_bytes.specs.Versions.{IsWrittenIn};
 ghost use Rattle.mdb_base.specs.Expiries.{IsNewExpiry};
 ghost use Rattle.mdb_base.specs.Merging.{UnitesTo, UnionFails, SaysNotMerged};
@@ -26,7 +26,7 @@ use mdb_base::request::{Merge, Strictness, Target};
 use mdb_base::status::Status;
 use mdb_base::terminals::Terminals;
 use mdb_report::fault::Fault;
-use placed_shards::range::HashRange;
+use placed_shards::selection::Selection;
 use placed_shards::strict::Agreed;
 use record_report::line::Style;
 use record_report::shown::ShownText;
@@ -324,7 +324,7 @@ fn unite_agreeing<'a>(
         (UnionFails Strictness.Strict target.entry.version files.now
         (map (λ x. x.now) inputs.now)) }
 {
-    match merge_agreeing_bytes(alloc, inputs, &HashRange::ALL, target.version) {
+    match merge_agreeing_bytes(alloc, inputs, &Selection::ALL, target.version) {
         Ok(Agreed::Made(bytes)) => Ok(bytes),
         Ok(Agreed::Disagreements(found)) => {
             Err(disagreement_under(files, &found[0], found.len()))
@@ -345,11 +345,11 @@ fn unite_leniently<'a, R: Eprint + AllocGlobal>(
 ) -> Result<Vec<u8>, Failure<'a>>
     ensures { MatchResult result
         (λ bytes. IsWrittenIn target.entry.version
-        (IsMergeOf all_hashes (map (λ x. x.now) inputs.now)) bytes.items)
+        (IsMergeOf all_records (map (λ x. x.now) inputs.now)) bytes.items)
         (SaysNotMerged target.entry.version (map (λ x. x.now) inputs.now)) }
 {
     let alloc = rt.alloc();
-    match merge_agreeing_bytes(alloc, inputs, &HashRange::ALL, target.version) {
+    match merge_agreeing_bytes(alloc, inputs, &Selection::ALL, target.version) {
         Ok(Agreed::Made(bytes)) => Ok(bytes),
         Ok(Agreed::Disagreements(found)) => {
             let choice = Some(disagreement_under(files, &found[0], found.len()));
@@ -376,11 +376,11 @@ fn unite_and_report<'a, R: Eprint + AllocGlobal>(
 ) -> Result<Vec<u8>, Failure<'a>>
     ensures { MatchResult result
         (λ bytes. IsWrittenIn target.entry.version
-        (IsMergeOf all_hashes (map (λ x. x.now) inputs.now)) bytes.items)
+        (IsMergeOf all_records (map (λ x. x.now) inputs.now)) bytes.items)
         (SaysNotMerged target.entry.version (map (λ x. x.now) inputs.now)) }
 {
     let alloc = rt.alloc();
-    match merge_bytes(alloc, inputs, &HashRange::ALL, target.version) {
+    match merge_bytes(alloc, inputs, &Selection::ALL, target.version) {
         Ok(bytes) => {
             report_findings(rt, malformed, choice, progress);
             Ok(bytes)

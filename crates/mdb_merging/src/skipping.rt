@@ -6,7 +6,7 @@ use mdb_base::input_failure::combine_failure;
 use mdb_base::outputs::contents_of;
 use mdb_base::progress::{Progress, Stage};
 use mdb_report::fault::Fault;
-use placed_shards::range::HashRange;
+use placed_shards::selection::Selection;
 use shard_bytes::merge::merge_bytes;
 use shard_files::files::STANDARD_STREAM;
 use std::alloc::Global;
@@ -58,7 +58,7 @@ fn failure_of_file<'a, R: Files + Input + AllocGlobal>(
 }
 
 fn failure_of_bytes<'a>(alloc: Global, file: &'a str, bytes: &[u8]) -> Option<Failure<'a>> {
-    match merge_bytes(alloc, &[bytes], &HashRange::ALL, FormatVersion::V3) {
+    match merge_bytes(alloc, &[bytes], &Selection::ALL, FormatVersion::V3) {
         Ok(_) => None,
         Err(error) => Some(combine_failure(alloc, &[file], &[bytes], error)),
     }

@@ -1,5 +1,5 @@
 -- What agrees with the union of two shards that agree is what agrees with both.
-use Rattle.std.proofs.Common.{◌≡◌, ◌⊎◌, ◌↔◌, inl, inr, Bool, true, false, ◌||◌, Option, None, Some, refl, sym, ap, ◌∙◌, subst, if◌then◌else◌}
+use Rattle.std.proofs.Common.{◌≡◌, ◌↔◌, inl, inr, Bool, true, false, ◌||◌, Option, None, Some, refl, sym, ap, ◌∙◌, subst, if◌then◌else◌}
 use Rattle.std.specs.Prelude.{IsTrue}
 use Rattle.xet_base.specs.declared.error.CoreError.{CoreError}
 use Rattle.xet_records.specs.declared.file_structs.MDBFileInfo.{MDBFileInfo}
@@ -160,7 +160,7 @@ module _ (c d made : Content) where
       λ both. λ h. (agreed_under t h).1 (both.0 h, both.1 h),
     )
 
-  agreed_union : AgreeInAll c d → IsUnionOf c d made → Unites IsAgreedFile IsAgreedXorb c d made
+  pub agreed_union : AgreeInAll c d → IsUnionOf c d made → Unites IsAgreedFile IsAgreedXorb c d made
   agreed_union agree unites = record {
     same_key = unites.same_key;
     files = record {

@@ -21,7 +21,7 @@ zipped_there R (c ∷ ks) (b ∷ bs) (here, rest) a (zero, low, at) = (b, (0, om
 zipped_there R (c ∷ ks) (b ∷ bs) (here, rest) a (suc k, low, at) =
     let found = zipped_there R ks bs rest a (k, omega (arith, low), at) in (found.0, Contains-append_right (b ∷ []) bs found.0 found.1, found.2)
 
-zipped_back : {A B : Type 0} (R : A → B → Type 0) (ks : List A) (bs : List B) → AllZip R ks bs → (b : B) → Contains bs b → (a : A) × Contains ks a × R a b
+pub zipped_back : {A B : Type 0} (R : A → B → Type 0) (ks : List A) (bs : List B) → AllZip R ks bs → (b : B) → Contains bs b → (a : A) × Contains ks a × R a b
 zipped_back R ks [] related b (k, low, at) = absurd (omega (arith, low))
 zipped_back R [] (c ∷ bs) related b member = absurd related
 zipped_back R (a ∷ ks) (c ∷ bs) (here, rest) b (zero, low, at) = (a, (0, omega arith, refl), subst (R a) at here)

@@ -1,8 +1,8 @@
 -- Byte strings of which two disagree, or one has a record that no shard may have, are none that agree; and others are.
-use Rattle.std.proofs.Common.{◌≡◌, inl, inr, ℕ, ◌<◌, Bool, true, false, true≢false, List, [], ◌∷◌, ◌++◌, length, Option, None, Some, refl, sym, subst, cond, arith}
+use Rattle.std.proofs.Common.{◌≡◌, inl, inr, ℕ, ◌<◌, Bool, true, false, true≢false, List, [], ◌∷◌, length, Option, None, Some, refl, sym, subst, cond, arith}
 use Rattle.std.specs.Prelude.{All, Contains, MatchOption, is_some}
 use Rattle.std.specs.Ordering.{eq_by_cmp}
-use Rattle.std.proofs.lemmas.List.Elements.{All-contains, All-head, All-tail}
+use Rattle.std.proofs.lemmas.List.Elements.{All-head, All-tail}
 use Rattle.std.proofs.lemmas.Option.{same_Some, none-some}
 use Rattle.xet_base.specs.declared.error.CoreError.{CoreError}
 use Rattle.xet_base.specs.declared.error.CoreError.TheVariants.{OutOfMemory}
@@ -17,12 +17,13 @@ use Rattle.placed_shards.specs.declared.findings.Disagreement.{Disagreement}
 use Rattle.placed_shards.specs.declared.findings.MalformedRecord.{MalformedRecord}
 use Rattle.placed_shards.specs.declared.findings.RecordHash.{RecordHash}
 use Rattle.placed_shards.specs.declared.findings.RecordHash.TheVariants.{File, Xorb}
-use Rattle.placed_shards.specs.declared.range.HashRange.{HashRange}
+use Rattle.placed_shards.specs.declared.selection.Selection.{Selection}
 use Rattle.placed_shards.specs.Content.{Content}
-use Rattle.placed_shards.specs.Findings.{AreOpened, FirstRefusal, HasAllDisagreements, HasFormedRecords, HasMalformed, IsFirstMalformed, OpensWithin}
+use Rattle.placed_shards.specs.Findings.{AreOpened, FirstRefusal, HasAllDisagreements, HasFormedRecords, HasMalformed, IsFirstMalformed}
+use Rattle.placed_shards.specs.Selections.{OpensSelected}
 use Rattle.placed_shards.specs.Strict.{AreAgreeing}
 use Rattle.placed_shards.proofs.Items.{has_at}
-use Rattle.placed_shards.proofs.Opening.{opened_once, read_well, opens_within_once}
+use Rattle.placed_shards.proofs.Selections.{opened_once, selected_well, opens_selected_once}
 use Rattle.placed_shards.proofs.StrictMerges.{all_right}
 
 -- what holds of each record of a list holds of that under a hash
@@ -46,44 +47,44 @@ pub no_items : {X : Type 0} (xs : List X) → length xs ≡ 0 → xs ≡ []
 no_items [] none = refl
 no_items (x ∷ xs) none = absurd (omega (arith, none))
 
-module _ (range : HashRange) (inputs : List (List ℕ)) where
-  pub some_disagree : (cs : List Content) (all : List Disagreement) → AreOpened range inputs cs → 0 < length all → HasAllDisagreements cs all → ¬ AreAgreeing range inputs
+module _ (selection : Selection) (inputs : List (List ℕ)) where
+  pub some_disagree : (cs : List Content) (all : List Disagreement) → AreOpened selection inputs cs → 0 < length all → HasAllDisagreements cs all → ¬ AreAgreeing selection inputs
   some_disagree cs [] opened some has agreeing = absurd (omega (arith, some))
   some_disagree cs (d ∷ ds) opened some has agreeing =
       let at = has.each d (0, omega arith, refl) in
-      let same : cs ≡ agreeing.contents = opened_once range inputs cs agreeing.contents opened agreeing.opened in
+      let same : cs ≡ agreeing.contents = opened_once selection inputs cs agreeing.contents opened agreeing.opened in
       at.differ
       (agreeing.agree at.one at.other (subst (λ l. Contains l at.one) same (has_at cs d.first at.one at.is_first)) (subst (λ l. Contains l at.other) same (has_at cs d.second at.other at.is_second)) d.record_hash)
 
-  pub one_malformed : (m : MalformedRecord) → IsFirstMalformed range inputs m → ¬ AreAgreeing range inputs
+  pub one_malformed : (m : MalformedRecord) → IsFirstMalformed selection inputs m → ¬ AreAgreeing selection inputs
   one_malformed m first agreeing =
-      let cut = zipped_parts (OpensWithin range) first.before (first.bytes ∷ first.after) agreeing.contents (subst (λ l. AreOpened range l agreeing.contents) first.inputs_are agreeing.opened) in
+      let cut = zipped_parts (OpensSelected selection) first.before (first.bytes ∷ first.after) agreeing.contents (subst (λ l. AreOpened selection l agreeing.contents) first.inputs_are agreeing.opened) in
       at_front cut.1 cut.4 (all_right HasFormedRecords cut.0 cut.1 (subst (All HasFormedRecords) (sym cut.2) agreeing.formed)) where
-        at_front : (cs : List Content) → AreOpened range (first.bytes ∷ first.after) cs → All HasFormedRecords cs → ⊥
+        at_front : (cs : List Content) → AreOpened selection (first.bytes ∷ first.after) cs → All HasFormedRecords cs → ⊥
         at_front [] opened formed = opened
         at_front (c ∷ cs) opened formed =
             not_formed first.shard m.record_hash first.malformed
-            (subst HasFormedRecords (opens_within_once range first.bytes c first.shard opened.0 first.opens) (All-head HasFormedRecords c cs formed))
+            (subst HasFormedRecords (opens_selected_once selection first.bytes c first.shard opened.0 first.opens) (All-head HasFormedRecords c cs formed))
 
   -- what is opened is read, unless an allocation fails
-  pub opened_read : (Is : Content → Type 0) (cs : List Content) (e : CoreError) → AreOpened range inputs cs → FirstRefusal range Is inputs e → e ≡ OutOfMemory
+  pub opened_read : (Is : Content → Type 0) (cs : List Content) (e : CoreError) → AreOpened selection inputs cs → FirstRefusal selection Is inputs e → e ≡ OutOfMemory
   opened_read Is cs e opened (inl none) = none
   opened_read Is cs e opened (inr unread) =
-      let cut = zipped_parts (OpensWithin range) unread.before (unread.bytes ∷ unread.after) cs (subst (λ l. AreOpened range l cs) unread.inputs_are opened) in
+      let cut = zipped_parts (OpensSelected selection) unread.before (unread.bytes ∷ unread.after) cs (subst (λ l. AreOpened selection l cs) unread.inputs_are opened) in
       at_front cut.1 cut.4 where
-        at_front : (ds : List Content) → AreOpened range (unread.bytes ∷ unread.after) ds → e ≡ OutOfMemory
+        at_front : (ds : List Content) → AreOpened selection (unread.bytes ∷ unread.after) ds → e ≡ OutOfMemory
         at_front [] opened = absurd opened
-        at_front (d ∷ ds) ((whole, opens, is), rest) = read_well unread.bytes whole e opens unread.refused
+        at_front (d ∷ ds) (opens, rest) = selected_well selection unread.bytes d e opens unread.refused
 
   -- what is told of malformed records
   abbrev pub TellsMalformed : Option MalformedRecord → Type 0
-  TellsMalformed found = MatchOption found ((cs : List Content) × AreOpened range inputs cs × All HasFormedRecords cs) (IsFirstMalformed range inputs)
+  TellsMalformed found = MatchOption found ((cs : List Content) × AreOpened selection inputs cs × All HasFormedRecords cs) (IsFirstMalformed selection inputs)
 
   -- byte strings of which none is found agree
-  pub none_found : (cs ds : List Content) → AreOpened range inputs cs → All HasFormedRecords cs → AreOpened range inputs ds → HasAllDisagreements ds [] → AreAgreeing range inputs
+  pub none_found : (cs ds : List Content) → AreOpened selection inputs cs → All HasFormedRecords cs → AreOpened selection inputs ds → HasAllDisagreements ds [] → AreAgreeing selection inputs
   none_found cs ds opened formed again none = record {
     contents = ds;
     opened = again;
-    formed = subst (All HasFormedRecords) (opened_once range inputs cs ds opened again) formed;
+    formed = subst (All HasFormedRecords) (opened_once selection inputs cs ds opened again) formed;
     agree = λ c d one other h. none.others h (λ at. omega (arith, at.1)) c d one other;
   }

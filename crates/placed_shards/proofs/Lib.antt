@@ -32,9 +32,11 @@ pub mod Mixes
 pub mod OneByTables
 pub mod OpenedInputs
 pub mod Opening
+pub mod Outcomes
 pub mod OwnTables
 pub mod RangeLists
 pub mod Sections
+pub mod Selections
 pub mod Shown
 pub mod StrictMerges
 pub mod Subtracting

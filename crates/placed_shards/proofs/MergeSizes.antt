@@ -1,39 +1,32 @@
 -- A merge has at most the rows of its inputs, and so its bytes are bounded by theirs.
-use Rattle.std.proofs.Common.{◌≡◌, ℕ, ◌+◌, ◌*◌, ◌≤◌, List, [], ◌∷◌, length, Ok, Err, sym, ap, subst, arith}
+use Rattle.std.proofs.Common.{◌≡◌, ℕ, ◌+◌, ◌*◌, ◌≤◌, List, [], length, Ok, Err, ap, subst, arith}
 use Rattle.std.specs.Prelude.{All, IfOk, MatchResult, sum_by}
 use Rattle.std.specs.declared.result.Result.{Result}
-use Rattle.std.proofs.lemmas.List.Elements.{All-filter}
 use Rattle.std.proofs.lemmas.List.Sums.{sum_by-append, sum_by-cons}
 use Rattle.xet_base.specs.declared.error.CoreError.{CoreError}
 use Rattle.xet_base.specs.declared.merklehash.DataHash.{DataHash}
 use Rattle.xet_records.specs.declared.record_reader.FormatVersion.{FormatVersion}
 use Rattle.xet_records.specs.FileRecord.{file_records, FitsRecord}
-use Rattle.xet_records.specs.Version.{version_of}
 use Rattle.xet_records.specs.XorbRecord.{xorb_records}
-use Rattle.xet_records.proofs.RecordKinds.{stored_ever}
 use Rattle.xet_shards.specs.declared.shard_format.ends.options.LayoutOptions.{LayoutOptions}
-use Rattle.xet_shards.specs.Content.Shard.{Shard}
 use Rattle.xet_shards.specs.Write.Layout.{layout_of}
 use Rattle.xet_shards.specs.Write.Section.{total_rows}
-use Rattle.xet_shards.specs.Write.Tables.{hash_in}
 use Rattle.xet_shards.proofs.ShardInMemory.Files.{length-le-rows}
 use Rattle.xet_shards.proofs.Write.XorbLayouts.{length-with_options, length-chunk_table, xorb_rows-chunks}
 use Rattle.xet_core_structures.specs.Records.ByteUnion.{IsEitherFile, IsEitherXorb, IsByteUnion}
 use Rattle.xet_core_structures.specs.Records.Sizes.{rows_of_shard}
 use Rattle.xet_core_structures.specs.TwoShards.ByteResults.{keyed_options}
-use Rattle.xet_core_structures.proofs.LawProofs.UnionSizes.{rows_held, rows_of_union}
+use Rattle.xet_core_structures.proofs.LawProofs.UnionSizes.{rows_of_union}
 use Rattle.xet_core_structures.proofs.Records.ListMaps.{combined_maps, values-list_map}
-use Rattle.placed_shards.specs.declared.range.HashRange.{HashRange}
+use Rattle.placed_shards.specs.declared.selection.Selection.{Selection}
 use Rattle.placed_shards.specs.declared.placed_shard.PlacedShard.{PlacedShard}
 use Rattle.placed_shards.specs.Content.{Content, content, AscendBoth, content_layout}
-use Rattle.placed_shards.specs.Merging.{IsPartOf, merged_alone, IsMergeOf, MergeRefusal}
+use Rattle.placed_shards.specs.Merging.{IsMergeOf, MergeRefusal}
 use Rattle.placed_shards.specs.Merging.IsMergeOf.{of_one, of_halves}
-use Rattle.placed_shards.specs.Opening.{Opens}
-use Rattle.placed_shards.specs.Ranges.{is_within}
+use Rattle.placed_shards.specs.Selections.{OpensSelected}
 use Rattle.placed_shards.specs.Sizes.{IsResultSize}
-use Rattle.placed_shards.proofs.Merges.{shard_in, within_ascend}
-use Rattle.placed_shards.proofs.Opening.{opened_ascend, opened_shard}
-use Rattle.placed_shards.proofs.Within.{part_of_lists, sum_of_part}
+use Rattle.placed_shards.proofs.Merges.{shard_in}
+use Rattle.placed_shards.proofs.Selections.{selected}
 
 -- a shard with all tables has 344 bytes and at most 64 for each row, a row's part of a table among them
 module _ (c : Content) (key : DataHash) (options_are : c.options ≡ keyed_options key) (ascend : AscendBoth c) (fit : All FitsRecord c.files) where
@@ -52,7 +45,7 @@ module _ (c : Content) (key : DataHash) (options_are : c.options ≡ keyed_optio
         rows_are,
       )
 
-module _ (range : HashRange) where
+module _ (selection : Selection) where
   -- what is merged has all tables, and no more rows than may be in so many bytes
   pub record IsBounded (bytes : ℕ) (c : Content) : Type 0 where
     key : DataHash
@@ -61,31 +54,21 @@ module _ (range : HashRange) where
     fit : All FitsRecord c.files
     few : 48 * rows_of_shard (shard_in c) ≤ 2 * bytes
 
-  rows_of_part : (s t : Shard) → IsPartOf (is_within range) s t → rows_of_shard t ≤ rows_of_shard s
-  rows_of_part s t part =
-      omega (arith, sum_of_part (is_within range) file_records.row_count s.files t.files part.files, sum_of_part (is_within range) xorb_records.row_count s.xorbs t.xorbs part.xorbs)
-
-  one_bounded : (x : List ℕ) (c : Content) → Opens x c → IsBounded (length x) (merged_alone range c)
+  one_bounded : (x : List ℕ) (c : Content) → OpensSelected selection x c → IsBounded (length x) c
   one_bounded x c opens =
-      let ascend = opened_ascend x c opens in
-      let within = within_ascend c.options.key range c ascend in
+      let is = selected selection x c opens in
       record {
         key = c.options.key;
-        options_are = λ i. keyed_options c.options.key;
-        ascend = record { files = within.files; xorbs = within.xorbs };
-        fit = All-filter (λ r. is_within range (hash_in file_records r)) FitsRecord c.files
-            (λ k r below. (stored_ever file_records (version_of opens.info.header.version) _ (opens.lists.files.writable.stored k r below)).widths);
-        few = omega (
-          arith,
-          rows_held x (shard_in c) (opened_shard x c opens),
-          rows_of_part (shard_in c) (shard_in (merged_alone range c)) (part_of_lists (is_within range) (record { files = c.files; xorbs = c.xorbs }) ascend.files ascend.xorbs),
-        );
+        options_are = is.options_are;
+        ascend = is.ascend;
+        fit = is.fit;
+        few = omega (arith, is.few, rows_are c c.options.key is.options_are is.ascend is.fit);
       }
 
-  pub bounded : (inputs : List (List ℕ)) (made : Content) → IsMergeOf range inputs made → IsBounded (sum_by length inputs) made
-  bounded inputs made (of_one x c is opens made_is) =
+  pub bounded : (inputs : List (List ℕ)) (made : Content) → IsMergeOf selection inputs made → IsBounded (sum_by length inputs) made
+  bounded inputs made (of_one x is opens) =
       let size : length x ≡ sum_by length inputs = omega (arith, ap (sum_by length) is, sum_by-cons length x []) in
-      subst (λ d. IsBounded (sum_by length inputs) d) (sym made_is) (subst (λ n. IsBounded n (merged_alone range c)) size (one_bounded x c opens))
+      subst (λ n. IsBounded n made) size (one_bounded x made opens)
   bounded inputs made (of_halves firsts seconds c d halves one other unites) =
       let first = bounded firsts c one in
       let second = bounded seconds d other in
@@ -108,12 +91,12 @@ module _ (range : HashRange) where
         );
       }
 
-  pub size_of_merge : (inputs : List (List ℕ)) (made : Content) → IsMergeOf range inputs made → (version : FormatVersion) → IsResultSize inputs (length (content_layout version made))
+  pub size_of_merge : (inputs : List (List ℕ)) (made : Content) → IsMergeOf selection inputs made → (version : FormatVersion) → IsResultSize inputs (length (content_layout version made))
   size_of_merge inputs made merged version =
       let few = bounded inputs made merged in
       omega (arith, few.few, bytes_of_content made few.key few.options_are few.ascend few.fit version)
 
-  pub size_if_made : (inputs : List (List ℕ)) (result : Result PlacedShard CoreError) → MatchResult result (λ made. IsMergeOf range inputs (content made)) (MergeRefusal range inputs)
+  pub size_if_made : (inputs : List (List ℕ)) (result : Result PlacedShard CoreError) → MatchResult result (λ made. IsMergeOf selection inputs (content made)) (MergeRefusal selection inputs)
       → IfOk result (λ made. (version : FormatVersion) → IsResultSize inputs (length (content_layout version (content made))))
   size_if_made inputs (Ok made) is = size_of_merge inputs (content made) is
   size_if_made inputs (Err e) refusal = tt

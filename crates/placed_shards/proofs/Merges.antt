@@ -36,17 +36,17 @@ use Rattle.xet_core_structures.specs.TwoShards.ByteResults.{keyed_options}
 use Rattle.xet_core_structures.proofs.Records.ByteUnions.{byte_union_is_union, union_is_byte_union}
 use Rattle.xet_core_structures.proofs.Records.ListMaps.{values-list_map, get-list_map, combined_maps, shard_of}
 use Rattle.placed_shards.specs.declared.range.HashRange.{HashRange}
+use Rattle.placed_shards.specs.declared.selection.Selection.{Selection}
 use Rattle.placed_shards.specs.declared.placed_shard.PlacedShard.{PlacedShard}
 use Rattle.placed_shards.specs.Content.{Content, content, AscendBoth, content_within}
-use Rattle.placed_shards.specs.Merging.{merged_alone, AreHalves, IsMergeOf, MergeRefusal, HoldsWithin, IsMergeOfList, shard_content}
+use Rattle.placed_shards.specs.Merging.{AreHalves, IsMergeOf, MergeRefusal, HoldsSelected, IsMergeOfList, shard_content}
 use Rattle.placed_shards.specs.Merging.IsMergeOf.{of_one, of_halves}
 use Rattle.placed_shards.specs.Merging.MergeRefusal.{no_memory, of_none, not_read, of_first, of_second, of_union}
-use Rattle.placed_shards.specs.Opening.{Opens, ShardRefusal}
-use Rattle.placed_shards.specs.Ranges.{is_within}
-use Rattle.placed_shards.specs.Steps.Merging.{IsMerged, IsOpenedAlone, NotMerged}
+use Rattle.placed_shards.specs.Opening.{Opens}
+use Rattle.placed_shards.specs.Selections.{OpensSelected, OpensWithin, SelectedRefusal}
+use Rattle.placed_shards.specs.Steps.Merging.{IsMerged, NotMerged}
 use Rattle.placed_shards.specs.Unions.{IsUnionOf, UnionRefusal}
-use Rattle.placed_shards.proofs.Opening.{opened_ascend, opens_once, read_well}
-use Rattle.placed_shards.proofs.Within.{those_ascend}
+use Rattle.placed_shards.proofs.Selections.{opens_selected_once, selected, selected_well}
 
 -- the records of a shard, under their hashes
 module _ {H R : Type 0} (K : RecordKind H R) where
@@ -93,26 +93,19 @@ module _ (key : DataHash) where
       (λ q. get-list_map xorb_records (values t.xorbs) (xorbs_ascend t shard) q ∙ values_under xorb_records t.xorbs shard.xorbs.keyed q)
 
   -- one input
-  module _ (range : HashRange) where
-    pub within_ascend : (c : Content) → AscendBoth c → AscendBoth (content_within range c)
-    within_ascend c ascend = record {
-      files = those_ascend file_records (is_within range) c.files ascend.files;
-      xorbs = those_ascend xorb_records (is_within range) c.xorbs ascend.xorbs;
-    }
-
-    one_content : (t : Shard) (x : List ℕ) (c : Content) → HoldsWithin range key x t → Opens x c → IsContentOf key t (merged_alone range c)
+  module _ (selection : Selection) where
+    one_content : (t : Shard) (x : List ℕ) (c : Content) → HoldsSelected selection key x t → OpensSelected selection x c → IsContentOf key t c
     one_content t x c held opens =
-        let ascend = within_ascend c (opened_ascend x c opens) in
-        let is : merged_alone range c ≡ shard_content key t = subst (λ d. merged_alone range d ≡ shard_content key t) (opens_once x held.opened c held.opens opens) held.is in
+        let is : c ≡ shard_content key t = opens_selected_once selection x c (shard_content key t) opens held.opens in
         record {
           shard = held.shard;
-          ascend = record { files = ascend.files; xorbs = ascend.xorbs };
+          ascend = (selected selection x c opens).ascend;
           is = ap shard_in is ∙ shard_back t held.shard;
           options_are = ap (λ (d : Content). d.options) is;
         }
 
-    one_read : (t : Shard) (x : List ℕ) (e : CoreError) → HoldsWithin range key x t → ShardRefusal x e → e ≡ OutOfMemory
-    one_read t x e held refusal = read_well x held.opened e held.opens refusal
+    one_read : (t : Shard) (x : List ℕ) (e : CoreError) → HoldsSelected selection key x t → SelectedRefusal selection x e → e ≡ OutOfMemory
+    one_read t x e held refusal = selected_well selection x (shard_content key t) e held.opens refusal
 
   -- two halves
   module _ (a b whole : Shard) (c d : Content) (first : IsContentOf key a c) (second : IsContentOf key b d) (agree : ShardsAgree a b) (union : IsUnion a b whole) where
@@ -173,9 +166,9 @@ module _ (key : DataHash) where
     united_refused e (inr (inr (invalid, same, never))) = inr (invalid, λ few. never _ (has_union few))
 
   -- lists of shards, each two of which agree
-  module _ (range : HashRange) where
+  module _ (selection : Selection) where
     abbrev AreParts : List (List ℕ) → List Shard → Shard → Type 0
-    AreParts = IsMergeOfList range key
+    AreParts = IsMergeOfList selection key
 
     -- both halves of such a list
     record BothParts (firsts seconds : List (List ℕ)) (whole : Shard) : Type 0 where
@@ -192,7 +185,7 @@ module _ (key : DataHash) where
 
     both_parts : (inputs firsts seconds : List (List ℕ)) (parts : List Shard) (whole : Shard) → AreHalves inputs firsts seconds → AreParts inputs parts whole → BothParts firsts seconds whole
     both_parts inputs firsts seconds parts whole halves are =
-        let cut = zipped_parts (HoldsWithin range key) firsts seconds parts (subst (λ l. AllZip (HoldsWithin range key) l parts) halves.are are.are_held) in
+        let cut = zipped_parts (HoldsSelected selection key) firsts seconds parts (subst (λ l. AllZip (HoldsSelected selection key) l parts) halves.are are.are_held) in
         let xs = cut.0 in
         let ys = cut.1 in
         let agree = subst (λ ss. AgreePairwise (Contains ss)) (sym cut.2) are.agree in
@@ -215,15 +208,15 @@ module _ (key : DataHash) where
         }
 
     -- a list of one
-    only_part : (x : List ℕ) (parts : List Shard) (join : Shard) → AreParts (x ∷ []) parts join → HoldsWithin range key x join
+    only_part : (x : List ℕ) (parts : List Shard) (join : Shard) → AreParts (x ∷ []) parts join → HoldsSelected selection key x join
     only_part x [] join are = absurd are.are_held
     only_part x (t ∷ u ∷ us) join are = absurd are.are_held.1
     only_part x (t ∷ []) join are =
-        subst (HoldsWithin range key x) (join-unique (Contains (t ∷ [])) t join (join-one t (follows_parts t are.are_held.0.shard)) are.is_join) are.are_held.0
+        subst (HoldsSelected selection key x) (join-unique (Contains (t ∷ [])) t join (join-one t (follows_parts t are.are_held.0.shard)) are.is_join) are.are_held.0
 
-    pub merge_found : (inputs : List (List ℕ)) (made : Content) → IsMergeOf range inputs made → (parts : List Shard) (whole : Shard) → AreParts inputs parts whole → IsContentOf key whole made
-    merge_found inputs made (of_one x c is opens made_is) parts whole are =
-        subst (IsContentOf key whole) (sym made_is) (one_content range whole x c (only_part x parts whole (subst (λ l. AreParts l parts whole) is are)) opens)
+    pub merge_found : (inputs : List (List ℕ)) (made : Content) → IsMergeOf selection inputs made → (parts : List Shard) (whole : Shard) → AreParts inputs parts whole → IsContentOf key whole made
+    merge_found inputs made (of_one x is opens) parts whole are =
+        one_content selection whole x made (only_part x parts whole (subst (λ l. AreParts l parts whole) is are)) opens
     merge_found inputs made (of_halves firsts seconds c d halves one other unites) parts whole are =
         let both = both_parts inputs firsts seconds parts whole halves are in
         united_content both.a both.b whole c d (merge_found firsts c one both.ones both.a both.first) (merge_found seconds d other both.others both.b both.second) both.agree both.union made unites
@@ -232,10 +225,10 @@ module _ (key : DataHash) where
     fewer part whole e less (inl none) = inl none
     fewer part whole e less (inr (invalid, many)) = inr (invalid, λ few. many (less few))
 
-    pub merge_refused : (inputs : List (List ℕ)) (e : CoreError) → MergeRefusal range inputs e → (parts : List Shard) (whole : Shard) → AreParts inputs parts whole → MergeRefused whole e
+    pub merge_refused : (inputs : List (List ℕ)) (e : CoreError) → MergeRefusal selection inputs e → (parts : List Shard) (whole : Shard) → AreParts inputs parts whole → MergeRefused whole e
     merge_refused inputs e (no_memory is) parts whole are = inl is
     merge_refused inputs e (of_none is invalid) parts whole are = absurd (omega (arith, are.some, ap length is))
-    merge_refused inputs e (not_read x is refusal) parts whole are = inl (one_read range whole x e (only_part x parts whole (subst (λ l. AreParts l parts whole) is are)) refusal)
+    merge_refused inputs e (not_read x is refusal) parts whole are = inl (one_read selection whole x e (only_part x parts whole (subst (λ l. AreParts l parts whole) is are)) refusal)
     merge_refused inputs e (of_first firsts seconds halves refusal) parts whole are =
         let both = both_parts inputs firsts seconds parts whole halves are in
         fewer both.a whole e both.fewer_1 (merge_refused firsts e refusal both.ones both.a both.first)
@@ -246,38 +239,28 @@ module _ (key : DataHash) where
         let both = both_parts inputs firsts seconds parts whole halves are in
         united_refused both.a both.b whole c d (merge_found firsts c one both.ones both.a both.first) (merge_found seconds d other both.others both.b both.second) both.agree both.union e refusal
 
-    pub one_string : (inputs : List (List ℕ)) (parts : List Shard) (join : Shard) → IsMergeOfList range key inputs parts join → (result : Result PlacedShard CoreError)
-        → MatchResult result (λ made. IsMergeOf range inputs (content made)) (MergeRefusal range inputs) → MatchResult result (λ made. content made ≡ shard_content key join) (MergeRefused join)
+    pub one_string : (inputs : List (List ℕ)) (parts : List Shard) (join : Shard) → IsMergeOfList selection key inputs parts join → (result : Result PlacedShard CoreError)
+        → MatchResult result (λ made. IsMergeOf selection inputs (content made)) (MergeRefusal selection inputs) → MatchResult result (λ made. content made ≡ shard_content key join) (MergeRefused join)
     one_string inputs parts join are (Ok made) is = content_is join (content made) (merge_found inputs (content made) is parts join are)
     one_string inputs parts join are (Err e) refusal = merge_refused inputs e refusal parts join are
 
 -- what a merge gives, whatever its inputs hold
-module _ (range : HashRange) where
-  pub lenient : (inputs : List (List ℕ)) (result : Result PlacedShard CoreError) → MatchResult result (IsMerged false range inputs) (NotMerged false range inputs)
-      → MatchResult result (λ made. (made.as_read ≡ true) × IsMergeOf range inputs (content made)) (MergeRefusal range inputs)
+module _ (selection : Selection) where
+  pub lenient : (inputs : List (List ℕ)) (result : Result PlacedShard CoreError) → MatchResult result (IsMerged false selection inputs) (NotMerged false selection inputs)
+      → MatchResult result (λ made. (made.as_read ≡ true) × IsMergeOf selection inputs (content made)) (MergeRefusal selection inputs)
   lenient inputs (Ok made) merged = (merged.as_read, merged.is)
   lenient inputs (Err e) refusal = refusal (λ so. absurd (true≢false (sym so)))
 
-  pub contents : (inputs : List (List ℕ)) (result : Result PlacedShard CoreError) → MatchResult result (λ made. (made.as_read ≡ true) × IsMergeOf range inputs (content made)) (MergeRefusal range inputs)
-      → MatchResult result (λ made. IsMergeOf range inputs (content made)) (MergeRefusal range inputs)
+  pub contents : (inputs : List (List ℕ)) (result : Result PlacedShard CoreError) → MatchResult result (λ made. (made.as_read ≡ true) × IsMergeOf selection inputs (content made)) (MergeRefusal selection inputs)
+      → MatchResult result (λ made. IsMergeOf selection inputs (content made)) (MergeRefusal selection inputs)
   contents inputs (Ok made) (read, is) = is
   contents inputs (Err e) refusal = refusal
 
-  -- an input that was opened
-  pub opened_alone : (x : List ℕ) (c within : Content) (options : LayoutOptions) (made : PlacedShard) → Opens x c → within ≡ content_within range c → options ≡ keyed_options c.options.key
-      → content made ≡ record within { options = options } → made.as_read ≡ true → IsOpenedAlone range x made
-  opened_alone x c within options made opens within_is options_are is read =
-      let same : content made ≡ merged_alone range c = is ∙ (λ i. record (within_is i) { options = options_are i }) in
-      record {
-        as_read = read;
-        ascend = subst AscendBoth (sym same) (record {
-          files = those_ascend file_records (is_within range) c.files opens.lists.files.writable.ascends;
-          xorbs = those_ascend xorb_records (is_within range) c.xorbs opens.lists.xorbs.writable.ascends;
-        });
-        opened = c;
-        opens = opens;
-        is = same;
-      }
+-- an input whose records in a range were opened
+pub opened_alone : (range : HashRange) (x : List ℕ) (c within : Content) (options : LayoutOptions) (made : PlacedShard) → Opens x c → within ≡ content_within range c → options ≡ keyed_options c.options.key
+    → content made ≡ record within { options = options } → OpensWithin range x (content made)
+opened_alone range x c within options made opens within_is options_are is =
+    (c, opens, is ∙ (λ i. record (within_is i) { options = options_are i }))
 
 -- the bytes that references to inputs refer to
 abbrev pub bytes_of : List (Bor (List ℕ)) → List (List ℕ)

@@ -1,5 +1,5 @@
 -- A shard in memory, opened by its footer.
-use Rattle.std.proofs.Common.{◌≡◌, ℕ, List, [], ◌∷◌, inl, inr, refl, sym, ap, ◌∙◌, subst, arith}
+use Rattle.std.proofs.Common.{◌≡◌, ℕ, List, inl, inr, refl, sym, ap, ◌∙◌, subst, arith}
 use Rattle.std.specs.Prelude.{map}
 use Rattle.std.specs.FinMap.{values}
 use Rattle.std.specs.List.Sorted.{IsStrictlySortedBy}
@@ -30,14 +30,11 @@ use Rattle.xet_core_structures.specs.Steps.ShardContents.{IsListOf}
 use Rattle.xet_core_structures.proofs.Records.RecordsAsRead.{all_handed}
 use Rattle.xet_core_structures.proofs.Records.ListMaps.{lists_hold, shard_of, values-list_map}
 use Rattle.xet_core_structures.proofs.Records.ShardContents.{hashes_handed, held_well, held_whole, only_shard, rows_handed}
-use Rattle.placed_shards.specs.declared.range.HashRange.{HashRange}
 use Rattle.placed_shards.specs.Content.{Content, AscendBoth}
-use Rattle.placed_shards.specs.Findings.{AreOpened, OpensWithin}
-use Rattle.placed_shards.specs.Merging.{merged_alone}
 use Rattle.placed_shards.specs.Opening.{Opens, SectionsRefusal, ShardRefusal}
 
 -- a section whose hashes ascend is a list of records, as reading returns them
-list_opened : {H R : Type 0} (K : RecordKind H R) → KindLaws K → (bytes : List ℕ) (stored : List R) → IsSection K bytes stored → Ascends K stored → IsListOf K bytes (map K.as_read stored)
+pub list_opened : {H R : Type 0} (K : RecordKind H R) → KindLaws K → (bytes : List ℕ) (stored : List R) → IsSection K bytes stored → Ascends K stored → IsListOf K bytes (map K.as_read stored)
 list_opened K laws bytes stored section ascends = record {
   stored = stored;
   section = section;
@@ -112,17 +109,3 @@ opens_once bytes c d one other =
     let xorbs = sym (values-list_map xorb_records c.xorbs one.lists.xorbs.writable.ascends) ∙ ap (λ (s : Shard). values s.xorbs) same ∙ values-list_map xorb_records d.xorbs other.lists.xorbs.writable.ascends in
     let options = one.options_are ∙ ap options_of (only_info bytes one.info other.info one.ends other.ends) ∙ sym other.options_are in
     λ i. record { files = files i; xorbs = xorbs i; options = options i }
-
-pub opens_within_once : (range : HashRange) (bytes : List ℕ) (c d : Content) → OpensWithin range bytes c → OpensWithin range bytes d → c ≡ d
-opens_within_once range bytes c d one other = one.2 ∙ ap (merged_alone range) (opens_once bytes one.0 other.0 one.1 other.1) ∙ sym other.2
-
-pub opened_once : (range : HashRange) (inputs : List (List ℕ)) (cs ds : List Content) → AreOpened range inputs cs → AreOpened range inputs ds → cs ≡ ds
-opened_once range [] [] [] one other = refl
-opened_once range [] [] (d ∷ ds) one other = absurd other
-opened_once range [] (c ∷ cs) ds one other = absurd one
-opened_once range (x ∷ inputs) [] ds one other = absurd one
-opened_once range (x ∷ inputs) (c ∷ cs) [] one other = absurd other
-opened_once range (x ∷ inputs) (c ∷ cs) (d ∷ ds) one other =
-    let first = opens_within_once range x c d one.0 other.0 in
-    let rest = opened_once range inputs cs ds one.1 other.1 in
-    λ i. first i ∷ rest i

@@ -33,7 +33,7 @@ use Rattle.xet_core_structures.proofs.Records.ShardContents.{rows_handed}
 use Rattle.placed_shards.specs.declared.range.HashRange.{HashRange}
 use Rattle.placed_shards.specs.ByTables.{HasByTable, OpensByTables}
 use Rattle.placed_shards.specs.Content.{Content}
-use Rattle.placed_shards.specs.Merging.{merged_alone}
+use Rattle.placed_shards.specs.Selections.{merged_alone}
 use Rattle.placed_shards.specs.Opening.{Opens}
 use Rattle.placed_shards.specs.Ranges.{is_from, is_within, ranges_between, AreCuts, records_passing}
 use Rattle.placed_shards.specs.Tables.{first_row, end_row, file_table, xorb_table, last_file_row, last_xorb_row}

@@ -133,7 +133,7 @@ module _ (passes : DataHash → Bool) where
     xorbs = list_map-those xorb_records passes records.xorbs xorbs;
   }
 
-  zipped_parts_of : (ss : List Shard) → AllZip (IsPartOf passes) ss (map part_of ss)
+  pub zipped_parts_of : (ss : List Shard) → AllZip (IsPartOf passes) ss (map part_of ss)
   zipped_parts_of [] = tt
   zipped_parts_of (s ∷ ss) = (part_of_is s, zipped_parts_of ss)
 

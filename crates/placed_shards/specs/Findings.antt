@@ -17,11 +17,10 @@ use Rattle.placed_shards.specs.declared.findings.Disagreement.{Disagreement}
 use Rattle.placed_shards.specs.declared.findings.MalformedRecord.{MalformedRecord}
 use Rattle.placed_shards.specs.declared.findings.RecordHash.{RecordHash}
 use Rattle.placed_shards.specs.declared.findings.RecordHash.TheVariants.{File, Xorb}
-use Rattle.placed_shards.specs.declared.range.HashRange.{HashRange}
+use Rattle.placed_shards.specs.declared.selection.Selection.{Selection}
 use Rattle.placed_shards.specs.Agreement.{AgreeIfBoth, AreEqual}
 use Rattle.placed_shards.specs.Content.{Content}
-use Rattle.placed_shards.specs.Merging.{merged_alone}
-use Rattle.placed_shards.specs.Opening.{Opens, ShardRefusal}
+use Rattle.placed_shards.specs.Selections.{OpensSelected, SelectedRefusal}
 
 -- the records that two shards have under a hash agree, if both have one
 abbrev pub AgreeUnder : RecordHash → Content → Content → Type 0
@@ -34,14 +33,9 @@ AgreeUnder (Xorb q) c d =
 abbrev pub AgreeInAll : Content → Content → Type 0
 AgreeInAll c d = (h : RecordHash) → AgreeUnder h c d
 
--- bytes hold a shard, of which these are the records in a range, with all tables, its key, creation
--- 0 and no expiry
-abbrev pub OpensWithin : HashRange → List ℕ → Content → Type 0
-OpensWithin range x c = (whole : Content) × Opens x whole × (c ≡ merged_alone range whole)
-
--- byte strings hold shards, of which these are the records in a range
-abbrev pub AreOpened : HashRange → List (List ℕ) → List Content → Type 0
-AreOpened range = AllZip (OpensWithin range)
+-- byte strings have these records that are selected
+abbrev pub AreOpened : Selection → List (List ℕ) → List Content → Type 0
+AreOpened selection = AllZip (OpensSelected selection)
 
 -- all records are such as a shard may have
 pub record HasFormedRecords (c : Content) : Type 0 where
@@ -80,25 +74,25 @@ pub record HasAllDisagreements (cs : List Content) (found : List Disagreement) :
 
 -- no shard is read from one of some byte strings, and a property holds of the shard of each before
 -- it
-pub record IsFirstUnread (range : HashRange) (Is : Content → Type 0) (inputs : List (List ℕ))
+pub record IsFirstUnread (selection : Selection) (Is : Content → Type 0) (inputs : List (List ℕ))
     (e : CoreError) : Type 0 where
   pub before : List (List ℕ)
   pub bytes : List ℕ
   pub after : List (List ℕ)
   pub inputs_are : inputs ≡ before ++ bytes ∷ after
   pub shards : List Content
-  pub opened : AreOpened range before shards
+  pub opened : AreOpened selection before shards
   pub hold : All Is shards
-  pub refused : ShardRefusal bytes e
+  pub refused : SelectedRefusal selection bytes e
 
 -- why byte strings are not all opened: an allocation failed, or no shard is read from one of them,
 -- and a property holds of the shard of each before it
-abbrev pub FirstRefusal : HashRange → (Content → Type 0) → List (List ℕ) → CoreError → Type 0
-FirstRefusal range Is inputs e = (e ≡ OutOfMemory) ⊎ IsFirstUnread range Is inputs e
+abbrev pub FirstRefusal : Selection → (Content → Type 0) → List (List ℕ) → CoreError → Type 0
+FirstRefusal selection Is inputs e = (e ≡ OutOfMemory) ⊎ IsFirstUnread selection Is inputs e
 
 -- the first of some byte strings whose shard has a record that no shard may have, by its number,
 -- and the hash of such a record
-pub record IsFirstMalformed (range : HashRange) (inputs : List (List ℕ)) (m : MalformedRecord)
+pub record IsFirstMalformed (selection : Selection) (inputs : List (List ℕ)) (m : MalformedRecord)
     : Type 0 where
   pub before : List (List ℕ)
   pub bytes : List ℕ
@@ -106,8 +100,8 @@ pub record IsFirstMalformed (range : HashRange) (inputs : List (List ℕ)) (m : 
   pub inputs_are : inputs ≡ before ++ bytes ∷ after
   pub number : length before ≡ m.input
   pub shards : List Content
-  pub opened : AreOpened range before shards
+  pub opened : AreOpened selection before shards
   pub formed : All HasFormedRecords shards
   pub shard : Content
-  pub opens : OpensWithin range bytes shard
+  pub opens : OpensSelected selection bytes shard
   pub malformed : HasMalformed shard m.record_hash

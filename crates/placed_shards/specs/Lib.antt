@@ -11,6 +11,7 @@ pub mod Placed
 pub mod Ranges
 pub mod Records
 pub mod Sections
+pub mod Selections
 pub mod Sets
 pub mod Sizes
 pub mod Steps

@@ -152,14 +152,14 @@ fn compare_place<'s, 'a, P: Agreement<'a>>(
 fn has_copy<'s, 'a, P: Agreement<'a>>(
     shards: &'s [PlacedShard<'a>],
     kept: &[Place],
-    record: &'s P,
+    other: &'s P,
 ) -> bool
     requires { (k : Place) → Contains kept.now k → IsPlace P.kind (map P.listed shards.now) k }
     ensures { IsTrue result ↔ ((k : Place) × Contains kept.now k
-        × (record_at (map P.listed shards.now) k ≡ Some record.now)) }
+        × (record_at (map P.listed shards.now) k ≡ Some other.now)) }
 {
     for one in kept {
-        if are_copies::<P>(placed_at::<P>(shards, *one), record) {
+        if are_copies::<P>(placed_at::<P>(shards, *one), other) {
             return true;
         }
     }
@@ -172,20 +172,20 @@ fn find_against<'s, 'a, P: Agreement<'a>>(
     alloc: Global,
     shards: &'s [PlacedShard<'a>],
     kept: &[Place],
-    record: &'s P,
+    other: &'s P,
 ) -> Result<Option<usize>>
     requires kept { (k : Place) → Contains kept.now k
         → IsPlace P.kind (map P.listed shards.now) k }
     requires apart { (k : Place) → Contains kept.now k
-        → record_at (map P.listed shards.now) k ≢ Some record.now }
+        → record_at (map P.listed shards.now) k ≢ Some other.now }
     ensures { MatchResult result
         (λ found. MatchOption found
-        (AgreesWithAll (AgreeAsRead P.kind P.agree) (map P.listed shards.now) kept.now record.now)
-        (IsAgainst (AgreeAsRead P.kind P.agree) (map P.listed shards.now) kept.now record.now))
+        (AgreesWithAll (AgreeAsRead P.kind P.agree) (map P.listed shards.now) kept.now other.now)
+        (IsAgainst (AgreeAsRead P.kind P.agree) (map P.listed shards.now) kept.now other.now))
         (λ e. e ≡ OutOfMemory) }
 {
     for one in kept {
-        if !P::agree_apart(alloc, placed_at::<P>(shards, *one), record)? {
+        if !P::agree_apart(alloc, placed_at::<P>(shards, *one), other)? {
             return Ok(Some(one.list));
         }
     }

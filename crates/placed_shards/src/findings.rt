@@ -18,11 +18,11 @@ ghost use Rattle.placed_shards.specs.Steps.Merging.{IsOpenedAlone};
 use crate::agreement::Agreement;
 use crate::differing::{Differing, find_differing};
 use crate::malformed::find_malformed_record;
-use crate::merge::open_within;
+use crate::merge::open_selected;
 use crate::placed_file::PlacedFile;
 use crate::placed_shard::PlacedShard;
 use crate::placed_xorb::PlacedXorb;
-use crate::range::HashRange;
+use crate::selection::Selection;
 use std::alloc::Global;
 use xet_base::error::Result;
 use xet_base::merklehash::MerkleHash;
@@ -55,39 +55,39 @@ pub struct MalformedRecord {
     pub input: usize,
 }
 
-/// The hashes in a range under which two of the shards that inputs hold disagree, each with two
+/// The hashes of the selected records under which two of the inputs disagree, each with two
 /// inputs that hold such records: files first, then xorbs, each in ascending order. There is none
-/// exactly if each two of the shards agree in the range.
+/// exactly if these records of each two inputs agree.
 ///
 /// The error is that of the first input that cannot be read, as [`open`](crate::open::open) has it,
 /// or `OutOfMemory` if an allocation fails.
 pub fn find_disagreements(
     alloc: Global,
     inputs: &[&[u8]],
-    range: &HashRange,
+    selection: &Selection,
 ) -> Result<Vec<Disagreement>>
     ensures { MatchResult result
-        (λ found. (cs : List Content) × AreOpened range.now (map (λ x. x.now) inputs.now) cs
+        (λ found. (cs : List Content) × AreOpened selection.now (map (λ x. x.now) inputs.now) cs
         × HasAllDisagreements cs found.items)
-        (FirstRefusal range.now (λ c. ⊤) (map (λ x. x.now) inputs.now)) }
+        (FirstRefusal selection.now (λ c. ⊤) (map (λ x. x.now) inputs.now)) }
 {
-    let shards = open_all(alloc, inputs, *range)?;
+    let shards = open_all(alloc, inputs, *selection)?;
     disagreements_of(alloc, shards.as_slice())
 }
 
-// The records of inputs in a range.
+// The records of inputs that are selected.
 fn open_all<'a>(
     alloc: Global,
     inputs: &[&'a [u8]],
-    range: HashRange,
+    selection: Selection,
 ) -> Result<Vec<PlacedShard<'a>>>
     ensures { MatchResult result
-        (λ opened. AllZip (IsOpenedAlone range) (map (λ x. x.now) inputs.now) opened.items)
-        (FirstRefusal range (λ c. ⊤) (map (λ x. x.now) inputs.now)) }
+        (λ opened. AllZip (IsOpenedAlone selection) (map (λ x. x.now) inputs.now) opened.items)
+        (FirstRefusal selection (λ c. ⊤) (map (λ x. x.now) inputs.now)) }
 {
     let mut opened = Vec::with_capacity(alloc, inputs.len())?;
     for input in inputs {
-        opened.push(open_within(alloc, input, range)?)?;
+        opened.push(open_selected(alloc, input, selection)?)?;
     }
     Ok(opened)
 }
@@ -125,8 +125,8 @@ fn add_all<'a, P: Agreement<'a>>(
     Ok(())
 }
 
-/// A record in a range that no shard may have, of the first input that holds one, or `None` if a
-/// shard may have all records in the range that inputs hold. If shards of such records agree
+/// A selected record that no shard may have, of the first input that holds one, or `None` if a
+/// shard may have all selected records of the inputs. If shards of such records agree
 /// pairwise, under one key, each order of their unions gives the same records.
 ///
 /// The inputs are opened one after another, up to the first that holds such a record, or that
@@ -135,17 +135,17 @@ fn add_all<'a, P: Agreement<'a>>(
 pub fn find_malformed(
     alloc: Global,
     inputs: &[&[u8]],
-    range: &HashRange,
+    selection: &Selection,
 ) -> Result<Option<MalformedRecord>>
     ensures { MatchResult result
         (λ found. MatchOption found
-        ((cs : List Content) × AreOpened range.now (map (λ x. x.now) inputs.now) cs
+        ((cs : List Content) × AreOpened selection.now (map (λ x. x.now) inputs.now) cs
         × All HasFormedRecords cs)
-        (IsFirstMalformed range.now (map (λ x. x.now) inputs.now)))
-        (FirstRefusal range.now HasFormedRecords (map (λ x. x.now) inputs.now)) }
+        (IsFirstMalformed selection.now (map (λ x. x.now) inputs.now)))
+        (FirstRefusal selection.now HasFormedRecords (map (λ x. x.now) inputs.now)) }
 {
     for input in 0..inputs.len() {
-        let shard = open_within(alloc, inputs[input], *range)?;
+        let shard = open_selected(alloc, inputs[input], *selection)?;
         if let Some(record_hash) = malformed_in(&shard) {
             return Ok(Some(MalformedRecord { record_hash, input }));
         }

@@ -12,9 +12,10 @@ ghost use Rattle.xet_shards.specs.Write.WithOptions.{FitsSection};
 ghost use Rattle.placed_shards.specs.declared.range.HashRange.{HashRange};
 ghost use Rattle.placed_shards.specs.ByTables.{OpensByTables, HasOwnTables, IsCutByWords};
 ghost use Rattle.placed_shards.specs.Content.{Content, content_layout, options_in};
-ghost use Rattle.placed_shards.specs.Merging.{merged_alone};
+ghost use Rattle.placed_shards.specs.Selections.{merged_alone};
 ghost use Rattle.placed_shards.specs.Opening.{Opens};
 ghost use Rattle.placed_shards.specs.Ranges.{ranges_between, AreCuts};
+
 
 /// Does nothing. Its contract says of [`open_by_tables`](crate::by_tables::open_by_tables), for
 /// ranges that follow one another and leave no hash out: if it opens bytes in each of them, these

@@ -38,6 +38,7 @@ mod putting;
 pub mod range;
 pub mod records;
 mod section;
+pub mod selection;
 pub mod sets;
 pub mod sink;
 pub mod strict;

@@ -8,48 +8,50 @@ ghost use Rattle.xet_records.specs.declared.record_reader.FormatVersion.{FormatV
 ghost use Rattle.xet_shards.specs.Content.Shard.{Shard};
 ghost use Rattle.xet_core_structures.specs.Trees.MergeTrees.{MergeRefused};
 ghost use Rattle.placed_shards.specs.Content.{Content, content, content_layout};
-ghost use Rattle.placed_shards.specs.Findings.{HasFormedRecords, OpensWithin};
+ghost use Rattle.placed_shards.specs.Findings.{HasFormedRecords};
 ghost use Rattle.placed_shards.specs.Merging.{IsMergeOf, MergeRefusal, IsMergeOfList, shard_content};
-ghost use Rattle.placed_shards.specs.Opening.{ShardRefusal};
+ghost use Rattle.placed_shards.specs.Selections.{OpensSelected, SelectedRefusal};
 ghost use Rattle.placed_shards.specs.Sizes.{IsResultSize};
 ghost use Rattle.placed_shards.specs.Steps.Merging.{IsMerged, IsOpenedAlone, NotMerged};
 
+use crate::by_tables::open_by_tables;
 use crate::findings::malformed_in;
 use crate::of_agreeing::OfAgreeing;
 use crate::open::open;
 use crate::placed_shard::PlacedShard;
-use crate::range::HashRange;
+use crate::selection::{Access, Selection};
 use crate::unions::{union, unite_shards};
 use bumpalo::Bump;
 use std::alloc::Global;
 use xet_base::error::{CoreError, Result};
 use xet_shards::shard_writer::LayoutOptions;
 
-/// The union of the records in a range of one shard or more under one key, with all tables, this key,
-/// creation 0 and no expiry. Files and xorbs are each taken by their own hash. Of shards that agree
+/// The union of the records that are selected of one shard or more under one key, with all tables,
+/// this key, creation 0 and no expiry. Of shards that agree
 /// pairwise it has the records of their join, in any order of the list. In any version it has at most
 /// 344 bytes and 8/3 of the inputs'.
 ///
 /// The inputs are opened in the order of the list, and the error is that of the first input or union
-/// that fails, of a union after both its halves: those of [`open`] and of [`union`]. `InvalidArguments`
+/// that fails, of a union after both its halves: those of [`open`], or of
+/// [`open_by_tables`], and of [`union`]. `InvalidArguments`
 /// if the list is empty.
 pub fn merge<'a>(
     alloc: Global,
     arena: &'a Bump,
     inputs: &[&'a [u8]],
-    range: &HashRange,
+    selection: &Selection,
 ) -> Result<PlacedShard<'a>>
     ensures any_bytes { MatchResult result
         (λ made. (made.as_read ≡ true)
-        × IsMergeOf range.now (map (λ x. x.now) inputs.now) (content made))
-        (MergeRefusal range.now (map (λ x. x.now) inputs.now)) }
+        × IsMergeOf selection.now (map (λ x. x.now) inputs.now) (content made))
+        (MergeRefusal selection.now (map (λ x. x.now) inputs.now)) }
     ensures one_byte_string { (key : DataHash) → (parts : List Shard) → (join : Shard)
-        → IsMergeOfList range.now key (map (λ x. x.now) inputs.now) parts join
+        → IsMergeOfList selection.now key (map (λ x. x.now) inputs.now) parts join
         → MatchResult result (λ made. content made ≡ shard_content key join) (MergeRefused join) }
     ensures size { IfOk result (λ made. (version : FormatVersion)
         → IsResultSize (map (λ x. x.now) inputs.now) (length (content_layout version (content made)))) }
 {
-    merge_halves(alloc, arena, inputs, *range, false)
+    merge_halves(alloc, arena, inputs, *selection, false)
 }
 
 /// The same of inputs that have to be well-formed and to agree, if `strict` is set. If they don't, its
@@ -58,59 +60,63 @@ pub(crate) fn merge_halves<'a>(
     alloc: Global,
     arena: &'a Bump,
     inputs: &[&'a [u8]],
-    range: HashRange,
+    selection: Selection,
     strict: bool,
 ) -> Result<PlacedShard<'a>>
-    ensures { MatchResult result (IsMerged strict range (map (λ x. x.now) inputs.now))
-        (NotMerged strict range (map (λ x. x.now) inputs.now)) }
+    ensures { MatchResult result (IsMerged strict selection (map (λ x. x.now) inputs.now))
+        (NotMerged strict selection (map (λ x. x.now) inputs.now)) }
 {
     if inputs.is_empty() {
         return Err(CoreError::InvalidArguments);
     }
     if inputs.len() == 1 {
-        return open_alone(alloc, inputs[0], range, strict);
+        return open_alone(alloc, inputs[0], selection, strict);
     }
     let (first, second) = inputs.split_at(inputs.len() / 2);
-    let one = merge_halves(alloc, arena, first, range, strict)?;
-    let other = merge_halves(alloc, arena, second, range, strict)?;
+    let one = merge_halves(alloc, arena, first, selection, strict)?;
+    let other = merge_halves(alloc, arena, second, selection, strict)?;
     if strict {
         return unite_shards::<OfAgreeing, OfAgreeing>(alloc, arena, &one, &other);
     }
     union(alloc, arena, &one, &other)
 }
 
-// The records of an input in a range, which have to be well-formed if `strict` is set.
+// The records of an input that are selected, which have to be well-formed if `strict` is set.
 fn open_alone<'a>(
     alloc: Global,
     bytes: &'a [u8],
-    range: HashRange,
+    selection: Selection,
     strict: bool,
 ) -> Result<PlacedShard<'a>>
     ensures { MatchResult result
-        (λ opened. IsOpenedAlone range bytes.now opened
+        (λ opened. IsOpenedAlone selection bytes.now opened
         × (IsTrue strict → HasFormedRecords (content opened)))
-        (λ e. (IsTrue strict → (c : Content) → OpensWithin range bytes.now c → HasFormedRecords c)
-        → ShardRefusal bytes.now e) }
+        (λ e. (IsTrue strict → (c : Content) → OpensSelected selection bytes.now c → HasFormedRecords c)
+        → SelectedRefusal selection bytes.now e) }
 {
-    let opened = open_within(alloc, bytes, range)?;
+    let opened = open_selected(alloc, bytes, selection)?;
     if strict && malformed_in(&opened).is_some() {
         return Err(CoreError::InvalidShard(String::new(alloc)));
     }
     Ok(opened)
 }
 
-/// The records of an input in a range, with all tables, its key, creation 0 and no expiry.
-pub(crate) fn open_within<'a>(
+/// The records of an input that are selected, with all tables, its key, creation 0 and no expiry.
+pub(crate) fn open_selected<'a>(
     alloc: Global,
     bytes: &'a [u8],
-    range: HashRange,
+    selection: Selection,
 ) -> Result<PlacedShard<'a>>
-    ensures { MatchResult result (IsOpenedAlone range bytes.now) (ShardRefusal bytes.now) }
+    ensures { MatchResult result (IsOpenedAlone selection bytes.now)
+        (SelectedRefusal selection bytes.now) }
 {
+    if selection.access == Access::Tables {
+        return open_by_tables(alloc, bytes, &selection.range);
+    }
     let shard = open(alloc, bytes)?;
     let options = LayoutOptions {
         key: shard.options.key,
         ..LayoutOptions::plain(None)
     };
-    Ok(shard.within(&range).with_options(options))
+    Ok(shard.within(&selection.range).with_options(options))
 }

@@ -8,7 +8,7 @@ ghost use Rattle.placed_shards.specs.Strict.{AreAgreeing, IsAgreedOr, AgreedRefu
 use crate::findings::{Disagreement, MalformedRecord, find_disagreements, find_malformed};
 use crate::merge::merge_halves;
 use crate::placed_shard::PlacedShard;
-use crate::range::HashRange;
+use crate::selection::Selection;
 use bumpalo::Bump;
 use std::alloc::Global;
 use xet_base::error::{CoreError, Result};
@@ -24,7 +24,7 @@ pub enum Agreed<T> {
     Malformed(MalformedRecord),
 }
 
-/// The union that [`merge`](crate::merge::merge) makes, if the records of the inputs in the range are
+/// The union that [`merge`](crate::merge::merge) makes, if the selected records of the inputs are
 /// well-formed, and agree pairwise: two xorbs with one hash if they are equal, and two files if they
 /// have equal segments, and equal optional parts wherever both have them. Then it is their join.
 ///
@@ -35,19 +35,19 @@ pub fn merge_agreeing<'a>(
     alloc: Global,
     arena: &'a Bump,
     inputs: &[&'a [u8]],
-    range: &HashRange,
+    selection: &Selection,
 ) -> Result<Agreed<PlacedShard<'a>>>
     ensures { MatchResult result
-        (IsAgreedOr range.now (map (λ x. x.now) inputs.now)
+        (IsAgreedOr selection.now (map (λ x. x.now) inputs.now)
         (λ made. (made.as_read ≡ true)
-        × IsJoinedMerge range.now (map (λ x. x.now) inputs.now) (content made)))
-        (AgreedRefusal range.now (map (λ x. x.now) inputs.now)
-        (MergeRefusal range.now (map (λ x. x.now) inputs.now))) }
+        × IsJoinedMerge selection.now (map (λ x. x.now) inputs.now) (content made)))
+        (AgreedRefusal selection.now (map (λ x. x.now) inputs.now)
+        (MergeRefusal selection.now (map (λ x. x.now) inputs.now))) }
 {
-    match merge_halves(alloc, arena, inputs, *range, true) {
+    match merge_halves(alloc, arena, inputs, *selection, true) {
         Ok(made) => Ok(Agreed::Made(made)),
         Err(CoreError::OutOfMemory) => Err(CoreError::OutOfMemory),
-        Err(error) => why_not(alloc, inputs, range, error),
+        Err(error) => why_not(alloc, inputs, selection, error),
     }
 }
 
@@ -56,22 +56,22 @@ pub fn merge_agreeing<'a>(
 fn why_not<'a>(
     alloc: Global,
     inputs: &[&'a [u8]],
-    range: &HashRange,
+    selection: &Selection,
     error: CoreError,
 ) -> Result<Agreed<PlacedShard<'a>>>
-    requires { AreAgreeing range.now (map (λ x. x.now) inputs.now)
-        → MergeRefusal range.now (map (λ x. x.now) inputs.now) error }
+    requires { AreAgreeing selection.now (map (λ x. x.now) inputs.now)
+        → MergeRefusal selection.now (map (λ x. x.now) inputs.now) error }
     ensures { MatchResult result
-        (IsAgreedOr range.now (map (λ x. x.now) inputs.now)
+        (IsAgreedOr selection.now (map (λ x. x.now) inputs.now)
         (λ made. (made.as_read ≡ true)
-        × IsJoinedMerge range.now (map (λ x. x.now) inputs.now) (content made)))
-        (AgreedRefusal range.now (map (λ x. x.now) inputs.now)
-        (MergeRefusal range.now (map (λ x. x.now) inputs.now))) }
+        × IsJoinedMerge selection.now (map (λ x. x.now) inputs.now) (content made)))
+        (AgreedRefusal selection.now (map (λ x. x.now) inputs.now)
+        (MergeRefusal selection.now (map (λ x. x.now) inputs.now))) }
 {
-    if let Some(record) = find_malformed(alloc, inputs, range)? {
+    if let Some(record) = find_malformed(alloc, inputs, selection)? {
         return Ok(Agreed::Malformed(record));
     }
-    let found = find_disagreements(alloc, inputs, range)?;
+    let found = find_disagreements(alloc, inputs, selection)?;
     if found.is_empty() {
         return Err(error);
     }

@@ -7,7 +7,7 @@ ghost use Rattle.shard_bytes.specs.Sizes.{HasResultSize};
 ghost use Rattle.shard_bytes.specs.Versions.{IsWrittenIn, NotWrittenIn};
 
 use bumpalo::Bump;
-use placed_shards::range::HashRange;
+use placed_shards::selection::Selection;
 use placed_shards::strict::{Agreed, merge_agreeing};
 use std::alloc::Global;
 use xet_core_structures::error::Result;
@@ -22,20 +22,20 @@ use xet_core_structures::record_reader::FormatVersion;
 pub fn merge_agreeing_bytes<'a>(
     alloc: Global,
     shards: &[&'a [u8]],
-    range: &HashRange,
+    selection: &Selection,
     version: FormatVersion,
 ) -> Result<Agreed<Vec<u8>>>
     ensures merged { MatchResult result
-        (IsAgreedOr range.now (map (λ x. x.now) shards.now)
-        (λ bytes. IsWrittenIn version (IsJoinedMerge range.now (map (λ x. x.now) shards.now))
+        (IsAgreedOr selection.now (map (λ x. x.now) shards.now)
+        (λ bytes. IsWrittenIn version (IsJoinedMerge selection.now (map (λ x. x.now) shards.now))
         bytes.items))
-        (AgreedRefusal range.now (map (λ x. x.now) shards.now)
-        (NotWrittenIn version (IsJoinedMerge range.now (map (λ x. x.now) shards.now))
-        (MergeRefusal range.now (map (λ x. x.now) shards.now)))) }
+        (AgreedRefusal selection.now (map (λ x. x.now) shards.now)
+        (NotWrittenIn version (IsJoinedMerge selection.now (map (λ x. x.now) shards.now))
+        (MergeRefusal selection.now (map (λ x. x.now) shards.now)))) }
     ensures size { IfOk result (HasResultSize (map (λ x. x.now) shards.now)) }
 {
     let arena = Bump::new(alloc);
-    match merge_agreeing(alloc, &arena, shards, range)? {
+    match merge_agreeing(alloc, &arena, shards, selection)? {
         Agreed::Made(made) => Ok(Agreed::Made(made.to_bytes(alloc, version)?)),
         Agreed::Disagreements(found) => Ok(Agreed::Disagreements(found)),
         Agreed::Malformed(record) => Ok(Agreed::Malformed(record)),

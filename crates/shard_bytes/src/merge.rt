@@ -10,7 +10,7 @@ ghost use Rattle.shard_bytes.specs.Versions.{IsWrittenIn, NotWrittenIn};
 
 use bumpalo::Bump;
 use placed_shards::merge::merge;
-use placed_shards::range::HashRange;
+use placed_shards::selection::Selection;
 use std::alloc::Global;
 use xet_core_structures::error::Result;
 use xet_core_structures::record_reader::FormatVersion;
@@ -24,16 +24,16 @@ use xet_core_structures::record_reader::FormatVersion;
 pub fn merge_bytes<'a>(
     alloc: Global,
     shards: &[&'a [u8]],
-    range: &HashRange,
+    selection: &Selection,
     version: FormatVersion,
 ) -> Result<Vec<u8>>
     ensures merged { MatchResult result
-        (λ bytes. IsWrittenIn version (IsMergeOf range.now (map (λ x. x.now) shards.now))
+        (λ bytes. IsWrittenIn version (IsMergeOf selection.now (map (λ x. x.now) shards.now))
         bytes.items)
-        (NotWrittenIn version (IsMergeOf range.now (map (λ x. x.now) shards.now))
-        (MergeRefusal range.now (map (λ x. x.now) shards.now))) }
+        (NotWrittenIn version (IsMergeOf selection.now (map (λ x. x.now) shards.now))
+        (MergeRefusal selection.now (map (λ x. x.now) shards.now))) }
     ensures one_byte_string { (key : DataHash) → (parts : List Shard) → (join : Shard)
-        → IsMergeOfList range.now key (map (λ x. x.now) shards.now) parts join
+        → IsMergeOfList selection.now key (map (λ x. x.now) shards.now) parts join
         → MatchResult result
         (λ bytes. IsWrittenIn version (λ made. made ≡ shard_content key join) bytes.items)
         (NotWrittenIn version (λ made. made ≡ shard_content key join) (MergeRefused join)) }
@@ -41,5 +41,5 @@ pub fn merge_bytes<'a>(
         (λ bytes. IsResultSize (map (λ x. x.now) shards.now) (length bytes.items)) }
 {
     let arena = Bump::new(alloc);
-    merge(alloc, &arena, shards, range)?.to_bytes(alloc, version)
+    merge(alloc, &arena, shards, selection)?.to_bytes(alloc, version)
 }

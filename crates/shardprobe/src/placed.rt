@@ -7,6 +7,7 @@ use bumpalo::Bump;
 use placed_shards::by_tables::open_by_tables;
 use placed_shards::merge::merge;
 use placed_shards::range::HashRange;
+use placed_shards::selection::{Access, Selection};
 use script_lines::words::{parse_hash, parse_u64};
 use std::alloc::Global;
 use std::io::Write;
@@ -26,7 +27,11 @@ impl Probe {
     ) -> std::result::Result<bool, Stop> {
         match words {
             ["placed_merge", name, version, from, to, names @ ..] => {
-                self.merge_in_range(name, parse_version(version)?, parse_range(from, to)?, names)
+                self.merge_selected(name, parse_version(version)?, parse_scan(from, to)?, names)
+            }
+            ["placed_merge_by_tables", name, version, from, to, names @ ..] => {
+                let selection = parse_by_tables(from, to)?;
+                self.merge_selected(name, parse_version(version)?, selection, names)
             }
             ["placed_by_tables", name, from, to, input] => {
                 self.open_range(name, parse_range(from, to)?, input)
@@ -42,14 +47,14 @@ impl Probe {
         Ok(true)
     }
 
-    fn merge_in_range(
+    fn merge_selected(
         &mut self,
         name: &str,
         version: FormatVersion,
-        range: HashRange,
+        selection: Selection,
         names: &[&str],
     ) -> std::result::Result<(), Stop> {
-        let bytes = merged(self.alloc, self.buffers(names)?.as_slice(), range, version)?;
+        let bytes = merged(self.alloc, self.buffers(names)?.as_slice(), selection, version)?;
         self.put_buffer(name, bytes)
     }
 
@@ -81,15 +86,15 @@ impl Probe {
     }
 }
 
-// The bytes of the records of a list of shards in a range.
+// The bytes of the merge of a list of shards.
 fn merged(
     alloc: Global,
     inputs: &[&[u8]],
-    range: HashRange,
+    selection: Selection,
     version: FormatVersion,
 ) -> Result<Vec<u8>> {
     let arena = Bump::new(alloc);
-    merge(alloc, &arena, inputs, &range)?.to_bytes(alloc, version)
+    merge(alloc, &arena, inputs, &selection)?.to_bytes(alloc, version)
 }
 
 // The bytes of the records in a range of a shard, found by its lookup tables.
@@ -100,15 +105,30 @@ fn found_by_tables(alloc: Global, bytes: &[u8], range: &HashRange) -> Result<Vec
 // The number of the bytes of a list of shards, which are put into memory if they fit.
 fn filled(alloc: Global, inputs: &[&[u8]], out: &mut [u8]) -> Result<usize> {
     let arena = Bump::new(alloc);
-    merge(alloc, &arena, inputs, &HashRange::ALL)?.write_into(alloc, FormatVersion::V3, out)
+    merge(alloc, &arena, inputs, &Selection::ALL)?.write_into(alloc, FormatVersion::V3, out)
 }
 
 fn parse_version(word: &str) -> std::result::Result<FormatVersion, Stop> {
     FormatVersion::of_number(parse_u64(word)?).ok_or(Stop::Unreadable)
 }
 
-/// The range from a hash on and below another; `-` is no bound.
-pub fn parse_range(from: &str, to: &str) -> std::result::Result<HashRange, Stop> {
+/// The range from a hash on and below another, by a scan; `-` is no bound.
+pub fn parse_scan(from: &str, to: &str) -> std::result::Result<Selection, Stop> {
+    Ok(Selection {
+        range: parse_range(from, to)?,
+        access: Access::Scan,
+    })
+}
+
+/// The same by lookup tables.
+pub fn parse_by_tables(from: &str, to: &str) -> std::result::Result<Selection, Stop> {
+    Ok(Selection {
+        range: parse_range(from, to)?,
+        access: Access::Tables,
+    })
+}
+
+fn parse_range(from: &str, to: &str) -> std::result::Result<HashRange, Stop> {
     Ok(HashRange {
         from: parse_bound(from)?,
         to: parse_bound(to)?,

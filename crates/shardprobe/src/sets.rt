@@ -1,10 +1,10 @@
 //! Unions of many buffers, by a tree, whether buffers agree, and what a check of one finds.
 
-use crate::placed::parse_range;
+use crate::placed::{parse_by_tables, parse_scan};
 use crate::probe::Probe;
 use crate::stop::Stop;
 use placed_shards::findings::{find_disagreements, find_malformed};
-use placed_shards::range::HashRange;
+use placed_shards::selection::Selection;
 use placed_shards::strict::Agreed;
 use script_lines::show::show_line;
 use script_lines::words::parse_u64;
@@ -20,15 +20,18 @@ impl Probe {
         match words {
             ["set_tree", name, words @ ..] => self.unite(name, words),
             ["set_agreeing", name, from, to, names @ ..] => {
-                self.unite_agreeing(name, parse_range(from, to)?, names, out)
+                self.unite_agreeing(name, parse_scan(from, to)?, names, out)
             }
-            ["disagreements", names @ ..] => self.show_disagreements(HashRange::ALL, names, out),
+            ["set_agreeing_by_tables", name, from, to, names @ ..] => {
+                self.unite_agreeing(name, parse_by_tables(from, to)?, names, out)
+            }
+            ["disagreements", names @ ..] => self.show_disagreements(Selection::ALL, names, out),
             ["disagreements_in", from, to, names @ ..] => {
-                self.show_disagreements(parse_range(from, to)?, names, out)
+                self.show_disagreements(parse_scan(from, to)?, names, out)
             }
-            ["malformed", names @ ..] => self.show_malformed(HashRange::ALL, names, out),
+            ["malformed", names @ ..] => self.show_malformed(Selection::ALL, names, out),
             ["malformed_in", from, to, names @ ..] => {
-                self.show_malformed(parse_range(from, to)?, names, out)
+                self.show_malformed(parse_scan(from, to)?, names, out)
             }
             ["check", name] => self.show_findings(name, out),
             _ => return Ok(false),
@@ -46,14 +49,14 @@ impl Probe {
     fn unite_agreeing(
         &mut self,
         name: &str,
-        range: HashRange,
+        selection: Selection,
         names: &[&str],
         out: &mut Vec<u8>,
     ) -> Result<(), Stop> {
         let merged = merge_agreeing_bytes(
             self.alloc,
             self.buffers(names)?.as_slice(),
-            &range,
+            &selection,
             FormatVersion::V3,
         )?;
         match merged {
@@ -65,21 +68,21 @@ impl Probe {
 
     fn show_disagreements(
         &self,
-        range: HashRange,
+        selection: Selection,
         names: &[&str],
         out: &mut Vec<u8>,
     ) -> Result<(), Stop> {
-        let found = find_disagreements(self.alloc, self.buffers(names)?.as_slice(), &range)?;
+        let found = find_disagreements(self.alloc, self.buffers(names)?.as_slice(), &selection)?;
         Ok(show_line(&found, out)?)
     }
 
     fn show_malformed(
         &self,
-        range: HashRange,
+        selection: Selection,
         names: &[&str],
         out: &mut Vec<u8>,
     ) -> Result<(), Stop> {
-        let found = find_malformed(self.alloc, self.buffers(names)?.as_slice(), &range)?;
+        let found = find_malformed(self.alloc, self.buffers(names)?.as_slice(), &selection)?;
         Ok(show_line(&found, out)?)
     }
 

@@ -5,7 +5,7 @@ ghost use Rattle.std.specs.Prelude.{◌≡◌, ◌<◌, ◌≤◌, ◌↔◌, No
 use mdb_base::failure::Failure;
 use mdb_base::input_failure::{disagreement_under, failure_on_malformed};
 use placed_shards::findings::{Disagreement, MalformedRecord, find_disagreements, find_malformed};
-use placed_shards::range::HashRange;
+use placed_shards::selection::Selection;
 use std::alloc::Global;
 use xet_core_structures::error::Result;
 
@@ -39,10 +39,10 @@ impl Findings {
 
     /// Adds what is found in the parts of the shards that a round merges.
     pub fn add(&mut self, alloc: Global, inputs: &[&[u8]]) -> Result<()> {
-        if let Some(found) = find_malformed(alloc, inputs, &HashRange::ALL)? {
+        if let Some(found) = find_malformed(alloc, inputs, &Selection::ALL)? {
             self.malformed = Some(first_of(self.malformed, found));
         }
-        let found = find_disagreements(alloc, inputs, &HashRange::ALL)?;
+        let found = find_disagreements(alloc, inputs, &Selection::ALL)?;
         self.add_disagreements(found.as_slice());
         Ok(())
     }

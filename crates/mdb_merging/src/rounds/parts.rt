@@ -16,7 +16,7 @@ use mdb_base::progress::{Progress, Stage};
 use mdb_base::request::{Merge, NewExpiry, Strictness};
 use mdb_base::shard_file::{Cursor, RoundFault, ShardFile};
 use mdb_report::fault::Fault;
-use placed_shards::range::HashRange;
+use placed_shards::selection::Selection;
 use placed_shards::strict::Agreed;
 use shard_assembly::assembly::Assembly;
 use shard_assembly::block::{Block, Mark};
@@ -153,7 +153,7 @@ impl<'a, F: Read + Write + Seek + Drop> Rounds<'a, F> {
         match merge_agreeing_bytes(
             rt.alloc(),
             inputs,
-            &HashRange::ALL,
+            &Selection::ALL,
             self.merge.target.version,
         ) {
             Ok(Agreed::Made(part)) => self.write_part(section, part),
@@ -201,7 +201,7 @@ impl<'a, F: Read + Write + Seek + Drop> Rounds<'a, F> {
         match merge_bytes(
             rt.alloc(),
             inputs,
-            &HashRange::ALL,
+            &Selection::ALL,
             self.merge.target.version,
         ) {
             Ok(part) => self.write_part(section, part),

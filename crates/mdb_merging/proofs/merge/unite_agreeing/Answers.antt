@@ -2,7 +2,7 @@ use Rattle.std.proofs.Common.{◌≡◌, ◌<◌, ◌∙◌, arith, map, inl, in
 use Rattle.placed_shards.specs.declared.findings.Disagreement.{Disagreement}
 use Rattle.placed_shards.specs.Content.{Content}
 use Rattle.placed_shards.specs.Findings.{AreOpened, HasAllDisagreements}
-use Rattle.placed_shards.specs.Ranges.{all_hashes}
+use Rattle.placed_shards.specs.Selections.{all_records}
 use Rattle.placed_shards.specs.Strict.{IsAgreedOr, IsJoinedMerge}
 use Rattle.shard_bytes.specs.Versions.{IsWrittenIn}
 use Rattle.mdb_report.specs.declared.fault.Fault.TheVariants.{Disagree}
@@ -11,7 +11,7 @@ use Rattle.mdb_base.specs.Merging.{SaysDisagree}
 use Rattle.mdb_merging.proofs.merge.unite_agreeing.Goals as goal
 
 -- the failure counts all that was found, and names the first
-says_disagree : (inputs : List (List ℕ)) (failure : Failure) (cs : List Content) → AreOpened all_hashes inputs cs → (found : List Disagreement) → 0 < length found → HasAllDisagreements cs found
+says_disagree : (inputs : List (List ℕ)) (failure : Failure) (cs : List Content) → AreOpened all_records inputs cs → (found : List Disagreement) → 0 < length found → HasAllDisagreements cs found
     → (first : Disagreement) (count : ℕ) → first ≡ slice_index_or found 0 first → count ≡ length found → failure.fault ≡ Disagree count first.record_hash → SaysDisagree inputs failure
 says_disagree inputs failure cs opened [] some all first count is counts fault = absurd (omega (arith, some))
 says_disagree inputs failure cs opened (f ∷ others) some all first count is counts fault =
@@ -20,7 +20,7 @@ says_disagree inputs failure cs opened (f ∷ others) some all first count is co
 pub returns-in-Ok-Disagreements : goal.returns-in-Ok-Disagreements
 returns-in-Ok-Disagreements c =
     let inputs : List (List ℕ) = map (λ (x : Bor (List ℕ)). x.now) c.args.inputs.now in
-    let (differ, some, (cs, opened, formed, all)) = subst (IsAgreedOr all_hashes inputs (λ bytes. IsWrittenIn c.args.target.version (IsJoinedMerge all_hashes inputs) bytes.items)) c.in-Ok-Disagreements.field-0-is c.in-Ok-Disagreements.ensures.merged in
+    let (differ, some, (cs, opened, formed, all)) = subst (IsAgreedOr all_records inputs (λ bytes. IsWrittenIn c.args.target.version (IsJoinedMerge all_records inputs) bytes.items)) c.in-Ok-Disagreements.field-0-is c.in-Ok-Disagreements.ensures.merged in
     let first = c.index.result.now in
     let is = subst (λ (v : Vec Disagreement Global). first ≡ slice_index_or v.items 0 first) c.in-Ok-Disagreements.found-is c.index.ensures in
     let counts = subst (λ (v : Vec Disagreement Global). c.len.result ≡ v.len) c.in-Ok-Disagreements.found-is c.len.ensures ∙ c.in-Ok-Disagreements.found.ok.0 in

@@ -4,7 +4,7 @@ use Rattle.std.specs.Prelude.{⊤}
 use Rattle.xet_core_structures.specs.declared.error.CoreError.{CoreError}
 use Rattle.placed_shards.specs.Findings.{FirstRefusal}
 use Rattle.placed_shards.specs.Merging.{IsMergeOf, MergeRefusal}
-use Rattle.placed_shards.specs.Ranges.{all_hashes}
+use Rattle.placed_shards.specs.Selections.{all_records}
 use Rattle.placed_shards.specs.Strict.{AgreedRefusal, IsJoinedMerge}
 use Rattle.xet_records.specs.declared.record_reader.FormatVersion.{FormatVersion}
 use Rattle.shard_bytes.specs.Versions.{NotWrittenIn}
@@ -12,8 +12,8 @@ use Rattle.mdb_merging.proofs.merge.unite_leniently.Goals as goal
 
 -- what a strict merge refuses for its inputs, or for their union, a lenient one refuses too
 lenient_refusal : (version : FormatVersion) (inputs : List (List ℕ)) (e : CoreError)
-    → AgreedRefusal all_hashes inputs (NotWrittenIn version (IsJoinedMerge all_hashes inputs) (MergeRefusal all_hashes inputs)) e
-    → FirstRefusal all_hashes (λ c. ⊤) inputs e ⊎ NotWrittenIn version (IsMergeOf all_hashes inputs) (MergeRefusal all_hashes inputs) e
+    → AgreedRefusal all_records inputs (NotWrittenIn version (IsJoinedMerge all_records inputs) (MergeRefusal all_records inputs)) e
+    → FirstRefusal all_records (λ c. ⊤) inputs e ⊎ NotWrittenIn version (IsMergeOf all_records inputs) (MergeRefusal all_records inputs) e
 lenient_refusal version inputs e (inl (inl none)) = inl (inl none)
 lenient_refusal version inputs e (inl (inr u)) =
     inl (inr (record { before = u.before; bytes = u.bytes; after = u.after; inputs_are = u.inputs_are; shards = u.shards; opened = u.opened; hold = λ k shard below. tt; refused = u.refused }))

@@ -43,11 +43,11 @@ loop-one-preserved g c = λ k r has k_at.
       | inl before ↦ c.loop-one.invariant k r before k_at
       | inr same ↦
           let placed_is : c.placed_at.result.now ≡ r = same_Some c.placed_at.result.now r (sym c.placed_at.ensures ∙ ap (record_at lists) same ∙ k_at) in
-          subst (λ s. agree s c.args.record.now) placed_is (c.in_ok-agree_apart.ensures.0 c.if-not-branch.false)
+          subst (λ s. agree s c.args.other.now) placed_is (c.in_ok-agree_apart.ensures.0 c.if-not-branch.false)
     ]
 
 pub returns : goal.returns
 returns g c =
     let lists = map g.P.Agreement.listed c.args.shards.now in
     let agree = AgreeAsRead g.P.PlacedRecord.kind g.P.Agreement.agree in
-    subst (λ l. AgreesWithAll agree lists l c.args.record.now) (take_all c.loop-one.one-index c.args.kept.now c.loop-one-test.false) c.loop-one.invariant
+    subst (λ l. AgreesWithAll agree lists l c.args.other.now) (take_all c.loop-one.one-index c.args.kept.now c.loop-one-test.false) c.loop-one.invariant

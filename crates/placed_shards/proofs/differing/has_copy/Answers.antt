@@ -30,7 +30,7 @@ loop-one-preserved g c = λ k has k_at.
     let lists = map g.P.Agreement.listed c.args.shards.now in
     elim (taken_cases kept i one k (slice_get-get_or kept i no_place c.loop-one-test.true) has) [
       | inl before ↦ c.loop-one.invariant k before k_at
-      | inr same ↦ true≢false (sym (c.are_copies.ensures.1 (same_Some c.placed_at.result.now c.args.record.now (sym c.placed_at.ensures ∙ ap (record_at lists) same ∙ k_at))) ∙ c.if-are_copies.false)
+      | inr same ↦ true≢false (sym (c.are_copies.ensures.1 (same_Some c.placed_at.result.now c.args.other.now (sym c.placed_at.ensures ∙ ap (record_at lists) same ∙ k_at))) ∙ c.if-are_copies.false)
     ]
 
 pub returns : goal.returns

@@ -4,4 +4,4 @@ use Rattle.placed_shards.proofs.OpenedInputs.{AreOpenedUpTo}
 use Rattle.placed_shards.proofs.findings.find_malformed.Given as goal
 
 abbrev pub invariant-loop-input : goal.invariant-loop-input
-invariant-loop-input l = AreOpenedUpTo l.range HasFormedRecords (map (λ x. x.now) l.inputs) l.input
+invariant-loop-input l = AreOpenedUpTo l.selection HasFormedRecords (map (λ x. x.now) l.inputs) l.input

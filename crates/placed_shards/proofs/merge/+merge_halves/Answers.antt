@@ -10,7 +10,7 @@ returns-then-is_empty t c = λ agreeing. of_none (no_bytes c.args.inputs.now (se
 
 pub returns-then-inputs-eq1 : goal.returns-then-inputs-eq1
 returns-then-inputs-eq1 t c =
-    alone c.args.range (bytes_of c.args.inputs.now) _ (only_bytes c.args.inputs.now _ (search rules)) c.args.strict c.open_alone.result c.open_alone.ensures
+    alone c.args.selection (bytes_of c.args.inputs.now) _ (only_bytes c.args.inputs.now _ (search rules)) c.args.strict c.open_alone.result c.open_alone.ensures
 
 pub returns-in_err-one : goal.returns-in_err-one
 returns-in_err-one t c =
@@ -19,7 +19,7 @@ returns-in_err-one t c =
     let seconds = c.split_at.result.1.now in
     let halves = halves_of c.args.inputs.now firsts seconds some c.split_at.ensures.front c.split_at.ensures.back in
     let p = err_from_is_err_and c.from_residual.result c.from_residual.ensures.1 in
-    rw (p.1, p.2) (not_first c.args.range (bytes_of c.args.inputs.now) (bytes_of firsts) (bytes_of seconds) halves c.args.strict _ c.in_err-one.ensures)
+    rw (p.1, p.2) (not_first c.args.selection (bytes_of c.args.inputs.now) (bytes_of firsts) (bytes_of seconds) halves c.args.strict _ c.in_err-one.ensures)
 
 pub returns-in_err-other : goal.returns-in_err-other
 returns-in_err-other t c =
@@ -29,7 +29,7 @@ returns-in_err-other t c =
     let halves = halves_of c.args.inputs.now firsts seconds some c.split_at.ensures.front c.split_at.ensures.back in
     let p = err_from_is_err_and c.from_residual-in_err-other.result c.from_residual-in_err-other.ensures.1 in
     rw (p.1, p.2)
-    (not_second c.args.range (bytes_of c.args.inputs.now) (bytes_of firsts) (bytes_of seconds) halves c.args.strict _ c.in_ok-one.one c.in_ok-one.ensures c.in_err-other.ensures)
+    (not_second c.args.selection (bytes_of c.args.inputs.now) (bytes_of firsts) (bytes_of seconds) halves c.args.strict _ c.in_ok-one.one c.in_ok-one.ensures c.in_err-other.ensures)
 
 pub returns-then-strict : goal.returns-then-strict
 returns-then-strict t c =
@@ -37,7 +37,7 @@ returns-then-strict t c =
     let firsts = c.split_at.result.0.now in
     let seconds = c.split_at.result.1.now in
     let halves = halves_of c.args.inputs.now firsts seconds some c.split_at.ensures.front c.split_at.ensures.back in
-    together_strictly c.args.range (bytes_of c.args.inputs.now) (bytes_of firsts) (bytes_of seconds) halves c.in_ok-one.one c.in_ok-other.other c.args.strict (search rules)
+    together_strictly c.args.selection (bytes_of c.args.inputs.now) (bytes_of firsts) (bytes_of seconds) halves c.in_ok-one.one c.in_ok-other.other c.args.strict (search rules)
     c.in_ok-one.ensures c.in_ok-other.ensures c.unite_shards.result c.unite_shards.ensures
 
 pub returns : goal.returns
@@ -46,5 +46,5 @@ returns t c =
     let firsts = c.split_at.result.0.now in
     let seconds = c.split_at.result.1.now in
     let halves = halves_of c.args.inputs.now firsts seconds some c.split_at.ensures.front c.split_at.ensures.back in
-    together c.args.range (bytes_of c.args.inputs.now) (bytes_of firsts) (bytes_of seconds) halves c.in_ok-one.one c.in_ok-other.other c.args.strict (search rules)
+    together c.args.selection (bytes_of c.args.inputs.now) (bytes_of firsts) (bytes_of seconds) halves c.in_ok-one.one c.in_ok-other.other c.args.strict (search rules)
     c.in_ok-one.ensures c.in_ok-other.ensures c.union.result c.union.ensures

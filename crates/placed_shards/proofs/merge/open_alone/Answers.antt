@@ -13,4 +13,4 @@ pub returns-then-is_some : goal.returns-then-is_some
 returns-then-is_some c = λ formed.
     let opened = c.in_ok-opened.ensures in
     let made = content c.in_ok-opened.opened in
-    absurd (found_malformed made c.malformed_in.result (search rules) c.malformed_in.ensures (formed (search rules) made (opened.opened, opened.opens, opened.is)))
+    absurd (found_malformed made c.malformed_in.result (search rules) c.malformed_in.ensures (formed (search rules) made opened.opens))

@@ -8,6 +8,6 @@ pub returns-in-Made-clause-size : goal.returns-in-Made-clause-size
 returns-in-Made-clause-size c =
     let a = c.args in
     let inputs : List (List ℕ) = map (λ (x : Bor (List ℕ)). x.now) a.shards.now in
-    let agreed = subst (IsAgreedOr a.range.now inputs (λ made. (made.as_read ≡ true) × IsJoinedMerge a.range.now inputs (content made))) c.in-Made.is c.in_ok-made.ensures in
+    let agreed = subst (IsAgreedOr a.selection.now inputs (λ made. (made.as_read ≡ true) × IsJoinedMerge a.selection.now inputs (content made))) c.in-Made.is c.in_ok-made.ensures in
     let written = c.in_ok-to_bytes-in-Made.ensures in
-    size_of_joined a.range.now inputs a.version _ (content c.in-Made.made, agreed.1.1, written.0, written.1)
+    size_of_joined a.selection.now inputs a.version _ (content c.in-Made.made, agreed.1.1, written.0, written.1)

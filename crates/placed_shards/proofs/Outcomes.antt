@@ -1,0 +1,17 @@
+-- What holds of all that a call may make, and of all its errors, holds of its outcome.
+use Rattle.std.proofs.Common.{ℕ, List, Ok, Err}
+use Rattle.std.specs.Prelude.{MatchResult}
+use Rattle.std.specs.declared.result.Result.{Result}
+use Rattle.std.specs.declared.vec.Vec.{Vec}
+use Rattle.xet_base.specs.declared.error.CoreError.{CoreError}
+use Rattle.placed_shards.specs.Filling.{FillsWith}
+
+pub if_written : {Z : Type 0} (A B : List ℕ → Type 0) (R S : CoreError → Type 0) (r : Result (Vec ℕ Z) CoreError) → ((bytes : List ℕ) → A bytes → B bytes) → ((e : CoreError) → R e → S e)
+    → MatchResult r (λ written. A written.items) R → MatchResult r (λ written. B written.items) S
+if_written A B R S (Ok written) made refused is = made written.items is
+if_written A B R S (Err e) made refused is = refused e is
+
+pub if_filled : (A B : List ℕ → Type 0) (R S : CoreError → Type 0) (old new : List ℕ) (r : Result ℕ CoreError) → ((bytes : List ℕ) → A bytes → B bytes) → ((e : CoreError) → R e → S e)
+    → FillsWith A R old new r → FillsWith B S old new r
+if_filled A B R S old new (Ok size) made refused (bytes, is, fills) = (bytes, made bytes is, fills)
+if_filled A B R S old new (Err e) made refused (is, stays) = (refused e is, stays)
