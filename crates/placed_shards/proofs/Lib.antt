@@ -11,6 +11,7 @@ pub mod Decoded
 pub mod DifferingFound
 pub mod Disagreements
 pub mod Equalities
+pub mod Equations
 pub mod FileParts
 pub mod Filling
 pub mod Filtered
@@ -18,6 +19,7 @@ pub mod FoundAgreeing
 pub mod FrontRows
 pub mod HashRanges
 pub mod HashRuns
+pub mod HeldParts
 pub mod InRows
 pub mod Items
 pub mod JoinedMerges
@@ -26,15 +28,19 @@ pub mod Keyed
 pub mod Latest
 pub mod MalformedRecords
 pub mod Marking
+pub mod MergeRanges
 pub mod MergeSizes
 pub mod Merges
+pub mod MergesByTables
 pub mod Mixes
 pub mod OneByTables
 pub mod OpenedInputs
 pub mod Opening
 pub mod Outcomes
 pub mod OwnTables
+pub mod PartsInARow
 pub mod RangeLists
+pub mod RangeUnions
 pub mod Sections
 pub mod Selections
 pub mod Shown

@@ -5,8 +5,10 @@ pub mod Content
 pub mod Filling
 pub mod Findings
 pub mod Given
+pub mod Laws
 pub mod Merging
 pub mod Opening
+pub mod Parts
 pub mod Placed
 pub mod Ranges
 pub mod Records

@@ -16,6 +16,11 @@ ghost use Rattle.placed_shards.specs.Selections.{merged_alone};
 ghost use Rattle.placed_shards.specs.Opening.{Opens};
 ghost use Rattle.placed_shards.specs.Ranges.{ranges_between, AreCuts};
 
+pub mod merges;
+pub mod parts;
+pub mod ranges;
+pub mod unions;
+pub mod written;
 
 /// Does nothing. Its contract says of [`open_by_tables`](crate::by_tables::open_by_tables), for
 /// ranges that follow one another and leave no hash out: if it opens bytes in each of them, these

@@ -1,0 +1,74 @@
+//! Laws of merges of lists.
+
+ghost use Rattle.std.specs.Prelude.{◌≡◌, ◌<◌, ℕ, List, flat_map, length, Contains, None};
+ghost use Rattle.std.specs.List.{AllZip};
+ghost use Rattle.xet_base.specs.declared.merklehash.DataHash.{DataHash};
+ghost use Rattle.xet_shards.specs.Content.Joins.{IsJoinOf, AgreePairwise};
+ghost use Rattle.xet_shards.specs.Content.Shard.{Shard};
+ghost use Rattle.xet_core_structures.specs.Records.ShardContents.{HoldsShard};
+ghost use Rattle.placed_shards.specs.declared.range.HashRange.{HashRange};
+ghost use Rattle.placed_shards.specs.declared.selection.Selection.{Selection};
+ghost use Rattle.placed_shards.specs.ByTables.{OpensByTables};
+ghost use Rattle.placed_shards.specs.Content.{Content, content_within};
+ghost use Rattle.placed_shards.specs.Merging.{HoldsSelected, IsMergeOf, IsMergeOfList, IsPartOf};
+ghost use Rattle.placed_shards.specs.Ranges.{is_within, ranges_between, AreCuts};
+ghost use Rattle.placed_shards.specs.Selections.{all_records, by_scan, by_tables, OpensWithin};
+
+/// Does nothing. Its contract says what a merge selects by a scan of bytes that hold well-formed
+/// shards under one key: of each, its records in the range (`one`). If the shards agree pairwise, so
+/// do these parts, and their join is the part of the shards' join (`list`); and with no bounds that is
+/// the join itself (`all`). So the premise of `one_byte_string` of [`merge`](crate::merge::merge)
+/// follows for bytes that any shard was written to.
+pub fn held_shards_are_selected()
+    ensures one { (range : HashRange) → (key : DataHash) → (s part : Shard) → (x : List ℕ)
+        → HoldsShard key s x → IsPartOf (is_within range) s part
+        → HoldsSelected (by_scan range) key x part }
+    ensures list { (range : HashRange) → (key : DataHash) → (shards : List Shard)
+        → (inputs : List (List ℕ)) → (join part : Shard) → 0 < length inputs
+        → AllZip (HoldsShard key) shards inputs → AgreePairwise (Contains shards)
+        → IsJoinOf (Contains shards) join → IsPartOf (is_within range) join part
+        → (parts : List Shard) × IsMergeOfList (by_scan range) key inputs parts part }
+    ensures all { (key : DataHash) → (shards : List Shard) → (inputs : List (List ℕ))
+        → (join : Shard) → 0 < length inputs → AllZip (HoldsShard key) shards inputs
+        → AgreePairwise (Contains shards) → IsJoinOf (Contains shards) join
+        → IsMergeOfList all_records key inputs shards join }
+{}
+
+/// Does nothing. Its contract says of merges by tables, for ranges that follow one another and leave
+/// no hash out: if there is one in each of them, each is the merge of its range by a scan
+/// (`lose_no_record`). In one range it is that also if the tables of each input find its records there
+/// (`find_records`), as those that it was written with do
+/// ([`own_tables_find_records`](crate::laws::own_tables_find_records)).
+pub fn merges_by_tables_are_merges()
+    ensures lose_no_record { (inputs : List (List ℕ)) → (cuts : List DataHash)
+        → (merges : List Content) → AreCuts None cuts None
+        → AllZip (λ range made. IsMergeOf (by_tables range) inputs made)
+        (ranges_between None cuts None) merges
+        → AllZip (λ range made. IsMergeOf (by_scan range) inputs made)
+        (ranges_between None cuts None) merges }
+    ensures find_records { (range : HashRange) → (inputs : List (List ℕ)) → (made : Content)
+        → ((x : List ℕ) → Contains inputs x → (c : Content) → OpensWithin range x c
+        → OpensByTables range x c) → IsMergeOf (by_scan range) inputs made
+        → IsMergeOf (by_tables range) inputs made }
+{}
+
+/// Does nothing. Its contract says how merges of ranges and the merge of all records go together,
+/// whether or not the inputs agree. Inputs have one merge (`one`). If there is one of all records, its
+/// records in a range are the merge of the range (`within`). So in ranges that follow one another and
+/// leave no hash out, the files of the merges, one after another, are those of the merge of all, and
+/// so are the xorbs (`files`, `xorbs`).
+pub fn merges_of_ranges_make_the_whole()
+    ensures one { (selection : Selection) → (inputs : List (List ℕ)) → (m n : Content)
+        → IsMergeOf selection inputs m → IsMergeOf selection inputs n → m ≡ n }
+    ensures within { (range : HashRange) → (inputs : List (List ℕ)) → (whole : Content)
+        → IsMergeOf all_records inputs whole
+        → IsMergeOf (by_scan range) inputs (content_within range whole) }
+    ensures files { (inputs : List (List ℕ)) → (whole : Content) → IsMergeOf all_records inputs whole
+        → (cuts : List DataHash) → (parts : List Content) → AreCuts None cuts None
+        → AllZip (λ range part. IsMergeOf (by_scan range) inputs part)
+        (ranges_between None cuts None) parts → flat_map (λ part. part.files) parts ≡ whole.files }
+    ensures xorbs { (inputs : List (List ℕ)) → (whole : Content) → IsMergeOf all_records inputs whole
+        → (cuts : List DataHash) → (parts : List Content) → AreCuts None cuts None
+        → AllZip (λ range part. IsMergeOf (by_scan range) inputs part)
+        (ranges_between None cuts None) parts → flat_map (λ part. part.xorbs) parts ≡ whole.xorbs }
+{}
