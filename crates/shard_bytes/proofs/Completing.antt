@@ -3,6 +3,7 @@ use Rattle.std.proofs.Common.{◌≡◌, inl, inr, ℕ, List, length, map, refl,
 use Rattle.std.specs.FinMap.{values}
 use Rattle.std.proofs.lemmas.List.{map-id}
 use Rattle.xet_base.specs.Hash.{IsHash}
+use Rattle.xet_core_structures.specs.TwoShards.ByteResults.{keyed_options}
 use Rattle.xet_core_structures.specs.declared.error.CoreError.{CoreError}
 use Rattle.xet_core_structures.specs.declared.error.CoreError.TheVariants.{OutOfMemory}
 use Rattle.xet_core_structures.specs.declared.file_structs.MDBFileInfo.{MDBFileInfo}
@@ -15,7 +16,6 @@ use Rattle.xet_core_structures.specs.Shard.{Shard, IsShard}
 use Rattle.xet_core_structures.specs.WithOptions.{FitsSection}
 use Rattle.xet_core_structures.specs.XorbRecord.{xorb_records}
 use Rattle.xet_records.specs.declared.record_reader.FormatVersion.TheVariants.{V3}
-use Rattle.shard_merging.specs.InARow.{options_under}
 use Rattle.xet_shards.specs.Export.Rewriting.{HasSections}
 use Rattle.xet_shards.proofs.Export.Rewriting.{only_sections}
 use Rattle.xet_shards.proofs.Read.Readback.{file_section_in, xorb_section_in}
@@ -32,15 +32,15 @@ use Rattle.shard_bytes.proofs.ExportedShards.{stored_files, stored_xorbs, sectio
 module _ (s : Shard) (shard : IsShard s) (bytes : List ℕ) (follows : FollowsHeader s bytes) where
   module _ (key : DataHash) (files : List MDBFileInfo) (xorbs : List MDBXorbInfo) (files_are : map as_read files ≡ values s.files) (xorbs_are : xorbs ≡ values s.xorbs)
       (files_fit : FitsSection (file_records_in V3) files) (xorbs_fit : FitsSection xorb_records xorbs) where
-    holds_whole : IsHash key → HoldsShard key s (layout_of files xorbs (options_under key))
+    holds_whole : IsHash key → HoldsShard key s (layout_of files xorbs (keyed_options key))
     holds_whole hash = record {
       shard = shard;
       has = record {
-        info = info_of files xorbs (options_under key);
-        ends = layout_ends files xorbs (options_under key) files_fit xorbs_fit hash (omega arith) (omega arith);
+        info = info_of files xorbs (keyed_options key);
+        ends = layout_ends files xorbs (keyed_options key) files_fit xorbs_fit hash (omega arith) (omega arith);
         holds = record {
-          files = record { stored = files; section = file_section_in files xorbs (options_under key) files_fit; returned = files_are; keyed = shard.files.keyed };
-          xorbs = record { stored = xorbs; section = xorb_section_in files xorbs (options_under key) xorbs_fit; returned = map-id xorbs ∙ xorbs_are; keyed = shard.xorbs.keyed };
+          files = record { stored = files; section = file_section_in files xorbs (keyed_options key) files_fit; returned = files_are; keyed = shard.files.keyed };
+          xorbs = record { stored = xorbs; section = xorb_section_in files xorbs (keyed_options key) xorbs_fit; returned = map-id xorbs ∙ xorbs_are; keyed = shard.xorbs.keyed };
         };
       };
       under = refl;
@@ -61,11 +61,11 @@ module _ (s : Shard) (shard : IsShard s) (bytes : List ℕ) (follows : FollowsHe
   only_memory_lacks e (inr (read, case)) = only_memory s bytes follows e read case
 
 -- what is written of the completed shard
-pub completes_made : (key : DataHash) (bytes : List ℕ) (made : Content) (out : List ℕ) → (files : List MDBFileInfo) × (xorbs : List MDBXorbInfo) × HasSections bytes files xorbs × (made ≡ record { files = files; xorbs = xorbs; options = options_under key })
+pub completes_made : (key : DataHash) (bytes : List ℕ) (made : Content) (out : List ℕ) → (files : List MDBFileInfo) × (xorbs : List MDBXorbInfo) × HasSections bytes files xorbs × (made ≡ record { files = files; xorbs = xorbs; options = keyed_options key })
     → out ≡ content_layout V3 made → Completes key bytes out
 completes_made key bytes made out (files, xorbs, sections, made_is) is = record { files = files; xorbs = xorbs; sections = sections; written = is ∙ ap (content_layout V3) made_is }
 
 pub size_completed : (key : DataHash) (bytes out : List ℕ) → Completes key bytes out → IsRewriteSize bytes (length out)
 size_completed key bytes out c =
     subst (λ (zs : List ℕ). IsRewriteSize bytes (length zs)) (sym c.written)
-    (size_of_version bytes c.sections.header.version c.files c.xorbs c.sections.file_section c.sections.xorb_section (options_under key))
+    (size_of_version bytes c.sections.header.version c.files c.xorbs c.sections.file_section c.sections.xorb_section (keyed_options key))

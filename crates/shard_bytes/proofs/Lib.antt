@@ -1,5 +1,4 @@
 pub mod Agreeing
-pub mod AuxRows
 pub mod Checking
 pub mod ChunkRows
 pub mod Combining
@@ -21,16 +20,12 @@ pub mod InParts
 pub mod Keeping
 pub mod Malformed
 pub mod MemoryErrors
-pub mod Merging
 pub mod MinimalCompositions
 pub mod MinimalSizes
 pub mod RangeReads
 pub mod Reading
 pub mod Recording
-pub mod RecordsLeft
 pub mod Reordered
-pub mod RowMerges
-pub mod RowSearch
 pub mod RewriteSizes
 pub mod Searching
 pub mod Sizes

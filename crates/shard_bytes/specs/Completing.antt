@@ -1,12 +1,12 @@
 -- The whole shard of bytes that may end anywhere behind its sections.
 use Rattle.std.specs.Prelude.{◌≡◌, ℕ, List}
+use Rattle.xet_core_structures.specs.TwoShards.ByteResults.{keyed_options}
 use Rattle.xet_core_structures.specs.declared.error.CoreError.{CoreError}
 use Rattle.xet_core_structures.specs.declared.file_structs.MDBFileInfo.{MDBFileInfo}
 use Rattle.xet_core_structures.specs.declared.merklehash.DataHash.{DataHash}
 use Rattle.xet_core_structures.specs.declared.xorb_structs.MDBXorbInfo.{MDBXorbInfo}
 use Rattle.xet_core_structures.specs.KeyedExport.{ExportCase}
 use Rattle.xet_core_structures.specs.Layout.{layout_of}
-use Rattle.shard_merging.specs.InARow.{options_under}
 use Rattle.xet_shards.specs.Export.Rewriting.{HasSections}
 use Rattle.shard_bytes.specs.Outcomes.{InMemory}
 
@@ -16,7 +16,7 @@ pub record Completes (key : DataHash) (bytes out : List ℕ) : Type 0 where
   pub files : List MDBFileInfo
   pub xorbs : List MDBXorbInfo
   pub sections : HasSections bytes files xorbs
-  pub written : out ≡ layout_of files xorbs (options_under key)
+  pub written : out ≡ layout_of files xorbs (keyed_options key)
 
 -- why bytes are not completed: an allocation failed, or the header or a section is not read
 abbrev pub RefusesCompletion : List ℕ → CoreError → Type 0

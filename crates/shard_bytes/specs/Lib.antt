@@ -7,14 +7,12 @@ pub mod Exporting
 pub mod Finding
 pub mod Format
 pub mod InARow
-pub mod Merging
 pub mod Minimal
 pub mod Outcomes
 pub mod Parts
 pub mod Query
 pub mod RangeReads
 pub mod Recording
-pub mod Rows
 pub mod Sizes
 pub mod Steps
 pub mod Versions

@@ -3,11 +3,11 @@
 ghost use Rattle.std.specs.Prelude.{◌≡◌, List, length, IfOk, MatchResult};
 ghost use Rattle.xet_core_structures.specs.declared.error.CoreError.{CoreError};
 ghost use Rattle.placed_shards.specs.Content.{content};
-ghost use Rattle.shard_merging.specs.InARow.{options_under};
 ghost use Rattle.xet_core_structures.specs.declared.file_structs.MDBFileInfo.{MDBFileInfo};
 ghost use Rattle.xet_core_structures.specs.declared.xorb_structs.MDBXorbInfo.{MDBXorbInfo};
 ghost use Rattle.xet_shards.specs.Export.Rewriting.{HasSections};
 ghost use Rattle.xet_core_structures.specs.Records.ShardContents.{HoldsShard};
+ghost use Rattle.xet_core_structures.specs.TwoShards.ByteResults.{keyed_options};
 ghost use Rattle.xet_core_structures.specs.Shard.{Shard, IsShard};
 ghost use Rattle.shard_bytes.specs.Completing.{Completes, RefusesCompletion};
 ghost use Rattle.shard_bytes.specs.Exporting.{FollowsHeader};
@@ -46,7 +46,7 @@ pub fn completed<'a>(alloc: Global, bytes: &'a [u8], key: HMACKey) -> Result<Pla
     ensures { MatchResult result
         (λ shard. (files : List MDBFileInfo) × (xorbs : List MDBXorbInfo)
         × HasSections bytes.now files xorbs
-        × (content shard ≡ record { files = files; xorbs = xorbs; options = options_under key }))
+        × (content shard ≡ record { files = files; xorbs = xorbs; options = keyed_options key }))
         (RefusesCompletion bytes.now) }
 {
     let shard = open_behind_header(alloc, bytes)?;

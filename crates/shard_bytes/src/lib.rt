@@ -3,7 +3,6 @@
 #![tactic(auto)]
 
 pub mod agree;
-mod aux_rows;
 pub mod check;
 pub mod chunk_rows;
 pub mod combine;
@@ -17,11 +16,8 @@ pub mod load;
 mod memory;
 pub mod merge;
 pub mod minimal;
-mod number;
 pub mod parts;
-mod plan;
 pub mod query;
 pub mod records;
-pub mod rows;
 pub mod version;
 pub mod walk;

@@ -1,9 +1,8 @@
 -- Steps towards what `Versions` defines, which only contracts inside the crate speak of.
-use Rattle.std.specs.Prelude.{◌≡◌, ℕ, ◌≤◌, Bool, false, List, length}
+use Rattle.std.specs.Prelude.{◌≡◌, ℕ, Bool, false, List}
 use Rattle.xet_core_structures.specs.declared.file_structs.MDBFileInfo.{MDBFileInfo}
 use Rattle.xet_core_structures.specs.declared.xorb_structs.MDBXorbInfo.{MDBXorbInfo}
 use Rattle.xet_core_structures.specs.Layout.{layout_of}
-use Rattle.shard_merging.specs.Steps.InVersions.{with_number_2}
 use Rattle.xet_records.specs.declared.record_reader.FormatVersion.{FormatVersion}
 use Rattle.xet_records.specs.declared.record_reader.FormatVersion.TheVariants.{V2, V3}
 use Rattle.xet_shards.specs.declared.shard_writer.LayoutOptions.{LayoutOptions}
@@ -13,11 +12,6 @@ use Rattle.shard_bytes.specs.Versions.{have_aux_rows}
 abbrev pub has_new_files : FormatVersion → List MDBFileInfo → Bool
 has_new_files V2 files = have_aux_rows files
 has_new_files V3 files = false
-
--- bytes in version 3, if they have a header, with the number of a version in it
-abbrev pub IsNumberedIn : FormatVersion → List ℕ → List ℕ → Type 0
-IsNumberedIn V2 bytes out = 48 ≤ length bytes → out ≡ with_number_2 bytes
-IsNumberedIn V3 bytes out = out ≡ bytes
 
 -- the bytes of files and xorbs in a version, which has the files
 abbrev pub IsLayoutWith : FormatVersion → List MDBFileInfo → List MDBXorbInfo → LayoutOptions

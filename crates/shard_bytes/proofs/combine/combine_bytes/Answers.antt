@@ -1,7 +1,7 @@
 use Rattle.std.proofs.Common.{inl, refl}
 use Rattle.std.proofs.lemmas.Result.{err_from_is_err_and}
 use Rattle.placed_shards.specs.Content.{content}
-use Rattle.shard_merging.proofs.Trees.InVersions.{if_written}
+use Rattle.placed_shards.proofs.Outcomes.{if_written}
 use Rattle.shard_bytes.specs.Combining.{CombinesTo, RefusesCombining}
 use Rattle.shard_bytes.specs.Versions.{IsWrittenIn, NotWrittenIn}
 use Rattle.shard_bytes.proofs.Combining.{size_of_result}

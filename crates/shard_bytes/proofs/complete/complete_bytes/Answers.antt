@@ -3,7 +3,7 @@ use Rattle.std.proofs.lemmas.Result.{err_from_is_err_and}
 use Rattle.xet_core_structures.specs.declared.error.CoreError.TheVariants.{OutOfMemory}
 use Rattle.xet_records.specs.declared.record_reader.FormatVersion.TheVariants.{V3}
 use Rattle.xet_core_structures.specs.Hash.{IsHash}
-use Rattle.shard_merging.proofs.Trees.InVersions.{if_written}
+use Rattle.placed_shards.proofs.Outcomes.{if_written}
 use Rattle.placed_shards.specs.Content.{content}
 use Rattle.shard_bytes.specs.Completing.{Completes, RefusesCompletion}
 use Rattle.xet_core_structures.specs.Records.ShardContents.{HoldsShard}

@@ -2,7 +2,7 @@ use Rattle.std.proofs.Common.{◌≡◌, inl, refl}
 use Rattle.std.proofs.lemmas.Result.{err_from_is_err_and}
 use Rattle.xet_core_structures.specs.declared.error.CoreError.TheVariants.{OutOfMemory}
 use Rattle.placed_shards.specs.Content.{content}
-use Rattle.shard_merging.proofs.Trees.InVersions.{if_written}
+use Rattle.placed_shards.proofs.Outcomes.{if_written}
 use Rattle.shard_bytes.specs.Exporting.{ExportsBytes, HoldsExport, RefusesExport}
 use Rattle.shard_bytes.specs.Sizes.{IsRewriteSize}
 use Rattle.shard_bytes.specs.Versions.{LaidOutIn, NotLaidOutIn}

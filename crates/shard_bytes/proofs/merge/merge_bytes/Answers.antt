@@ -5,7 +5,7 @@ use Rattle.placed_shards.specs.Merging.{IsMergeOf, MergeRefusal, shard_content}
 use Rattle.placed_shards.specs.Merging.MergeRefusal.{no_memory}
 use Rattle.placed_shards.specs.Sizes.{IsResultSize}
 use Rattle.xet_core_structures.specs.Trees.MergeTrees.{MergeRefused}
-use Rattle.shard_merging.proofs.Trees.InVersions.{if_written}
+use Rattle.placed_shards.proofs.Outcomes.{if_written}
 use Rattle.shard_bytes.specs.Versions.{IsWrittenIn, NotWrittenIn}
 use Rattle.shard_bytes.proofs.Compositions.{IsWritten, IsNotWritten, written_of, not_written_of}
 use Rattle.shard_bytes.proofs.Sizes.{if_made}
@@ -26,8 +26,8 @@ returns-clause-merged c =
     let a = c.args in
     let inputs : List (List ℕ) = map (λ (x : Bor (List ℕ)). x.now) a.shards.now in
     let made = content c.in_ok-merge.field-0 in
-    let IsMade = IsMergeOf a.range.now inputs in
-    let Refuses = MergeRefusal a.range.now inputs in
+    let IsMade = IsMergeOf a.selection.now inputs in
+    let Refuses = MergeRefusal a.selection.now inputs in
     let is = c.in_ok-merge.ensures.any_bytes.1 in
     if_written (IsWritten a.version made) (IsWrittenIn a.version IsMade) (IsNotWritten a.version made) (NotWrittenIn a.version IsMade Refuses) c.to_bytes.result
     (written_of a.version IsMade made is) (not_written_of a.version IsMade made is Refuses (no_memory refl)) c.to_bytes.ensures

@@ -1,5 +1,5 @@
 use Rattle.placed_shards.specs.Content.{content}
-use Rattle.shard_merging.proofs.Trees.InVersions.{if_written}
+use Rattle.placed_shards.proofs.Outcomes.{if_written}
 use Rattle.xet_core_structures.specs.KeyedExport.{ExportCase}
 use Rattle.shard_bytes.specs.Minimal.{SubsetBytes}
 use Rattle.shard_bytes.specs.Outcomes.{InMemory}

@@ -2,7 +2,7 @@ use Rattle.std.proofs.Common.{inl, refl}
 use Rattle.std.proofs.lemmas.Result.{err_from_is_err_and}
 use Rattle.placed_shards.specs.Content.{content}
 use Rattle.shard_bytes.specs.Versions.{IsSameShard, RefusesSameShard, IsInVersion, RefusesVersion}
-use Rattle.shard_merging.proofs.Trees.InVersions.{if_written}
+use Rattle.placed_shards.proofs.Outcomes.{if_written}
 use Rattle.shard_bytes.proofs.Compositions.{IsWritten, IsNotWritten, written_of, not_written_of, size_in_version}
 use Rattle.shard_bytes.proofs.Sizes.{if_made}
 use Rattle.shard_bytes.proofs.version.bytes_in_version.Goals as goal

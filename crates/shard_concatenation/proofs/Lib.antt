@@ -1,0 +1,13 @@
+pub mod ChunkChecking
+pub mod ChunkMerging
+pub mod Concatenation
+pub mod GatheredParts
+pub mod Versions
+pub mod PartFilling
+pub mod PartOrder
+pub mod PartSplit
+pub mod Permutations
+pub mod RangeParts
+pub mod RowShard
+pub mod SectionParts
+pub mod TableMerge

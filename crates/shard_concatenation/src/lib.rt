@@ -1,0 +1,18 @@
+//! Concatenation: shards whose records follow one another, put together without reading them as records.
+//!
+//! Sections are copied without their bookends. Row numbers in the tables are raised by the rows of
+//! the shards before, and the chunk tables are merged. The memory is a few hundred bytes a shard.
+#![tactic(auto)]
+
+mod chunk_merging;
+mod filling;
+mod gathering;
+pub mod laws;
+mod part_order;
+mod part_split;
+mod parts;
+mod section_parts;
+mod table_merge;
+mod version;
+
+pub use filling::shards_in_a_row_into;

@@ -1,5 +1,0 @@
--- What joins several calls.
-
-pub mod RangeSizes
-pub mod RowRanges
-pub mod RowSizes

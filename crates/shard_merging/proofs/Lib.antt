@@ -1,4 +1,0 @@
-pub mod LawProofs
-pub mod Records
-pub mod Trees
-pub mod InARow

@@ -1,9 +1,0 @@
-use Rattle.std.proofs.Common.{◌≡◌, List, All, map, take}
-use Rattle.shard_merging.specs.InARow.{ShardPart, bytes_of_part, IsPartUnder}
-use Rattle.shard_merging.specs.Steps.Gathering.{HasSizes, HasGathered}
-use Rattle.shard_merging.proofs.in_a_row.gathering.gather.Given as goal
-
-abbrev pub invariant-loop-shard : goal.invariant-loop-shard
-invariant-loop-shard l = ((parts : List ShardPart) → All (IsPartUnder l.key) parts → map bytes_of_part parts ≡ map (λ x. x.now) l.shards
-    → HasGathered l.files.items l.xorbs.items l.cursors.items l.totals (take l.shard-index parts))
-    × HasSizes l.files.items l.xorbs.items l.totals

@@ -1,5 +1,0 @@
--- Trees of unions.
-
-pub mod RangeTrees
-pub mod RowTrees
-pub mod InVersions
