@@ -7,7 +7,8 @@
 #include <stdlib.h>
 #include <string.h>
 
-enum { ROOM = 1 << 20, CALLS = 46 };
+/* The first calls write no count, and the last four do not allocate. */
+enum { ROOM = 1 << 20, COUNTING = 5, ALLOCATING = 29, CALLS = ALLOCATING + 4 };
 
 void *__real_malloc(size_t size);
 void *__real_realloc(void *block, size_t size);
@@ -47,7 +48,6 @@ static union {
     xet_chunk_row rows[1000];
     xet_chunk_place places[8];
     uint32_t starts[8];
-    xet_rows ends[2];
     struct {
         xet_file file;
         xet_file_segment segments[100];
@@ -77,10 +77,6 @@ static xet_listed_xorb xorbs[100];
 static xet_chunk chunks_of_xorbs[1000];
 static xet_counts counts;
 static xet_info info;
-/* The rows before which the records of each shard are. */
-static xet_rows ends[2];
-
-static const xet_range all = {{0}, {0}, false, false};
 
 static size_t read_shard(const char *name, uint8_t *bytes) {
     FILE *file = fopen(name, "rb");
@@ -90,127 +86,94 @@ static size_t read_shard(const char *name, uint8_t *bytes) {
     return length;
 }
 
-static uint32_t find_ends(xet_rows *found, size_t *count) {
-    const xet_bytes both[2] = {{first, first_length}, {second, second_length}};
-    return xet_find_ends(both, 2, &all, found, 2, count);
-}
-
 static uint32_t call(int number, size_t *count) {
-    const xet_export_options options = {{7, 1, 0, 0}, 1000, 60, true, true, true, true};
-    const xet_subset_options times = {9, 0, false};
+    const xet_export_options export = {.key = {7, 1, 0, 0}, .now = 1000, .valid_seconds = 60};
+    const xet_minimal_options minimal = {.now = 9, .verification = true};
+    const xet_subset_options subset = {.now = 9};
+    const xet_merge_options strict = {.strict = true}, by_tables = {.by_tables = true};
     const xet_hash file = {{100, 1, 0, 0}}, chunks[2] = {{{21, 1, 0, 0}}, {{22, 1, 0, 0}}}, xorb = {{10, 1, 0, 0}};
     const xet_bytes both[2] = {{first, first_length}, {second, second_length}};
     const xet_bytes twice[2] = {{first, first_length}, {first, first_length}};
     size_t differing = 0;
     const char *name = "0000000000000001000000000000000200000000000000030000000000000004.mdb";
-    /* These write no count. */
-    if (number == 6 || (number > 25 && number < 30) || number > 41)
+    if (number < COUNTING || number >= ALLOCATING)
         *count = 0;
     switch (number) {
     case 0:
-        return xet_union(first, first_length, second, second_length, out.bytes, ROOM, count);
-    case 1:
-        return xet_difference(first, first_length, second, second_length, out.bytes, ROOM, count);
-    case 2:
-        return xet_export(first, first_length, &options, out.bytes, ROOM, count);
-    case 3:
-        return xet_minimal(first, first_length, 9, true, true, out.bytes, ROOM, count);
-    case 4:
-        return xet_eligible(first, first_length, out.hashes, 100, count);
-    case 5:
-        return xet_query_chunks(first, first_length, chunks, 2, count, &out.run);
-    case 6:
         return xet_find_file(first, first_length, &file, &out.found.file, out.found.segments, 100);
+    case 1:
+        return xet_file_at(first, first_length, 0, &out.listed.place, &out.listed.file, out.listed.segments, 100);
+    case 2:
+        return xet_xorb_at(first, first_length, 0, &out.listed.place, &out.listed.xorb, out.listed.chunks, 100);
+    case 3:
+        return xet_file_in(first + info.file_section, info.xorb_section - info.file_section, 3, &out.listed.place,
+                           &out.listed.file, out.listed.segments, 100);
+    case 4:
+        return xet_xorb_in(first + info.xorb_section, info.file_table - info.xorb_section, &out.listed.place,
+                           &out.listed.xorb, out.listed.chunks, 100);
+    case 5:
+        return xet_merge_all(both, 2, 3, out.bytes, ROOM, count);
+    case 6:
+        return xet_merge(twice, 2, &strict, 3, out.agreeing.bytes, ROOM, count, &differing, &out.agreeing.first);
     case 7:
-        return xet_merge(both, 2, out.bytes, ROOM, count);
+        return xet_merge(both, 2, &by_tables, 3, out.agreeing.bytes, ROOM, count, &differing, &out.agreeing.first);
     case 8:
-        return xet_subset(first, first_length, &times, &xorb, 1, out.bytes, ROOM, count);
+        return xet_union(first, first_length, second, second_length, 3, out.bytes, ROOM, count);
     case 9:
-        return xet_hash_to_hex(&file, out.bytes, ROOM, count);
+        return xet_difference(first, first_length, second, second_length, 2, out.bytes, ROOM, count);
     case 10:
-        return xet_shard_name(&file, out.bytes, ROOM, count);
+        return xet_concatenate(both, 1, out.bytes, ROOM, count);
     case 11:
-        return xet_merge_agreeing(twice, 2, out.agreeing.bytes, ROOM, count, &differing, &out.agreeing.first);
-    case 12:
-        return xet_find_disagreement(twice, 2, count, &out.agreeing.first);
+        return xet_find_disagreements(both, 2, out.disagreements, 100, count);
+    case 12: {
+        bool malformed = true;
+        uint32_t error = xet_find_malformed(twice, 2, &malformed, &out.agreeing.first);
+        *count = malformed;
+        return error;
+    }
     case 13:
-        return xet_write_v2(second, second_length, out.bytes, ROOM, count);
+        return xet_export(first, first_length, &export, 3, out.bytes, ROOM, count);
     case 14:
-        return xet_check(second, second_length, out.findings, 100, count);
+        return xet_minimal(first, first_length, &minimal, 3, out.bytes, ROOM, count);
     case 15:
+        return xet_subset(first, first_length, &subset, &xorb, 1, 2, out.bytes, ROOM, count);
+    case 16:
+        return xet_convert(second, second_length, 2, out.bytes, ROOM, count);
+    case 17:
+        return xet_complete(first, first_length, &file, 3, out.bytes, ROOM, count);
+    case 18:
         return xet_write(files, counts.files, segments, counts.segments, xorbs, counts.xorbs, chunks_of_xorbs,
-                         counts.chunks, UINT64_MAX, out.bytes, ROOM, count);
-    case 16: {
+                         counts.chunks, UINT64_MAX, 3, out.bytes, ROOM, count);
+    case 19: {
         xet_counts found;
         uint32_t error = xet_records(first, first_length, out.lists.files, 100, out.lists.segments, 1000,
                                      out.lists.xorbs, 100, out.lists.chunks, 1000, &found);
         *count = found.files + found.segments + found.xorbs + found.chunks;
         return error;
     }
-    case 17:
-        return xet_merge_range(both, 2, &all, out.bytes, ROOM, count);
-    case 18:
-        return xet_query_at(first, first_length, chunks, 2, 0, 0, count, &out.run);
-    case 19:
-        return xet_chunk_rows(first, first_length, out.rows, 1000, count);
     case 20:
-        return xet_find_rows(first + info.file_table, 12 * info.files, 100, out.starts, 8, count);
+        return xet_check(second, second_length, out.findings, 100, count);
     case 21:
-        return xet_find_places(first + info.chunk_table, 16 * info.chunks, 21, out.places, 8, count);
+        return xet_eligible(first, first_length, out.hashes, 100, count);
     case 22:
-        return xet_concatenate(both, 1, out.bytes, ROOM, count);
-    case 23: {
-        bool malformed = true;
-        uint32_t error = xet_find_malformed(twice, 2, &malformed, &out.agreeing.first);
-        *count = malformed;
-        return error;
-    }
+        return xet_query_chunks(first, first_length, chunks, 2, count, &out.run);
+    case 23:
+        return xet_query_at(first, first_length, chunks, 2, 0, 0, count, &out.run);
     case 24:
-        return xet_find_disagreements(both, 2, out.disagreements, 100, count);
+        return xet_chunk_rows(first, first_length, out.rows, 1000, count);
     case 25:
-        return xet_complete(first, first_length, &file, out.bytes, ROOM, count);
+        return xet_find_rows(first + info.file_table, 12 * info.files, 100, out.starts, 8, count);
     case 26:
-        return xet_file_at(first, first_length, 0, &out.listed.place, &out.listed.file, out.listed.segments, 100);
+        return xet_find_places(first + info.chunk_table, 16 * info.chunks, 21, out.places, 8, count);
     case 27:
-        return xet_xorb_at(first, first_length, 0, &out.listed.place, &out.listed.xorb, out.listed.chunks, 100);
+        return xet_hash_to_hex(&file, out.bytes, ROOM, count);
     case 28:
-        return xet_file_in(first + info.file_section, info.xorb_section - info.file_section, 3, &out.listed.place,
-                           &out.listed.file, out.listed.segments, 100);
-    case 29:
-        return xet_xorb_in(first + info.xorb_section, info.file_table - info.xorb_section, &out.listed.place,
-                           &out.listed.xorb, out.listed.chunks, 100);
-    case 30:
-        return xet_merge_in(both, 2, 3, out.bytes, ROOM, count);
-    case 31:
-        return xet_merge_range_in(both, 2, &all, 3, out.bytes, ROOM, count);
-    case 32:
-        return xet_write_in(files, counts.files, segments, counts.segments, xorbs, counts.xorbs, chunks_of_xorbs,
-                            counts.chunks, 3, UINT64_MAX, out.bytes, ROOM, count);
-    case 33:
-        return xet_union_in(first, first_length, second, second_length, 3, out.bytes, ROOM, count);
-    case 34:
-        return xet_difference_in(first, first_length, second, second_length, 2, out.bytes, ROOM, count);
-    case 35:
-        return xet_concatenate_in(both + 1, 1, 2, out.bytes, ROOM, count);
-    case 36:
-        return xet_merge_agreeing_in(twice, 2, 3, out.agreeing.bytes, ROOM, count, &differing, &out.agreeing.first);
-    case 37:
-        return xet_export_in(second, second_length, &options, 2, out.bytes, ROOM, count);
-    case 38:
-        return xet_minimal_in(first, first_length, 9, true, false, 2, out.bytes, ROOM, count);
-    case 39:
-        return xet_subset_in(first, first_length, &times, &xorb, 1, 2, out.bytes, ROOM, count);
-    case 40:
-        return find_ends(out.ends, count);
-    case 41: {
-        const xet_rows starts[2] = {{0, 0}, {0, 0}};
-        return xet_merge_rows(both, 2, starts, 2, ends, 2, &all, out.bytes, ROOM, count);
-    }
-    case 42:
+        return xet_shard_name(&file, out.bytes, ROOM, count);
+    case ALLOCATING:
         return xet_hash_from_hex((const uint8_t *)name, 64, out.hashes);
-    case 43:
+    case ALLOCATING + 1:
         return xet_parse_shard_name((const uint8_t *)name, 68, out.hashes);
-    case 44:
+    case ALLOCATING + 2:
         return xet_hash_bytes(&file, first, first_length, out.hashes) | xet_hmac(&file, chunks, out.hashes);
     default:
         return xet_version() == XET_VERSION_NUMBER ? xet_load(first, first_length, &out.info) : XET_OTHER;
@@ -225,9 +188,6 @@ int main(int words, char **names) {
     if (xet_load(first, first_length, &info) != 0)
         return 2;
     if (xet_records(first, first_length, files, 100, segments, 1000, xorbs, 100, chunks_of_xorbs, 1000, &counts) != 0)
-        return 2;
-    size_t found;
-    if (find_ends(ends, &found) != 0)
         return 2;
     for (int number = 0; number < CALLS; number++) {
         long turn = 0;

@@ -3,8 +3,9 @@
 # the very sources that are here.
 #
 #   build.sh           puts libxet.a into bindings/out, and libxet.so.0 beside the Python module
-#   build.sh PREFIX    installs PREFIX/include/xet.h, PREFIX/lib/libxet.a and libxet.so, and PREFIX/lib/pkgconfig/xet.pc;
-#                      $DESTDIR is set before PREFIX where they are to be moved there later
+#   build.sh PREFIX    installs PREFIX/include/xet.h, PREFIX/lib/libxet.a and libxet.so, and the files by which pkg-config
+#                      and CMake find them, PREFIX/lib/pkgconfig/xet.pc and PREFIX/lib/cmake/xet; $DESTDIR is set before
+#                      PREFIX where they are to be moved there later
 #
 # $CC is the C compiler, else cc. Needs the Rattle toolchain on the path.
 set -e
@@ -74,11 +75,37 @@ Version: $version
 Cflags: -I\${includedir}
 Libs: -L\${libdir} -lxet
 END
+cat >xet-config.cmake <<END
+# The targets xet::xet, the shared object, and xet::static, the archive.
+get_filename_component(xet_LIB_DIR "\${CMAKE_CURRENT_LIST_DIR}/../.." ABSOLUTE)
+find_path(xet_INCLUDE_DIR xet.h HINTS "\${xet_LIB_DIR}/../include" "\${xet_LIB_DIR}/../../include" NO_DEFAULT_PATH)
+if(NOT TARGET xet::xet)
+  add_library(xet::xet SHARED IMPORTED)
+  set_target_properties(xet::xet PROPERTIES IMPORTED_LOCATION "\${xet_LIB_DIR}/libxet.so.$version"
+    IMPORTED_SONAME "$soname" INTERFACE_INCLUDE_DIRECTORIES "\${xet_INCLUDE_DIR}")
+  add_library(xet::static STATIC IMPORTED)
+  set_target_properties(xet::static PROPERTIES IMPORTED_LOCATION "\${xet_LIB_DIR}/libxet.a"
+    INTERFACE_INCLUDE_DIRECTORIES "\${xet_INCLUDE_DIR}")
+endif()
+END
+# A program takes its version or a later one with the same first number.
+cat >xet-config-version.cmake <<END
+set(PACKAGE_VERSION "$version")
+if(PACKAGE_FIND_VERSION VERSION_EQUAL PACKAGE_VERSION)
+  set(PACKAGE_VERSION_EXACT TRUE)
+endif()
+if(PACKAGE_FIND_VERSION VERSION_LESS_EQUAL PACKAGE_VERSION AND
+   (PACKAGE_FIND_VERSION_MAJOR STREQUAL "" OR PACKAGE_FIND_VERSION_MAJOR EQUAL ${version%%.*}))
+  set(PACKAGE_VERSION_COMPATIBLE TRUE)
+endif()
+END
 to=$DESTDIR$prefix
-mkdir -p "$to/include" "$to/lib/pkgconfig"
+mkdir -p "$to/include" "$to/lib/pkgconfig" "$to/lib/cmake/xet"
 put "$top/bindings/c/xet.h" "$to/include/xet.h"
 put libxet.a "$to/lib/libxet.a"
 put "libxet.so.$version" "$to/lib/libxet.so.$version"
 ln -sf "libxet.so.$version" "$to/lib/$soname"
 ln -sf "$soname" "$to/lib/libxet.so"
 put xet.pc "$to/lib/pkgconfig/xet.pc"
+put xet-config.cmake "$to/lib/cmake/xet/xet-config.cmake"
+put xet-config-version.cmake "$to/lib/cmake/xet/xet-config-version.cmake"

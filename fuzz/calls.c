@@ -21,6 +21,7 @@ enum {
     OF_LOADING = BIT(XET_OK) | BIT(XET_IO) | BIT(XET_SHARD_VERSION),
     OF_SECTIONS = OF_LOADING | BIT(XET_INVALID_SHARD),
     OF_MERGING = OF_SECTIONS | BIT(XET_INVALID_ARGUMENTS),
+    OF_STRICT_MERGING = OF_MERGING | BIT(XET_DISAGREE) | BIT(XET_MALFORMED),
     OF_FINDING = OF_SECTIONS | BIT(XET_TRUNCATED_HASH_COLLISION) | BIT(XET_INTERNAL_ERROR),
 };
 
@@ -43,7 +44,7 @@ struct filling {
     size_t item;
     uint32_t allowed;
     uint32_t (*call)(const struct input *input, void *out, size_t capacity, size_t *written);
-    uint64_t version; /* of the shard that it writes, or 0 */
+    enum { NO_SHARD, AS_ASKED, OF_INPUTS } version; /* of the shard that it writes */
 };
 
 #define SHARD(at) input->shards[at].bytes, input->shards[at].length
@@ -58,22 +59,12 @@ static uint32_t within_room(uint32_t error, size_t bytes, size_t written) {
 }
 
 static uint32_t call_union(const struct input *input, void *out, size_t capacity, size_t *written) {
-    uint32_t error = xet_union(SHARD(0), SHARD(1), out, capacity, written);
-    return within_room(error, input->shards[0].length + input->shards[1].length, *written);
-}
-
-static uint32_t call_union_in(const struct input *input, void *out, size_t capacity, size_t *written) {
-    uint32_t error = xet_union_in(SHARD(0), SHARD(1), 2, out, capacity, written);
+    uint32_t error = xet_union(SHARD(0), SHARD(1), input->version, out, capacity, written);
     return within_room(error, input->shards[0].length + input->shards[1].length, *written);
 }
 
 static uint32_t call_difference(const struct input *input, void *out, size_t capacity, size_t *written) {
-    uint32_t error = xet_difference(SHARD(0), SHARD(1), out, capacity, written);
-    return within_room(error, input->shards[1].length, *written);
-}
-
-static uint32_t call_difference_in(const struct input *input, void *out, size_t capacity, size_t *written) {
-    uint32_t error = xet_difference_in(SHARD(0), SHARD(1), 2, out, capacity, written);
+    uint32_t error = xet_difference(SHARD(0), SHARD(1), input->version, out, capacity, written);
     return within_room(error, input->shards[1].length, *written);
 }
 
@@ -89,77 +80,17 @@ static size_t bytes_of(const xet_bytes *list, size_t count) {
     return bytes;
 }
 
-static uint32_t call_merge(const struct input *input, void *out, size_t capacity, size_t *written) {
+static uint32_t call_merge_all(const struct input *input, void *out, size_t capacity, size_t *written) {
     xet_bytes list[SHARDS];
     list_shards(input, list);
-    uint32_t error = xet_merge(list, input->count, out, capacity, written);
+    uint32_t error = xet_merge_all(list, input->count, input->version, out, capacity, written);
     return within_room(error, bytes_of(list, input->count), *written);
-}
-
-static uint32_t call_merge_in(const struct input *input, void *out, size_t capacity, size_t *written) {
-    xet_bytes list[SHARDS];
-    list_shards(input, list);
-    uint32_t error = xet_merge_in(list, input->count, 2, out, capacity, written);
-    return within_room(error, bytes_of(list, input->count), *written);
-}
-
-/* The range is from the file's hash on, below it, or both, which has no hash; or it has all. */
-static uint32_t call_merge_range(const struct input *input, void *out, size_t capacity, size_t *written) {
-    xet_bytes list[SHARDS];
-    list_shards(input, list);
-    xet_range range = {.has_from = input->verification, .has_to = input->aux_rows};
-    memcpy(range.from, input->file.words, sizeof range.from);
-    memcpy(range.to, input->file.words, sizeof range.to);
-    uint32_t error = xet_merge_range(list, input->count, &range, out, capacity, written);
-    return within_room(error, bytes_of(list, input->count), *written);
-}
-
-static uint32_t call_merge_range_in(const struct input *input, void *out, size_t capacity, size_t *written) {
-    xet_bytes list[SHARDS];
-    list_shards(input, list);
-    xet_range all = {.has_from = false, .has_to = false};
-    uint32_t error = xet_merge_range_in(list, input->count, &all, 2, out, capacity, written);
-    return within_room(error, bytes_of(list, input->count), *written);
-}
-
-/* The rows of the same range, as the tables of the shards have them. */
-static uint32_t call_merge_rows(const struct input *input, void *out, size_t capacity, size_t *written) {
-    xet_bytes list[SHARDS];
-    list_shards(input, list);
-    xet_range range = {.has_from = input->verification, .has_to = input->aux_rows};
-    memcpy(range.from, input->file.words, sizeof range.from);
-    memcpy(range.to, input->file.words, sizeof range.to);
-    xet_range before = {.has_to = true};
-    memcpy(before.to, range.from, sizeof before.to);
-    xet_rows starts[SHARDS] = {{0, 0}};
-    xet_rows ends[SHARDS] = {{0, 0}};
-    size_t count;
-    if (range.has_from)
-        xet_find_ends(list, input->count, &before, starts, SHARDS, &count);
-    xet_find_ends(list, input->count, &range, ends, SHARDS, &count);
-    uint32_t error = xet_merge_rows(list, input->count, starts, input->count, ends, input->count, &range, out, capacity,
-                                    written);
-    return within_room(error, bytes_of(list, input->count), *written);
-}
-
-static uint32_t call_find_ends(const struct input *input, void *out, size_t capacity, size_t *written) {
-    xet_bytes list[SHARDS];
-    list_shards(input, list);
-    xet_range range = {.has_to = input->aux_rows};
-    memcpy(range.to, input->file.words, sizeof range.to);
-    return xet_find_ends(list, input->count, &range, out, capacity, written);
 }
 
 static uint32_t call_concatenate(const struct input *input, void *out, size_t capacity, size_t *written) {
     xet_bytes list[SHARDS];
     list_shards(input, list);
     return xet_concatenate(list, input->count, out, capacity, written);
-}
-
-static uint32_t call_concatenate_in(const struct input *input, void *out, size_t capacity, size_t *written) {
-    xet_bytes list[SHARDS];
-    list_shards(input, list);
-    return xet_concatenate_in(list, input->count, 2, out, capacity, written);
 }
 
 /* A record that no shard may have is told exactly if there is one, and is of a shard of the list. */
@@ -183,33 +114,73 @@ static void check_disagreement(const struct input *input, const struct block *fo
     require(differing == 0 || is_of_two(input, &first), "the disagreement is not of two shards");
 }
 
-/* In version 3 by the call that takes none. */
-static uint32_t merge_agreeing(const struct input *input, uint64_t version, void *out, size_t capacity,
-                               size_t *written) {
+static uint32_t merge(const struct input *input, const xet_merge_options *options, void *out, size_t capacity,
+                      size_t *written) {
     xet_bytes list[SHARDS];
     list_shards(input, list);
     struct block found = new_struct(input, sizeof(xet_disagreement));
     size_t differing = 12345;
     void *first = found.bytes;
     uint32_t error =
-        version == 3 ? xet_merge_agreeing(list, input->count, out, capacity, written, &differing, first)
-                     : xet_merge_agreeing_in(list, input->count, version, out, capacity, written, &differing, first);
+        xet_merge(list, input->count, options, input->version, out, capacity, written, &differing, first);
     if (error == XET_MALFORMED) {
         require(differing == 0, "the count of disagreements is another");
         check_malformed(input, &found, true);
     } else {
         check_disagreement(input, &found, differing, error == XET_DISAGREE);
     }
+    require(options->strict || (error != XET_DISAGREE && error != XET_MALFORMED), "a record is refused unasked");
     free_block(&found);
     return within_room(error, bytes_of(list, input->count), *written);
 }
 
-static uint32_t call_merge_agreeing(const struct input *input, void *out, size_t capacity, size_t *written) {
-    return merge_agreeing(input, 3, out, capacity, written);
+static uint32_t call_merge_strictly(const struct input *input, void *out, size_t capacity, size_t *written) {
+    const xet_merge_options options = {.strict = true};
+    return merge(input, &options, out, capacity, written);
 }
 
-static uint32_t call_merge_agreeing_in(const struct input *input, void *out, size_t capacity, size_t *written) {
-    return merge_agreeing(input, 2, out, capacity, written);
+/* The range is from the file's hash on, below it, or both, which has no hash; or it has all. */
+static xet_merge_options range_of(const struct input *input) {
+    xet_merge_options options = {.has_from = input->minimal.verification, .has_to = input->minimal.without_aux_rows};
+    memcpy(options.from, input->file.words, sizeof options.from);
+    memcpy(options.to, input->file.words, sizeof options.to);
+    return options;
+}
+
+static uint32_t call_merge_range(const struct input *input, void *out, size_t capacity, size_t *written) {
+    xet_merge_options options = range_of(input);
+    options.strict = input->subset.all;
+    return merge(input, &options, out, capacity, written);
+}
+
+/* If a merge by tables of one half of the hashes, and one of the other half, succeed, each has written what it writes
+ * without them. */
+static void check_both_halves(const struct input *input, const xet_merge_options *half, const void *out,
+                              size_t written) {
+    xet_bytes list[SHARDS];
+    list_shards(input, list);
+    xet_merge_options other = *half, plain = *half;
+    other.has_from = half->has_to, other.has_to = half->has_from, plain.by_tables = false;
+    size_t size, differing;
+    xet_disagreement found;
+    uint8_t none;
+    if (xet_merge(list, input->count, &other, input->version, &none, 0, &size, &differing, &found) != XET_SHORT)
+        return;
+    uint8_t *again = malloc(written);
+    require(again && xet_merge(list, input->count, &plain, input->version, again, written, &size, &differing, &found) ==
+                         XET_OK, "without tables nothing is written");
+    require(size == written && !memcmp(again, out, written), "by tables something else is written");
+    free(again);
+}
+
+static uint32_t call_merge_by_tables(const struct input *input, void *out, size_t capacity, size_t *written) {
+    xet_merge_options options = range_of(input);
+    options.strict = input->subset.all;
+    options.by_tables = true;
+    uint32_t error = merge(input, &options, out, capacity, written);
+    if (error == XET_OK && options.has_from != options.has_to)
+        check_both_halves(input, &options, out, *written);
+    return error;
 }
 
 /* The order of disagreements: those of files first, then by the hash. */
@@ -222,16 +193,19 @@ static int compare_disagreements(const xet_disagreement *one, const xet_disagree
     return 0;
 }
 
-/* All disagreements are in order, each of two shards; the first, and how many there are, is what xet_find_disagreement
- * shows. */
+/* All disagreements are in order, each of two shards; a strict merge shows the first, and how many there are, unless it
+ * refuses a record of one shard. */
 static void check_disagreements(const struct input *input, const xet_disagreement *all, size_t count) {
+    const xet_merge_options strict = {.strict = true};
     xet_bytes list[SHARDS];
     list_shards(input, list);
     xet_disagreement first;
-    size_t differing;
-    require(xet_find_disagreement(list, input->count, &differing, &first) == XET_OK, "no disagreements are counted");
-    require(differing == count, "the count of disagreements is another");
-    require(count == 0 || compare_disagreements(&first, all) == 0, "the first disagreement is another");
+    size_t differing, written;
+    uint8_t none;
+    uint32_t error = xet_merge(list, input->count, &strict, 3, &none, 0, &written, &differing, &first);
+    require((error == XET_DISAGREE) == (count > 0) || error == XET_MALFORMED, "a strict merge finds others");
+    require(error == XET_MALFORMED || differing == count, "the count of disagreements is another");
+    require(error != XET_DISAGREE || compare_disagreements(&first, all) == 0, "the first disagreement is another");
     for (size_t at = 0; at < count; at++) {
         require(is_of_two(input, &all[at]), "a disagreement is not of two shards");
         require(at == 0 || compare_disagreements(&all[at - 1], &all[at]) < 0, "disagreements are out of order");
@@ -254,48 +228,29 @@ static uint32_t call_find_disagreements(const struct input *input, void *out, si
 }
 
 static uint32_t call_export(const struct input *input, void *out, size_t capacity, size_t *written) {
-    uint32_t error = xet_export(SHARD(0), &input->export, out, capacity, written);
-    return within(xet_export_room(input->shards[0].length), error, *written);
-}
-
-static uint32_t call_export_in(const struct input *input, void *out, size_t capacity, size_t *written) {
-    uint32_t error = xet_export_in(SHARD(0), &input->export, 2, out, capacity, written);
+    uint32_t error = xet_export(SHARD(0), &input->export, input->version, out, capacity, written);
     return within(xet_export_room(input->shards[0].length), error, *written);
 }
 
 static uint32_t call_minimal(const struct input *input, void *out, size_t capacity, size_t *written) {
-    uint64_t now = input->subset.now;
-    uint32_t error = xet_minimal(SHARD(0), now, input->verification, input->aux_rows, out, capacity, written);
-    return within(xet_minimal_room(input->shards[0].length), error, *written);
-}
-
-static uint32_t call_minimal_in(const struct input *input, void *out, size_t capacity, size_t *written) {
-    uint64_t now = input->subset.now;
-    uint32_t error = xet_minimal_in(SHARD(0), now, input->verification, input->aux_rows, 2, out, capacity, written);
+    uint32_t error = xet_minimal(SHARD(0), &input->minimal, input->version, out, capacity, written);
     return within(xet_minimal_room(input->shards[0].length), error, *written);
 }
 
 static uint32_t call_subset(const struct input *input, void *out, size_t capacity, size_t *written) {
     const void *xorbs = input->xorbs.bytes;
     size_t count = input->xorbs.length / sizeof(xet_hash);
-    uint32_t error = xet_subset(SHARD(0), &input->subset, xorbs, count, out, capacity, written);
+    uint32_t error = xet_subset(SHARD(0), &input->subset, xorbs, count, input->version, out, capacity, written);
     return within(xet_minimal_room(input->shards[0].length), error, *written);
 }
 
-static uint32_t call_subset_in(const struct input *input, void *out, size_t capacity, size_t *written) {
-    const void *xorbs = input->xorbs.bytes;
-    size_t count = input->xorbs.length / sizeof(xet_hash);
-    uint32_t error = xet_subset_in(SHARD(0), &input->subset, xorbs, count, 2, out, capacity, written);
-    return within(xet_minimal_room(input->shards[0].length), error, *written);
-}
-
-static uint32_t call_write_v2(const struct input *input, void *out, size_t capacity, size_t *written) {
-    uint32_t error = xet_write_v2(SHARD(0), out, capacity, written);
+static uint32_t call_convert(const struct input *input, void *out, size_t capacity, size_t *written) {
+    uint32_t error = xet_convert(SHARD(0), input->version, out, capacity, written);
     return within(xet_export_room(input->shards[0].length), error, *written);
 }
 
 static uint32_t call_complete(const struct input *input, void *out, size_t capacity, size_t *written) {
-    uint32_t error = xet_complete(SHARD(0), &input->file, out, capacity, written);
+    uint32_t error = xet_complete(SHARD(0), &input->file, input->version, out, capacity, written);
     return within(xet_export_room(input->shards[0].length), error, *written);
 }
 
@@ -398,11 +353,8 @@ static uint32_t call_write(const struct input *input, void *out, size_t capacity
     require(error == XET_OK && !memcmp(&again, &counted, sizeof again), "the room is too little");
     const void *files = lists.files.bytes, *segments = lists.segments.bytes, *xorbs = lists.xorbs.bytes;
     const void *chunks = lists.chunks.bytes;
-    error = input->verification
-                ? xet_write(files, counted.files, segments, counted.segments, xorbs, counted.xorbs, chunks,
-                            counted.chunks, UINT64_MAX, out, capacity, written)
-                : xet_write_in(files, counted.files, segments, counted.segments, xorbs, counted.xorbs, chunks,
-                               counted.chunks, 3, UINT64_MAX, out, capacity, written);
+    error = xet_write(files, counted.files, segments, counted.segments, xorbs, counted.xorbs, chunks, counted.chunks,
+                      UINT64_MAX, input->version, out, capacity, written);
     free_lists(&lists);
     return within(xet_write_room(counted), error, *written);
 }
@@ -438,39 +390,29 @@ static uint32_t call_find_places(const struct input *input, void *out, size_t ca
 }
 
 static const struct filling fillings[] = {
-    {"xet_union", 1, OF_MERGING, call_union, 3},
-    {"xet_difference", 1, OF_MERGING, call_difference, 3},
-    {"xet_union_in", 1, OF_MERGING, call_union_in, 2},
-    {"xet_difference_in", 1, OF_MERGING, call_difference_in, 2},
-    {"xet_merge", 1, OF_MERGING, call_merge, 3},
-    {"xet_merge_range", 1, OF_MERGING, call_merge_range, 3},
-    {"xet_merge_rows", 1, OF_MERGING, call_merge_rows, 3},
-    {"xet_find_ends", sizeof(xet_rows), OF_LOADING, call_find_ends, 0},
-    {"xet_merge_in", 1, OF_MERGING, call_merge_in, 2},
-    {"xet_merge_range_in", 1, OF_MERGING, call_merge_range_in, 2},
-    {"xet_concatenate", 1, OF_MERGING, call_concatenate, 3},
-    {"xet_concatenate_in", 1, OF_MERGING, call_concatenate_in, 2},
-    {"xet_merge_agreeing", 1, OF_MERGING | BIT(XET_DISAGREE) | BIT(XET_MALFORMED), call_merge_agreeing, 3},
-    {"xet_merge_agreeing_in", 1, OF_MERGING | BIT(XET_DISAGREE) | BIT(XET_MALFORMED), call_merge_agreeing_in, 2},
-    {"xet_find_disagreements", sizeof(xet_disagreement), OF_SECTIONS, call_find_disagreements, 0},
-    {"xet_export", 1, OF_MERGING, call_export, 3},
-    {"xet_export_in", 1, OF_MERGING, call_export_in, 2},
-    {"xet_minimal", 1, OF_SECTIONS, call_minimal, 3},
-    {"xet_minimal_in", 1, OF_MERGING, call_minimal_in, 2},
-    {"xet_subset", 1, OF_SECTIONS, call_subset, 3},
-    {"xet_subset_in", 1, OF_SECTIONS, call_subset_in, 2},
-    {"xet_write_v2", 1, OF_MERGING, call_write_v2, 2},
-    {"xet_complete", 1, OF_SECTIONS, call_complete, 3},
-    {"xet_records and xet_write", 1, OF_MERGING, call_write, 3},
-    {"xet_eligible", sizeof(xet_hash), OF_SECTIONS, call_eligible, 0},
-    {"xet_chunk_rows", sizeof(xet_chunk_row), OF_SECTIONS, call_chunk_rows, 0},
+    {"xet_union", 1, OF_MERGING, call_union, AS_ASKED},
+    {"xet_difference", 1, OF_MERGING, call_difference, AS_ASKED},
+    {"xet_merge_all", 1, OF_MERGING, call_merge_all, AS_ASKED},
+    {"xet_merge, strictly", 1, OF_STRICT_MERGING, call_merge_strictly, AS_ASKED},
+    {"xet_merge, in a range", 1, OF_STRICT_MERGING, call_merge_range, AS_ASKED},
+    {"xet_merge, by tables", 1, OF_STRICT_MERGING, call_merge_by_tables, AS_ASKED},
+    {"xet_concatenate", 1, OF_MERGING, call_concatenate, OF_INPUTS},
+    {"xet_find_disagreements", sizeof(xet_disagreement), OF_SECTIONS, call_find_disagreements, NO_SHARD},
+    {"xet_export", 1, OF_MERGING, call_export, AS_ASKED},
+    {"xet_minimal", 1, OF_MERGING, call_minimal, AS_ASKED},
+    {"xet_subset", 1, OF_MERGING, call_subset, AS_ASKED},
+    {"xet_convert", 1, OF_MERGING, call_convert, AS_ASKED},
+    {"xet_complete", 1, OF_MERGING, call_complete, AS_ASKED},
+    {"xet_records and xet_write", 1, OF_MERGING, call_write, AS_ASKED},
+    {"xet_eligible", sizeof(xet_hash), OF_SECTIONS, call_eligible, NO_SHARD},
+    {"xet_chunk_rows", sizeof(xet_chunk_row), OF_SECTIONS, call_chunk_rows, NO_SHARD},
     {"xet_find_rows", sizeof(uint32_t), BIT(XET_OK) | BIT(XET_INVALID_ARGUMENTS) | BIT(XET_TRUNCATED_HASH_COLLISION),
-     call_find_rows, 0},
-    {"xet_find_places", sizeof(xet_chunk_place), BIT(XET_OK) | BIT(XET_INVALID_ARGUMENTS), call_find_places, 0},
-    {"xet_check", sizeof(xet_finding), BIT(XET_OK), call_check, 0},
-    {"xet_find_file", sizeof(xet_file_segment), OF_FINDING, call_find_file, 0},
-    {"xet_hash_to_hex", 1, BIT(XET_OK), call_hash_to_hex, 0},
-    {"xet_shard_name", 1, BIT(XET_OK), call_shard_name, 0},
+     call_find_rows, NO_SHARD},
+    {"xet_find_places", sizeof(xet_chunk_place), BIT(XET_OK) | BIT(XET_INVALID_ARGUMENTS), call_find_places, NO_SHARD},
+    {"xet_check", sizeof(xet_finding), BIT(XET_OK), call_check, NO_SHARD},
+    {"xet_find_file", sizeof(xet_file_segment), OF_FINDING, call_find_file, NO_SHARD},
+    {"xet_hash_to_hex", 1, BIT(XET_OK), call_hash_to_hex, NO_SHARD},
+    {"xet_shard_name", 1, BIT(XET_OK), call_shard_name, NO_SHARD},
 };
 
 struct outcome {
@@ -496,11 +438,12 @@ static struct block filled(const struct filling *filling, const struct input *in
     return out;
 }
 
-/* What a call writes as a shard can be loaded, in its version. */
-static void check_shard(const struct block *out, size_t written, uint64_t version) {
+/* What a call writes as a shard can be loaded, in the version that was asked for. */
+static void check_shard(const struct filling *filling, const struct input *input, const struct block *out,
+                        size_t written) {
     xet_info info;
-    bool is_loaded = xet_load(out->bytes, written, &info) == XET_OK && info.version == version;
-    require(is_loaded, "what is written can't be loaded");
+    require(xet_load(out->bytes, written, &info) == XET_OK, "what is written can't be loaded");
+    require(filling->version == OF_INPUTS || info.version == input->version, "the version is another");
 }
 
 /* Asks for the size, and makes the call with exactly as much room, with more and with too little. */
@@ -517,8 +460,8 @@ static void check_filling(const struct filling *filling, const struct input *inp
         require(outcome.error == wanted && outcome.written == asked.written, "the room changes the result");
         if (at == 0) {
             first = out;
-            if (!is_refused && filling->version)
-                check_shard(&out, outcome.written, filling->version);
+            if (!is_refused && filling->version != NO_SHARD)
+                check_shard(filling, input, &out, outcome.written);
             continue;
         }
         bool is_same = wanted != XET_OK || !memcmp(out.bytes, first.bytes, first.length);
@@ -579,18 +522,6 @@ static void check_query_at(const struct input *input) {
     }
     if (all != rows)
         free(all);
-}
-
-static void check_find_disagreement(const struct input *input) {
-    called = "xet_find_disagreement";
-    xet_bytes list[SHARDS];
-    list_shards(input, list);
-    struct block found = new_struct(input, sizeof(xet_disagreement));
-    size_t differing = 12345;
-    void *out = found.bytes;
-    uint32_t error = result(xet_find_disagreement(list, input->count, &differing, out), OF_SECTIONS);
-    check_disagreement(input, &found, differing, error == XET_OK && differing > 0);
-    free_block(&found);
 }
 
 static void check_find_malformed(const struct input *input) {
@@ -740,7 +671,6 @@ void make_calls(const struct input *input, struct random *random, struct tally *
     check_load(input);
     check_query(input);
     check_query_at(input);
-    check_find_disagreement(input);
     check_find_malformed(input);
     for (int at = 0; at < 2; at++)
         check_walk(&readings[at], input, (xet_bytes){SHARD(0)}, 20);

@@ -15,8 +15,9 @@ struct input {
     struct block chunks, xorbs, text;
     xet_hash file;
     xet_export_options export;
+    xet_minimal_options minimal;
     xet_subset_options subset;
-    bool verification, aux_rows;
+    uint64_t version; /* of the format: 2 or 3, or a wrong one */
     bool in_pages; /* outputs are blocks in pages */
 };
 

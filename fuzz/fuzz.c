@@ -43,10 +43,10 @@ static xet_export_options some_export(uint64_t key, struct random *random) {
         .key = {below(random, 4) ? key : 0},
         .now = below(random, 1 << 30),
         .valid_seconds = below(random, 1 << 20),
-        .files = below(random, 4) != 0,
-        .aux_rows = once_in(random, 2),
-        .xorb_table = below(random, 4) != 0,
-        .chunk_table = below(random, 4) != 0,
+        .without_files = once_in(random, 4),
+        .without_aux_rows = once_in(random, 2),
+        .without_xorb_table = once_in(random, 4),
+        .without_chunk_table = once_in(random, 4),
     };
     if (once_in(random, 16))
         options.now = -below(random, 1 << 20);
@@ -57,19 +57,20 @@ static xet_export_options some_export(uint64_t key, struct random *random) {
 static void change_form(struct bytes *shard, uint64_t key, struct random *random) {
     static uint8_t made[ROOM];
     xet_export_options options = some_export(key, random);
+    xet_minimal_options minimal = {.now = 9, .without_aux_rows = once_in(random, 2)};
     xet_subset_options all = {9, below(random, 2), true};
     xet_hash none = {{0}};
     size_t written = 0;
     uint32_t error;
     switch (below(random, 4)) {
     case 0:
-        error = xet_minimal(shard->bytes, shard->length, 9, false, once_in(random, 2), made, ROOM, &written);
+        error = xet_minimal(shard->bytes, shard->length, &minimal, 3, made, ROOM, &written);
         break;
     case 1:
-        error = xet_subset(shard->bytes, shard->length, &all, &none, 0, made, ROOM, &written);
+        error = xet_subset(shard->bytes, shard->length, &all, &none, 0, 3, made, ROOM, &written);
         break;
     default:
-        error = xet_export(shard->bytes, shard->length, &options, made, ROOM, &written);
+        error = xet_export(shard->bytes, shard->length, &options, 3, made, ROOM, &written);
     }
     if (error != XET_OK)
         return;
@@ -138,8 +139,8 @@ static struct input make_case(struct random *random) {
     input.text = block_of_text(&input.file, input.in_pages, random);
     input.export = some_export(key, random);
     input.subset = (xet_subset_options){next_number(random), below(random, 100), once_in(random, 4)};
-    input.verification = once_in(random, 2);
-    input.aux_rows = once_in(random, 2);
+    input.minimal = (xet_minimal_options){next_number(random), once_in(random, 2), once_in(random, 2)};
+    input.version = once_in(random, 20) ? next_number(random) : 2 + below(random, 2);
     return input;
 }
 

@@ -155,7 +155,7 @@ def installed():
     library = f"PREFIX/lib/libxet.so.{read(f'{TOP}/VERSION').strip()}"
     return [
         "bindings/out/libxet.a", f"bindings/python/xet_shards/{SONAME}", "PREFIX/include/xet.h", "PREFIX/lib/libxet.a",
-        library, "PREFIX/lib/pkgconfig/xet.pc",
+        library, "PREFIX/lib/pkgconfig/xet.pc", *(f"PREFIX/lib/cmake/xet/xet-config{it}.cmake" for it in ("", "-version")),
     ]
 
 

@@ -7,8 +7,6 @@ import sys
 TOP = os.path.dirname(os.path.dirname(os.path.dirname(os.path.realpath(__file__))))
 BINDINGS = f"{TOP}/bindings"
 SOURCES = f"{TOP}/crates/xet_c/src"
-# It has a struct that calls take.
-BELOW = f"{TOP}/crates/shard_merging/src/merging/rows.rt"
 # The numbers of the errors of the crates below.
 ERRORS = f"{TOP}/crates/xet_base/src/error.rt"
 # From nothing, `rt lib` proves the crate again.
@@ -58,8 +56,7 @@ def sources():
 
 def structs():
     """Returns the structs of the calls of crates/xet_c: of each its name, and its fields with their types."""
-    text = sources() + read(BELOW)
-    found = re.findall(r"#\[repr\(C\)\]\n(?:#[^\n]*\n)*pub struct (\w+) \{\n(.*?)\n\}", text, re.S)
+    found = re.findall(r"#\[repr\(C\)\]\n(?:#[^\n]*\n)*pub struct (\w+) \{\n(.*?)\n\}", sources(), re.S)
     return {name: re.findall(r"^    pub (\w+): (.*),$", body, re.M) for name, body in found}
 
 

@@ -9,7 +9,7 @@ from .crates import used_by
 # The pages that quote contracts.
 QUOTING = ("README.md", "docs/HEADLINE.md", "crates/xet_core_structures/CALLING.md")
 # The crates each of whose modules the tree in docs/ARCHITECTURE.md names.
-IN_TREE = ("xet_base", "xet_records", "xet_shards", "xet_core_structures", "placed_shards", "shard_merging",
+IN_TREE = ("xet_base", "xet_records", "xet_shards", "xet_core_structures", "placed_shards", "shard_concatenation",
            "shard_bytes", "xet_c")
 
 

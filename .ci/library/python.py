@@ -27,14 +27,16 @@ TYPES = {
 # The structs of crates/xet_c, in the Python module and in xet.h.
 STRUCTS = {
     "XetHash": ("_Hash", "xet_hash"), "XetSegment": ("_Segment", "xet_segment"), "XetInfo": ("_Info", "xet_info"),
-    "XetExport": ("_Export", "xet_export_options"), "XetFile": ("_File", "xet_file"),
-    "XetFileSegment": ("_FileSegment", "xet_file_segment"), "XetSubset": ("_Subset", "xet_subset_options"),
+    "XetMergeOptions": ("_MergeOptions", "xet_merge_options"),
+    "XetExportOptions": ("_ExportOptions", "xet_export_options"),
+    "XetMinimalOptions": ("_MinimalOptions", "xet_minimal_options"),
+    "XetSubsetOptions": ("_SubsetOptions", "xet_subset_options"),
+    "XetFile": ("_File", "xet_file"), "XetFileSegment": ("_FileSegment", "xet_file_segment"),
     "XetDisagreement": ("_Disagreement", "xet_disagreement"), "XetPlace": ("_Place", "xet_place"),
     "XetFinding": ("_Finding", "xet_finding"), "XetXorb": ("_Xorb", "xet_xorb"), "XetChunk": ("_Chunk", "xet_chunk"),
     "XetListedFile": ("_ListedFile", "xet_listed_file"), "XetListedXorb": ("_ListedXorb", "xet_listed_xorb"),
-    "XetCounts": ("_Counts", "xet_counts"), "XetRange": ("_Range", "xet_range"),
-    "SectionRows": ("_Rows", "xet_rows"),
-    "XetChunkRow": ("_ChunkRow", "xet_chunk_row"), "XetChunkPlace": ("_ChunkPlace", "xet_chunk_place"),
+    "XetCounts": ("_Counts", "xet_counts"), "XetChunkRow": ("_ChunkRow", "xet_chunk_row"),
+    "XetChunkPlace": ("_ChunkPlace", "xet_chunk_place"),
 }
 
 

@@ -35,7 +35,7 @@ int main(int count, char **names) {
     uint8_t *out = malloc(room);
     if (!out)
         stop("union", xet_error_text(XET_OUT_OF_MEMORY));
-    uint32_t error = xet_union(first, lengths[0], second, lengths[1], out, room, &written);
+    uint32_t error = xet_union(first, lengths[0], second, lengths[1], 3, out, room, &written);
     if (error)
         stop("union", xet_error_text(error));
     FILE *file = fopen(names[3], "wb");

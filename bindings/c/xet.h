@@ -1,13 +1,8 @@
 /* Metadata shards of Xet storage, as bytes: the calls of crates/xet_c.
  *
  * Each call takes the bytes of shards, or a hash or its text, and writes to memory of the caller. Nothing is kept
- * between calls: there is no handle, and nothing to free. Shards of versions 2 and 3 of the format are read, and
- * version 3 is written, but where a call names another. Any number of threads may call at once. This file is C99, and
- * C++11.
- *
- * xet_export, xet_write_v2, xet_minimal, xet_subset, xet_eligible, xet_complete and xet_check find the two sections
- * behind the header; all other calls that read a shard's records go by the offsets in the footer. So of bytes with a
- * wrong footer one call may read other records than another. xet_check finds such a footer.
+ * between calls: there is no handle, and nothing to free. Shards of versions 2 and 3 of the format are read. Any number
+ * of threads may call at once. This file is C99, and C++11.
  *
  * A call returns 0 or the number of an error. If the result is not 0, every output but a count stays as it was: what
  * `out`, `info`, `run`, `file`, `segments` and `hash` point to is not touched, unless a call says otherwise below. A
@@ -15,6 +10,19 @@
  * wrote, from the front; what is behind them stays. If they do not fit, the result is XET_SHORT and `*written` is the
  * number that is needed: call again with so much room. With any other error `*written` is 0. So `capacity` may be 0 to
  * ask for the size. What an output holds before a call is not read, so it may be uninitialized.
+ *
+ * A call that writes a shard takes the `version` of the format, 2 or 3: 3 is the usual one, and 2 is for readers that
+ * do not know it. XET_INVALID_ARGUMENTS is the result if it is another, which is looked at first, or if it is 2 and a
+ * file of the result has an auxiliary row, which version 2 does not have. A field of options that is zero means what is
+ * usual: set a struct to zeros, and then what is to differ.
+ *
+ * Below, the errors of a call are named without those of `version`, without XET_SHORT, which each call with a
+ * `capacity` may return, and without XET_OUT_OF_MEMORY, which each may but xet_load, xet_hash_from_hex,
+ * xet_parse_shard_name, xet_hash_bytes, xet_hmac and xet_version.
+ *
+ * xet_export, xet_convert, xet_minimal, xet_subset, xet_eligible, xet_complete and xet_check find the two sections
+ * behind the header; all other calls that read a shard's records go by the offsets in the footer. So of bytes with a
+ * wrong footer one call may read other records than another. xet_check finds such a footer.
  *
  * What callers must uphold. Each pointer is valid for as many items as its length says, or for one item if it has no
  * length, is aligned for its type, and is not null, also if the length is 0. What an output points to overlaps neither
@@ -26,8 +34,8 @@
  * What is proved, of callers that do: for any bytes, corrupt ones too, a call returns, its result and its outputs are
  * those that its contract in crates/xet_c/src states, it reads no memory but its inputs and its own, and writes none
  * but its outputs and its own. It never panics or aborts; the stack can run out. What is tested: that a failed
- * allocation is XET_OUT_OF_MEMORY, and that a call frees what it allocates. This file, the C compiler and malloc are
- * not part of the proof.
+ * allocation is XET_OUT_OF_MEMORY, or that a smaller one serves, and that a call frees what it allocates. This file,
+ * the C compiler and malloc are not part of the proof.
  */
 #ifndef XET_H
 #define XET_H
@@ -146,17 +154,6 @@ typedef struct xet_info {
     uint64_t reserved[6];    /* of the footer */
 } xet_info;
 
-/* What an export is to have. A key of zeros leaves the chunk hashes as they are. */
-typedef struct xet_export_options {
-    uint64_t key[4];
-    uint64_t now;           /* the creation of the export, in seconds */
-    uint64_t valid_seconds; /* it expires so many seconds later */
-    bool files;             /* has the files and their table */
-    bool aux_rows;          /* files have their auxiliary rows */
-    bool xorb_table;
-    bool chunk_table;
-} xet_export_options;
-
 /* Reads the header and the footer of a shard: its first 48 and its last 200 bytes. So `shard` may be these 248 bytes,
  * without what lies between them.
  *
@@ -164,14 +161,13 @@ typedef struct xet_export_options {
  * XET_IO: there are too few bytes for a header and a footer. */
 uint32_t xet_load(const uint8_t *shard, size_t length, xet_info *info);
 
-/* The room that is enough for xet_union, xet_merge, xet_merge_range, xet_merge_rows and xet_merge_agreeing of shards of
- * so many bytes in all, whatever they hold, and for xet_difference if its second shard has so many: 344 bytes, and 8/3 of
- * these. */
+/* The room that is enough for xet_merge of shards of so many bytes in all, whatever they hold, and for xet_difference
+ * if its second shard has so many: 344 bytes, and 8/3 of these. */
 static inline size_t xet_union_room(size_t bytes) {
     return bytes / 3 > (SIZE_MAX - 352) / 8 ? SIZE_MAX : 352 + bytes / 3 * 8;
 }
 
-/* The room that is enough for xet_export, xet_write_v2 and xet_complete of so many bytes: 344, and 4/3 of these. */
+/* The room that is enough for xet_export, xet_convert and xet_complete of so many bytes: 344, and 4/3 of these. */
 static inline size_t xet_export_room(size_t bytes) {
     return bytes / 3 > (SIZE_MAX - 348) / 4 ? SIZE_MAX : 348 + bytes / 3 * 4;
 }
@@ -181,137 +177,9 @@ static inline size_t xet_minimal_room(size_t bytes) {
     return bytes > SIZE_MAX - 200 ? SIZE_MAX : bytes + 200;
 }
 
-/* Writes the union of two shards of one key: the records of both. Creation is 0, and there is no expiry. Of well-formed
- * shards that agree, as xet_find_malformed and xet_find_disagreement tell, it is the same bytes in either order and any
- * grouping of several.
- *
- * Of two files with one hash it has the record whose flags have all of the other's, the first's if both do; else the
- * first's segments, with each optional part from the first where it has it, else from the second. Of two xorbs with one
- * hash it has the first's.
- *
- * XET_SHARD_VERSION, XET_IO: the errors of xet_load, of either shard; XET_IO also if a section ends too early.
- * XET_INVALID_ARGUMENTS: the keys differ.
- * XET_INVALID_SHARD: the hashes of a section do not ascend, a file has a row that its version does not have, or a
- *     section, here or in the union, has more than 4294967295 rows; or two files that have to be combined have
- *     different numbers of segments.
- * XET_OUT_OF_MEMORY, XET_SHORT. */
-uint32_t xet_union(const uint8_t *first, size_t first_length, const uint8_t *second, size_t second_length, uint8_t *out,
-                   size_t capacity, size_t *written);
-
-/* The same in a version of the format, 2 or 3.
- *
- * XET_INVALID_ARGUMENTS: also if it is another version, or 2, and a file of the union has an auxiliary row. */
-uint32_t xet_union_in(const uint8_t *first, size_t first_length, const uint8_t *second, size_t second_length,
-                      uint64_t version, uint8_t *out, size_t capacity, size_t *written);
-
-/* Writes the union of one shard or more: that of the first half of the list with that of the second, each made in the
- * same way, down to single shards, whose records are written anew. If the sections of the inputs hold well-formed
- * shards that agree pairwise, under one key, it is the bytes of their join, which has no order, or fails for memory or
- * for too many rows. xet_merge_agreeing finds out whether they do. It is written to `out` itself, when
- * all that can fail is done, and so is what xet_merge_range and xet_merge_agreeing write; other calls make their bytes
- * first, and copy them, but for xet_concatenate.
- *
- * Where several inputs are refused, the error may be that of another than xet_union tells. A merge of each alone, with
- * no room for a result (`capacity` 0), finds the shard that is at fault: XET_SHORT if it is not. If none is, and the
- * keys are one, two files cannot be combined, and xet_find_disagreements writes which, or there are too many rows.
- *
- * XET_INVALID_ARGUMENTS: there is no shard, or the keys differ.
- * The other errors are those of xet_union. */
-uint32_t xet_merge(const xet_bytes *shards, size_t count, uint8_t *out, size_t capacity, size_t *written);
-
-/* The same in a version of the format, 2 or 3. In version 2 it is the bytes that xet_write_v2 makes of those of
- * xet_merge, without a second pass.
- *
- * XET_INVALID_ARGUMENTS: also if it is another version, or 2, and a file of the union has an auxiliary row. */
-uint32_t xet_merge_in(const xet_bytes *shards, size_t count, uint64_t version, uint8_t *out, size_t capacity,
-                      size_t *written);
-
-/* A range of hashes: each that is not below `from`, if `has_from` is set, and is below `to`, if `has_to` is set. Hashes
- * are ordered by their first word, then by the second, the third and the fourth, each as a number. A bound that is not
- * set is not looked at. */
-typedef struct xet_range {
-    uint64_t from[4];
-    uint64_t to[4];
-    bool has_from;
-    bool has_to;
-} xet_range;
-
-/* Writes the records in a range of the union that xet_merge makes, each by its own hash, files by that of the file and
- * xorbs by that of the xorb, as a shard with all tables. A range without records gives a shard without records.
- *
- * If the sections of the inputs hold well-formed shards that agree pairwise, under one key, it is the bytes, under this
- * key, of the records of their join that are in the range, or fails for memory or for too many rows. So each range may
- * be made by a thread or a machine of its own, and ranges that follow one another have together each record of the join
- * once. xet_find_malformed and xet_find_disagreement tell whether the inputs are so.
- *
- * Each call reads all sections of all inputs. Beyond its output it holds the places of the records in the range, and of
- * one input more.
- *
- * The errors are those of xet_merge, but that records outside of the range are asked for no union. */
-uint32_t xet_merge_range(const xet_bytes *shards, size_t count, const xet_range *range, uint8_t *out, size_t capacity,
-                         size_t *written);
-
-/* The same in a version of the format, as xet_merge_in. */
-uint32_t xet_merge_range_in(const xet_bytes *shards, size_t count, const xet_range *range, uint64_t version,
-                            uint8_t *out, size_t capacity, size_t *written);
-
-/* A row of the file section and a row of the xorb section of a shard. The first row of a section is 0. */
-typedef struct xet_rows {
-    uint32_t file;
-    uint32_t xorb;
-} xet_rows;
-
-/* Writes the rows before which the records of a range are, in each of `count` shards, to `ends`: by the tables of a
- * shard, those of the first file and of the first xorb whose hash has a first word that is not below that of `range->to`.
- * Where there is none, or with no `to`, it is the last row for which the section has room, where its bookend is.
- *
- * Nothing is checked but the header and the footer of each shard: the error is that of xet_load for the first shard that
- * it refuses, or XET_OUT_OF_MEMORY or XET_SHORT. */
-uint32_t xet_find_ends(const xet_bytes *shards, size_t count, const xet_range *range, xet_rows *ends, size_t capacity,
-                       size_t *written);
-
-/* Writes what xet_merge_range writes, but reads of each shard only the records from its rows in `starts` on, and before
- * its rows in `ends`. So where threads merge ranges, not each has to read all records of all shards.
- *
- * The rows may come from xet_find_ends or anywhere else: they are not trusted. Make calls for ranges that follow one
- * another, the first without `from` and the last without `to`, and let `ends` of each call be `starts` of the next. If
- * all of them succeed, each has written what xet_merge_range writes. If one fails, call xet_merge, or xet_merge_range for
- * all ranges: they give the error, or the bytes of shards without tables.
- *
- * XET_INVALID_ARGUMENTS: there are too few rows, or some shard has in its rows anything but whole records of the range
- * with ascending hashes, or the first range does not start at rows 0, or the last one does not end at the bookends.
- * Other errors are those of xet_merge_range. */
-uint32_t xet_merge_rows(const xet_bytes *shards, size_t count, const xet_rows *starts, size_t start_count,
-                        const xet_rows *ends, size_t end_count, const xet_range *range, uint8_t *out, size_t capacity,
-                        size_t *written);
-
-/* Writes the shard that has the records of one shard or more, in their order, with all tables, under the key of all, in
- * version 3 and without timestamps. The hashes of files have to ascend from each shard to the next, and so have those
- * of xorbs; a shard may have none of either. So it puts together what xet_merge_range writes of well-formed shards that
- * agree, for ranges that follow one another, the first without `from` and the last without `to`: it is the bytes that
- * the one xet_merge writes. Of shards as this library writes them with all tables, whose hashes ascend so and which
- * have together at most 4294967295 rows a section, it fails for memory alone.
- *
- * Records are copied and not checked: of shards that are not trusted xet_check tells what is wrong with what is made
- * of them. `out` needs no more room than such shards have bytes in all. They are written to `out` at once, after all
- * tables were read a first time; beyond that it takes some hundred bytes of memory a shard.
- *
- * XET_INVALID_ARGUMENTS: there is no shard, the keys differ, or hashes do not ascend from one shard to the next.
- * XET_SHARD_VERSION, XET_IO: the errors of xet_load, of any of the shards.
- * XET_INVALID_SHARD: the tables of files and of xorbs do not have the rows that the footer counts, a section has not
- *     the last record that its table names, as in shards that lack tables, the rows of a section pass 4294967295 or a
- *     sum of bytes 64 bits, or the rows of a table of chunks do not ascend, or are not as many as the chunks.
- * XET_OUT_OF_MEMORY, XET_SHORT. */
-uint32_t xet_concatenate(const xet_bytes *shards, size_t count, uint8_t *out, size_t capacity, size_t *written);
-
-/* The same in a version of the format, 2 or 3. For version 2 the headers of files are read a second time.
- *
- * XET_INVALID_ARGUMENTS: also if it is another version, or 2, and a file of a shard has an auxiliary row. */
-uint32_t xet_concatenate_in(const xet_bytes *shards, size_t count, uint64_t version, uint8_t *out, size_t capacity,
-                            size_t *written);
-
 /* A hash under which two shards have records that do not agree, that of a xorb or of a file, and the places of two such
- * shards in the list, from 0 on. */
+ * shards in the list, from 0 on. Of a record that no shard may have it is the hash, and the place of its shard
+ * twice. */
 typedef struct xet_disagreement {
     uint64_t hash[4];
     bool is_xorb;
@@ -319,101 +187,154 @@ typedef struct xet_disagreement {
     size_t second;
 } xet_disagreement;
 
-/* Looks for records with one hash that do not agree. Two files agree if they have equal segments, and an equal optional
- * part wherever both have it, and two xorbs if they are equal. `*differing` is how many hashes have records in two of
- * the shards that do not agree, and `found` is the first of them: of files before xorbs, and the least hash first. If
- * there is none `*differing` is 0, `found` stays as it is, and each two of the shards agree. With an error `*differing`
- * is 0, and `found` stays. The keys of the shards do not count.
- *
- * XET_SHARD_VERSION, XET_IO, XET_INVALID_SHARD: the errors of xet_union that one of the shards alone is the cause of.
- * XET_OUT_OF_MEMORY. */
-uint32_t xet_find_disagreement(const xet_bytes *shards, size_t count, size_t *differing, xet_disagreement *found);
+/* Which records are merged, and what is asked of them. All zero: all records of any shards. */
+typedef struct xet_merge_options {
+    uint64_t from[4]; /* if `has_from` is set, only records whose hash is not below it */
+    uint64_t to[4];   /* if `has_to` is set, only records whose hash is below it */
+    bool has_from;
+    bool has_to;
+    bool strict;    /* these records have to be well-formed, and to agree wherever two have one hash */
+    bool by_tables; /* these records are looked for where the tables of the shards say that they are */
+} xet_merge_options;
 
-/* Writes all disagreements, one for each hash that xet_find_disagreement counts: those of files before those of xorbs,
- * and each in ascending order of the hashes. `capacity` and `*written` count disagreements.
+/* Writes the union of one shard or more: the records of all under one key, with all tables, creation 0 and no expiry.
+ * It is written to `out` itself, when all that can fail is done.
  *
- * The errors are those of xet_find_disagreement, and XET_SHORT. */
+ * Under each hash it has what is made of the records there by uniting the first half of the list with the second, each
+ * made in the same way. Of two files it has the record whose flags have all of the other's, the first's if both do;
+ * else the first's segments, with each optional part from the first where it has it, else from the second. Of two xorbs
+ * it has the first's. If the sections of the inputs hold well-formed shards that agree pairwise, all this makes no
+ * difference: the result is the bytes of their join, which has no order, or fails for memory or for too many rows.
+ *
+ * With `strict` nothing need be known of the inputs: the result is such a join, or an error. If it is XET_MALFORMED, a
+ * record is one that xet_find_malformed looks for, and `found` shows it as that does. If it is XET_DISAGREE,
+ * `*differing` is how many hashes have records that do not agree, and `found` is the first that xet_find_disagreements
+ * would write. With any other result, and without `strict`, `*differing` is 0, and `found` stays.
+ *
+ * With a range of hashes each record counts by its own hash, files by that of the file and xorbs by that of the xorb.
+ * Records outside of the range need not be well-formed, agree or have a union. Hashes are ordered by their first word,
+ * then by the second, the third and the fourth, each as a number. So each range may be merged by a thread or a machine
+ * of its own: xet_concatenate makes one shard of the results for ranges that follow one another, and of a join this is
+ * the one merge.
+ *
+ * A merge reads all records of all shards. With `by_tables` it reads those alone that lie where a search for the bounds
+ * in their tables leads. The tables are not trusted. Make calls for ranges that follow one another, the first without
+ * `from` and the last without `to`. If all of them succeed, each has written what it writes without `by_tables`. If one
+ * fails, make all without: they give the error, or the bytes of shards without tables.
+ *
+ * With `strict` errors come in this order: the first input that cannot be read, or whose records are not well-formed,
+ * decides; then come records that do not agree, keys that differ, what has no union, an auxiliary row in version 2, and
+ * XET_SHORT. Without it any of several causes may be told. If a merge fails so, merges of each shard alone, with
+ * `capacity` 0, find the one that is at fault: XET_SHORT means that it is not. If none is, and the keys are one, two
+ * files cannot be combined, and xet_find_disagreements writes which, or there are too many rows.
+ *
+ * XET_SHARD_VERSION, XET_IO: the errors of xet_load, of any shard; XET_IO also if a section ends too early.
+ * XET_INVALID_SHARD: the hashes of a section do not ascend, a file has a row that its version does not have, or a
+ *     section, here or in the union, has more than 4294967295 rows; or two files that have to be combined have
+ *     different numbers of segments.
+ * XET_INVALID_ARGUMENTS: there is no shard, or the keys differ; with `by_tables` also if a table leads to anything but
+ *     whole records of the range with ascending hashes.
+ * XET_DISAGREE, XET_MALFORMED. */
+uint32_t xet_merge(const xet_bytes *shards, size_t count, const xet_merge_options *options, uint64_t version,
+                   uint8_t *out, size_t capacity, size_t *written, size_t *differing, xet_disagreement *found);
+
+/* Writes the union of all records of one shard or more: xet_merge without options. */
+static inline uint32_t xet_merge_all(const xet_bytes *shards, size_t count, uint64_t version, uint8_t *out,
+                                     size_t capacity, size_t *written) {
+    const xet_merge_options options = {{0}, {0}, false, false, false, false};
+    size_t differing;
+    xet_disagreement found;
+    return xet_merge(shards, count, &options, version, out, capacity, written, &differing, &found);
+}
+
+/* Writes the union of two shards: xet_merge_all of both. */
+static inline uint32_t xet_union(const uint8_t *first, size_t first_length, const uint8_t *second,
+                                 size_t second_length, uint64_t version, uint8_t *out, size_t capacity,
+                                 size_t *written) {
+    const xet_bytes shards[2] = {{first, first_length}, {second, second_length}};
+    return xet_merge_all(shards, 2, version, out, capacity, written);
+}
+
+/* Writes the difference of two shards of one key: the second's records whose hashes the first does not have.
+ *
+ * The errors are those of xet_merge, without that of files that have to be combined. */
+uint32_t xet_difference(const uint8_t *first, size_t first_length, const uint8_t *second, size_t second_length,
+                        uint64_t version, uint8_t *out, size_t capacity, size_t *written);
+
+/* Writes all hashes under which two of the shards have records that do not agree, each once: those of files before
+ * those of xorbs, and each in ascending order. Two files agree if they have equal segments, and an equal optional part
+ * wherever both have it, and two xorbs if they are equal. The keys of the shards do not count.
+ *
+ * XET_SHARD_VERSION, XET_IO, XET_INVALID_SHARD: the errors of xet_merge that one of the shards alone is the cause
+ * of. */
 uint32_t xet_find_disagreements(const xet_bytes *shards, size_t count, xet_disagreement *out, size_t capacity,
                                 size_t *written);
 
 /* Looks for a record that no shard may have: a file whose header has a reserved word that is not 0, or flags but those
  * of verification rows, a metadata row and an auxiliary row (bits 31, 30 and 29), or a xorb whose chunks have more than
  * 4294967295 bytes together. A shard without such a record is well-formed. A union keeps the reserved word and the
- * flags of one of its inputs, and xet_find_disagreement does not compare them, so with such a record the order of a
+ * flags of one of its inputs, and whether records agree does not depend on them, so with such a record the order of a
  * merge may count.
  *
- * `*malformed` says whether one of the shards has such a record, and `found` shows one of the first shard that does:
- * its hash, and the place of the shard in the list as `first` and as `second`. If there is none, `found` stays as it
- * is. With an error `*malformed` is false, and `found` stays.
+ * `*malformed` says whether one of the shards has such a record, and `found` shows one of the first shard that does. If
+ * there is none, or with an error, `*malformed` is false, and `found` stays.
  *
- * The errors are those of xet_find_disagreement. */
+ * The errors are those of xet_find_disagreements, without XET_SHORT. */
 uint32_t xet_find_malformed(const xet_bytes *shards, size_t count, bool *malformed, xet_disagreement *found);
 
-/* Writes the union of one shard or more as xet_merge does, if each is well-formed and each two agree. It is the bytes
- * of their join under the key that all have, without expiry, whatever the order of the list; nothing else need be known
- * of the inputs.
+/* Writes the shard that has the records of one shard or more, in their order, with all tables, under the key of all and
+ * without timestamps, in version 2 if all have it, else in version 3. The hashes of files have to ascend from each
+ * shard to the next, and so have those of xorbs; a shard may have none of either. So it puts together what xet_merge
+ * writes for ranges that follow one another, the first without `from` and the last without `to`: if the merged shards
+ * are well-formed and agree, it is the bytes of the one merge. Of shards as this library writes them with all tables,
+ * whose hashes ascend so and which have together at most 4294967295 rows a section, it fails for memory alone.
  *
- * Refusals come in this order. The inputs are gone through one by one: the first that cannot be read, or that is not
- * well-formed, decides between the errors of xet_find_malformed and XET_MALFORMED. Then records that do not agree are
- * XET_DISAGREE, also if the keys differ. Then come the other errors of xet_merge, as of keys that differ or of no
- * shard, and at last XET_SHORT. XET_OUT_OF_MEMORY may come at any time.
+ * Records are copied and not checked: of shards that are not trusted xet_check tells what is wrong with what is made of
+ * them. `out` needs no more room than such shards have bytes in all. They are written to `out` at once, after all
+ * tables were read a first time; beyond that it takes some hundred bytes of memory a shard.
  *
- * XET_MALFORMED: one of them has a record that no shard may have. `found` is as xet_find_malformed sets it, and
- *     `*written` and `*differing` are 0.
- * XET_DISAGREE: two of them do not agree. `*differing` and `found` are as xet_find_disagreement sets them, and
- *     `*written` is 0. xet_find_disagreements lists them all. With any other result but these two `*differing` is 0,
- *     and `found` stays as it is.
- * The other errors are those of xet_merge. */
-uint32_t xet_merge_agreeing(const xet_bytes *shards, size_t count, uint8_t *out, size_t capacity, size_t *written,
-                            size_t *differing, xet_disagreement *found);
+ * XET_INVALID_ARGUMENTS: there is no shard, the keys differ, or hashes do not ascend from one shard to the next.
+ * XET_SHARD_VERSION, XET_IO: the errors of xet_load, of any of the shards.
+ * XET_INVALID_SHARD: the tables of files and of xorbs do not have the rows that the footer counts, a section has not
+ *     the last record that its table names, as in shards that lack tables, the rows of a section pass 4294967295 or a
+ *     sum of bytes 64 bits, or the rows of a table of chunks do not ascend, or are not as many as the chunks. */
+uint32_t xet_concatenate(const xet_bytes *shards, size_t count, uint8_t *out, size_t capacity, size_t *written);
 
-/* The same in a version of the format, 2 or 3.
- *
- * XET_INVALID_ARGUMENTS: first of all if it is another version; if it is 2, and a file of the merge has an auxiliary
- *     row, with the other errors of xet_merge. */
-uint32_t xet_merge_agreeing_in(const xet_bytes *shards, size_t count, uint64_t version, uint8_t *out, size_t capacity,
-                               size_t *written, size_t *differing, xet_disagreement *found);
-
-/* Writes the difference of two shards of one key: the second's records whose hashes the first does not have.
- *
- * The errors are those of xet_union, without that of files that have to be combined. */
-uint32_t xet_difference(const uint8_t *first, size_t first_length, const uint8_t *second, size_t second_length,
-                        uint8_t *out, size_t capacity, size_t *written);
-
-/* The same in a version of the format, as xet_union_in. */
-uint32_t xet_difference_in(const uint8_t *first, size_t first_length, const uint8_t *second, size_t second_length,
-                           uint64_t version, uint8_t *out, size_t capacity, size_t *written);
+/* What an export is to have. With flags of zero it has all parts. */
+typedef struct xet_export_options {
+    uint64_t key[4];        /* of the chunk hashes; zeros leave them as they are */
+    uint64_t now;           /* the creation of the export, in seconds */
+    uint64_t valid_seconds; /* it expires so many seconds later */
+    bool without_files;     /* has neither files nor their table */
+    bool without_aux_rows;  /* files have no auxiliary rows */
+    bool without_xorb_table;
+    bool without_chunk_table;
+} xet_export_options;
 
 /* Writes a shard with each chunk hash replaced by its keyed hash, and with the parts that are asked for.
  *
  * XET_SHARD_VERSION, XET_IO: the errors of xet_load; XET_IO also if a section ends too early.
  * XET_INVALID_ARGUMENTS: the chunk hashes are keyed already, or `now` and `valid_seconds` add up to 2^64 or more.
- * XET_INVALID_SHARD: a file has a row that the version does not have, or a section more than 4294967295 rows.
- * XET_OUT_OF_MEMORY, XET_SHORT. */
-uint32_t xet_export(const uint8_t *shard, size_t length, const xet_export_options *options, uint8_t *out,
-                    size_t capacity, size_t *written);
+ * XET_INVALID_SHARD: a file has a row that its version does not have, or a section more than 4294967295 rows. */
+uint32_t xet_export(const uint8_t *shard, size_t length, const xet_export_options *options, uint64_t version,
+                    uint8_t *out, size_t capacity, size_t *written);
 
-/* The same in a version of the format, as xet_union_in. */
-uint32_t xet_export_in(const uint8_t *shard, size_t length, const xet_export_options *options, uint64_t version,
-                       uint8_t *out, size_t capacity, size_t *written);
+/* What a minimal shard is to have. */
+typedef struct xet_minimal_options {
+    uint64_t now;          /* its creation, in seconds */
+    bool verification;     /* files have verification rows, which each has to have in the shard */
+    bool without_aux_rows; /* files have no auxiliary rows */
+} xet_minimal_options;
 
-/* Writes the records of a shard without tables, created at `now`, in seconds, with expiry 0, and with a mark at each
- * chunk at which a file starts. So it agrees with the shard, and so does a subset of it, only if each such chunk had
- * its mark before. Files keep verification rows and auxiliary rows if these are asked for. Only the header and the
- * sections are read, so the shard may end after them.
+/* Writes the records of a shard without tables, with expiry 0, and with a mark at each chunk at which a file starts. So
+ * it agrees with the shard, and so does a subset of it, only if each such chunk had its mark before. Only the header
+ * and the sections are read, so the shard may end after them.
  *
  * XET_SHARD_VERSION: the tag is another, or the version is neither 2 nor 3.
  * XET_IO: the bytes end before the sections do; or verification rows are asked for and a file has none.
- * XET_INVALID_SHARD: a file has a row that the version does not have, or a section more than 4294967295 rows.
- * XET_OUT_OF_MEMORY, XET_SHORT. */
-uint32_t xet_minimal(const uint8_t *shard, size_t length, uint64_t now, bool verification, bool aux_rows, uint8_t *out,
-                     size_t capacity, size_t *written);
-
-/* The same in a version of the format, 2 or 3.
- *
- * XET_INVALID_ARGUMENTS: it is another version, or 2, and a file of the minimal shard has an auxiliary row. */
-uint32_t xet_minimal_in(const uint8_t *shard, size_t length, uint64_t now, bool verification, bool aux_rows,
-                        uint64_t version, uint8_t *out, size_t capacity, size_t *written);
+ * XET_INVALID_SHARD: a file has a row that its version does not have, or a section more than 4294967295 rows. */
+uint32_t xet_minimal(const uint8_t *shard, size_t length, const xet_minimal_options *options, uint64_t version,
+                     uint8_t *out, size_t capacity, size_t *written);
 
 /* What a subset is to have. */
 typedef struct xet_subset_options {
@@ -425,39 +346,27 @@ typedef struct xet_subset_options {
 /* Writes the xorbs of a shard with these hashes, and no files, without tables, and with a mark at each chunk at which a
  * file starts. A hash that no xorb has is passed over. Only the header and the sections are read.
  *
- * XET_SHARD_VERSION: the tag is another, or the version is neither 2 nor 3.
- * XET_IO: the bytes end before the sections do.
- * XET_INVALID_SHARD: a file has a row that the version does not have, or a section more than 4294967295 rows.
- * XET_OUT_OF_MEMORY, XET_SHORT. */
+ * The errors are those of xet_minimal, without that of verification rows. No file is left that could have an auxiliary
+ * row, so each shard has a subset in version 2. */
 uint32_t xet_subset(const uint8_t *shard, size_t length, const xet_subset_options *options, const xet_hash *xorbs,
-                    size_t xorb_count, uint8_t *out, size_t capacity, size_t *written);
+                    size_t xorb_count, uint64_t version, uint8_t *out, size_t capacity, size_t *written);
 
-/* The same in a version of the format, 2 or 3.
- *
- * XET_INVALID_ARGUMENTS: it is another version. */
-uint32_t xet_subset_in(const uint8_t *shard, size_t length, const xet_subset_options *options, const xet_hash *xorbs,
-                       size_t xorb_count, uint64_t version, uint8_t *out, size_t capacity, size_t *written);
-
-/* Writes the same shard in version 2, for readers that do not know version 3: its records in their order, with its key
- * and its times, and the tables of which the footer says that they have rows.
+/* Writes the same shard in a version of the format: its records in their order, with its key and its times, and the
+ * tables of which the footer says that they have rows.
  *
  * XET_SHARD_VERSION, XET_IO: the errors of xet_load; XET_IO also if a section ends too early.
- * XET_INVALID_ARGUMENTS: a file has an auxiliary row, which version 2 does not have.
- * XET_INVALID_SHARD: a file has a row that its version does not have, or a section more than 4294967295 rows.
- * XET_OUT_OF_MEMORY, XET_SHORT. */
-uint32_t xet_write_v2(const uint8_t *shard, size_t length, uint8_t *out, size_t capacity, size_t *written);
+ * XET_INVALID_SHARD: a file has a row that its version does not have, or a section more than 4294967295 rows. */
+uint32_t xet_convert(const uint8_t *shard, size_t length, uint64_t version, uint8_t *out, size_t capacity,
+                     size_t *written);
 
 /* Writes the whole shard of which these bytes have the header and both sections, whatever comes after these: bytes of a
- * stream that end before the tables do, a minimal shard, or a shard with a wrong footer. It is in version 3, with all
- * tables, creation 0 and no expiry. `key` is the one that the chunk hashes are under, which the footer then says; zeros
- * are no key. So each other call can be made on the result.
+ * stream that end before the tables do, a minimal shard, or a shard with a wrong footer. It has all tables, creation 0
+ * and no expiry. `key` is the one that the chunk hashes are under, which the footer then says; zeros are no key. So
+ * each other call can be made on the result.
  *
- * XET_SHARD_VERSION: the tag is another, or the version is neither 2 nor 3.
- * XET_IO: the bytes end before the sections do.
- * XET_INVALID_SHARD: a file has a row that the version does not have, or a section more than 4294967295 rows.
- * XET_OUT_OF_MEMORY, XET_SHORT. */
-uint32_t xet_complete(const uint8_t *shard, size_t length, const xet_hash *key, uint8_t *out, size_t capacity,
-                      size_t *written);
+ * The errors are those of xet_minimal, without that of verification rows. */
+uint32_t xet_complete(const uint8_t *shard, size_t length, const xet_hash *key, uint64_t version, uint8_t *out,
+                      size_t capacity, size_t *written);
 
 /* Looks for a run of chunks with these hashes, which are not keyed, also if the shard's are. `*count` is how many
  * chunks, from the first hash on, a xorb has one after another, and `run` says where. If there is none, `*count` is 0
@@ -465,8 +374,7 @@ uint32_t xet_complete(const uint8_t *shard, size_t length, const xet_hash *key, 
  * with the first word of the first hash leads to a chunk with that hash. With an error `*count` is 0, and `run` stays.
  *
  * XET_SHARD_VERSION, XET_IO: the errors of xet_load; XET_IO also if a row that is read ends too early.
- * XET_INVALID_SHARD: a row of the table leads to no chunk, or a number does not fit its width.
- * XET_OUT_OF_MEMORY. */
+ * XET_INVALID_SHARD: a row of the table leads to no chunk, or a number does not fit its width. */
 uint32_t xet_query_chunks(const uint8_t *shard, size_t length, const xet_hash *hashes, size_t hash_count, size_t *count,
                           xet_segment *run);
 
@@ -478,8 +386,7 @@ uint32_t xet_query_chunks(const uint8_t *shard, size_t length, const xet_hash *h
  *
  * XET_SHARD_VERSION, XET_IO: the errors of xet_load; XET_IO also if a row that is read ends too early.
  * XET_INVALID_ARGUMENTS: there is no xorb at the row, since the section ends there, or it has no chunk at the index.
- * XET_INVALID_SHARD: a number does not fit its width.
- * XET_OUT_OF_MEMORY. */
+ * XET_INVALID_SHARD: a number does not fit its width. */
 uint32_t xet_query_at(const uint8_t *shard, size_t length, const xet_hash *hashes, size_t hash_count, uint32_t row,
                       uint32_t index, size_t *count, xet_segment *run);
 
@@ -496,8 +403,7 @@ typedef struct xet_chunk_row {
  * of a hash under it, as xet_hmac makes it. `capacity` and `*written` count rows.
  *
  * XET_SHARD_VERSION, XET_IO: the errors of xet_load; XET_IO also if the table or the section ends too early.
- * XET_INVALID_SHARD: there are more than 4294967295 rows.
- * XET_OUT_OF_MEMORY, XET_SHORT. */
+ * XET_INVALID_SHARD: there are more than 4294967295 rows. */
 uint32_t xet_chunk_rows(const uint8_t *shard, size_t length, xet_chunk_row *out, size_t capacity, size_t *written);
 
 /* Writes the hashes of the chunks that the global index keeps, each once and in ascending order: chunks that are
@@ -506,8 +412,7 @@ uint32_t xet_chunk_rows(const uint8_t *shard, size_t length, xet_chunk_row *out,
  *
  * XET_SHARD_VERSION: the tag is another, or the version is neither 2 nor 3.
  * XET_IO: the bytes end before the sections do.
- * XET_INVALID_SHARD: a file has a row that the version does not have, or a section more than 4294967295 rows.
- * XET_OUT_OF_MEMORY, XET_SHORT. */
+ * XET_INVALID_SHARD: a file has a row that the version does not have, or a section more than 4294967295 rows. */
 uint32_t xet_eligible(const uint8_t *shard, size_t length, xet_hash *out, size_t capacity, size_t *written);
 
 /* A segment of a file, and the hash of its verification row, or zeros where the file has none. */
@@ -539,8 +444,7 @@ typedef struct xet_file {
  * XET_SHARD_VERSION, XET_IO: the errors of xet_load; XET_IO also if a row that is read ends too early.
  * XET_TRUNCATED_HASH_COLLISION: eight or more files share the first word of the hash.
  * XET_INTERNAL_ERROR: a row of the table of files leads to the end of the section.
- * XET_INVALID_SHARD: the file has a row that the version does not have, or a number does not fit its width.
- * XET_OUT_OF_MEMORY, XET_SHORT. */
+ * XET_INVALID_SHARD: the file has a row that the version does not have, or a number does not fit its width. */
 uint32_t xet_find_file(const uint8_t *shard, size_t length, const xet_hash *hash, xet_file *file,
                        xet_file_segment *segments, size_t capacity);
 
@@ -557,8 +461,7 @@ typedef struct xet_place {
  * not fit and `segments` stays as it is, but `place` and `file` are filled. With any other error all outputs stay.
  *
  * XET_SHARD_VERSION, XET_IO: the errors of xet_load; XET_IO also if the bytes end before the record does.
- * XET_INVALID_SHARD: the file has a row that the version does not have, or a number does not fit its width.
- * XET_OUT_OF_MEMORY, XET_SHORT. */
+ * XET_INVALID_SHARD: the file has a row that the version does not have, or a number does not fit its width. */
 uint32_t xet_file_at(const uint8_t *shard, size_t length, uint32_t row, xet_place *place, xet_file *file,
                      xet_file_segment *segments, size_t capacity);
 
@@ -592,8 +495,7 @@ uint32_t xet_xorb_at(const uint8_t *shard, size_t length, uint32_t row, xet_plac
  * their words, and have 12 bytes, 16 in a chunk table.
  *
  * XET_INVALID_ARGUMENTS: the bytes are no whole rows.
- * XET_TRUNCATED_HASH_COLLISION: eight or more rows have the word.
- * XET_OUT_OF_MEMORY, XET_SHORT. */
+ * XET_TRUNCATED_HASH_COLLISION: eight or more rows have the word. */
 uint32_t xet_find_rows(const uint8_t *table, size_t length, uint64_t word, uint32_t *rows, size_t capacity,
                        size_t *written);
 
@@ -606,8 +508,7 @@ typedef struct xet_chunk_place {
 /* The same of a chunk table, and of the first word of a chunk's hash, which is keyed if the shard has a key. Writes 8
  * places at most, as many as a query looks at.
  *
- * XET_INVALID_ARGUMENTS: the bytes are no whole rows.
- * XET_OUT_OF_MEMORY, XET_SHORT. */
+ * XET_INVALID_ARGUMENTS: the bytes are no whole rows. */
 uint32_t xet_find_places(const uint8_t *table, size_t length, uint64_t word, xet_chunk_place *places, size_t capacity,
                          size_t *written);
 
@@ -617,8 +518,7 @@ uint32_t xet_find_places(const uint8_t *table, size_t length, uint64_t word, xet
  *
  * XET_IO: the bytes end before the record does, so more are needed.
  * XET_INVALID_ARGUMENTS: the version is neither 2 nor 3.
- * XET_INVALID_SHARD: the file has a row that the version does not have, or more rows than 32 bits count.
- * XET_OUT_OF_MEMORY, XET_SHORT. */
+ * XET_INVALID_SHARD: the file has a row that the version does not have, or more rows than 32 bits count. */
 uint32_t xet_file_in(const uint8_t *bytes, size_t length, uint64_t version, xet_place *place, xet_file *file,
                      xet_file_segment *segments, size_t capacity);
 
@@ -663,35 +563,26 @@ typedef struct xet_counts {
  * asks for the counts. With any other error the counts are 0.
  *
  * XET_SHARD_VERSION, XET_IO: the errors of xet_load; XET_IO also if a section ends too early.
- * XET_INVALID_SHARD: a file has a row that the version does not have, or a section more than 4294967295 rows.
- * XET_OUT_OF_MEMORY, XET_SHORT. */
+ * XET_INVALID_SHARD: a file has a row that the version does not have, or a section more than 4294967295 rows. */
 uint32_t xet_records(const uint8_t *shard, size_t length, xet_listed_file *files, size_t file_capacity,
                      xet_file_segment *segments, size_t segment_capacity, xet_listed_xorb *xorbs, size_t xorb_capacity,
                      xet_chunk *chunks, size_t chunk_capacity, xet_counts *counts);
 
-/* Writes the shard that has these files and xorbs, in version 3, with all tables and without a key. The records may be
- * in any order. Of two files, or two xorbs, with one hash the later one counts. Reserved words of files are zeros; the
- * hashes of parts that a file's flags do not name are not read. `expiry` is in seconds, and UINT64_MAX means none.
+/* Writes the shard that has these files and xorbs, with all tables and without a key. The records may be in any order.
+ * Of two files, or two xorbs, with one hash the later one counts. Reserved words of files are zeros; the hashes of
+ * parts that a file's flags do not name are not read. `expiry` is in seconds, and UINT64_MAX means none.
  *
  * So take a shard without a key, as this library writes it with all tables and creation 0, in which reserved words of
- * files are zeros. The lists that xet_records makes of it are written as the bytes of the same shard, in version 3 and
- * with the expiry given.
+ * files are zeros. The lists that xet_records makes of it are written as the bytes of the same shard, in the version
+ * and with the expiry given.
  *
  * XET_INVALID_ARGUMENTS: the files' numbers of segments do not add up to the number of segments, or those of chunks to
  *     that of chunks; or there is no such shard: a hash is all ones, a file has flags of no known part, the chunks of a
- *     xorb have more than 4294967295 bytes in all, or the rows of the files, or of the xorbs, would pass 4294967295.
- * XET_OUT_OF_MEMORY, XET_SHORT. */
+ *     xorb have more than 4294967295 bytes in all, or the rows of the files, or of the xorbs, would pass 4294967295. */
 uint32_t xet_write(const xet_listed_file *files, size_t file_count, const xet_file_segment *segments,
                    size_t segment_count, const xet_listed_xorb *xorbs, size_t xorb_count, const xet_chunk *chunks,
-                   size_t chunk_count, uint64_t expiry, uint8_t *out, size_t capacity, size_t *written);
-
-/* The same in a version of the format, 2 or 3.
- *
- * XET_INVALID_ARGUMENTS: also if it is another version, or 2, and a file has an auxiliary row. */
-uint32_t xet_write_in(const xet_listed_file *files, size_t file_count, const xet_file_segment *segments,
-                      size_t segment_count, const xet_listed_xorb *xorbs, size_t xorb_count, const xet_chunk *chunks,
-                      size_t chunk_count, uint64_t version, uint64_t expiry, uint8_t *out, size_t capacity,
-                      size_t *written);
+                   size_t chunk_count, uint64_t expiry, uint64_t version, uint8_t *out, size_t capacity,
+                   size_t *written);
 
 /* The room that is enough for xet_write of so many records: 344 bytes, 156 for a file, 96 for a segment, 60 for a xorb
  * and 64 for a chunk. */
@@ -711,7 +602,8 @@ enum xet_finding_kind {
     XET_TOO_SHORT,        /* there are too few bytes for a header and a footer */
     XET_CUT,              /* the bytes end before the section `part` does */
     XET_REFUSED,          /* the section has a header that the version does not have, or more than 4294967295 rows */
-    XET_OUT_OF_ORDER,     /* the hash of record `number` of the section, from 0 on, is not above the one before */
+    XET_OUT_OF_ORDER,     /* the hash of record `number` of the section, from 0 on, is not above the one before; of
+                           * each section the first such record alone is a finding */
     XET_DIFFERS,          /* the part is not what the records imply; of a section, its end is not */
     XET_OTHER_SIZE,       /* the size is not `number`, which the records give */
     XET_MALFORMED_RECORD, /* no shard may have the record `number` of the section, from 0 on: a file with flags beside
@@ -745,20 +637,17 @@ typedef struct xet_finding {
  *
  * The original leaves rows of the chunk table that share a first word in any order. So of a shard that it wrote, in
  * which a chunk occurs more than once, this mostly writes the note XET_REORDERED, which is no fault: the bytes are as
- * above but for this order. Bytes with no other finding hold a well-formed shard, as xet_find_malformed asks for it.
- *
- * XET_OUT_OF_MEMORY, XET_SHORT. */
+ * above but for this order. Bytes with no other finding hold a well-formed shard, as xet_find_malformed asks for it. */
 uint32_t xet_check(const uint8_t *shard, size_t length, xet_finding *out, size_t capacity, size_t *written);
 
-/* Writes the 64 hexadecimal digits of a hash, in lower case, without a zero byte behind them. XET_OUT_OF_MEMORY,
- * XET_SHORT. */
+/* Writes the 64 hexadecimal digits of a hash, in lower case, without a zero byte behind them. */
 uint32_t xet_hash_to_hex(const xet_hash *hash, uint8_t *out, size_t capacity, size_t *written);
 
 /* Reads a hash from its 64 hexadecimal digits, of either case. XET_HASH_PARSING: it is another text. */
 uint32_t xet_hash_from_hex(const uint8_t *text, size_t length, xet_hash *hash);
 
-/* Writes the name of the file of the shard with this hash: its 64 digits and `.mdb`, without a zero byte behind them.
- * XET_OUT_OF_MEMORY, XET_SHORT. */
+/* Writes the name of the file of the shard with this hash: its 64 digits and `.mdb`, without a zero byte behind
+ * them. */
 uint32_t xet_shard_name(const xet_hash *hash, uint8_t *out, size_t capacity, size_t *written);
 
 /* Reads the hash in the name of a shard file, which is 64 hexadecimal digits of either case and `.mdb`.

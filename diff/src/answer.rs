@@ -112,11 +112,6 @@ impl Call {
             Call::Union | Call::Difference | Call::FindDisagreement | Call::MergeAgreeing
         )
     }
-
-    /// Whether it reads all of the first shard before it looks at the second.
-    pub fn reads_in_turn(&self) -> bool {
-        matches!(self, Call::FindDisagreement | Call::MergeAgreeing)
-    }
 }
 
 /// The timestamp that minimal shards and subsets get.

@@ -98,7 +98,7 @@ impl Difference<'_> {
                 return Some(HeaderVersion);
             }
             // The original may fail in the first shard, and the port, which reads it, in the second.
-            if !self.call.reads_in_turn() {
+            if !both {
                 return None;
             }
         }
@@ -247,9 +247,6 @@ impl Difference<'_> {
         let keys_differ = matches!(&inputs[..], [(_, x), (_, y)] if x.key != y.key);
         if self.port_fails_by(Error::InvalidArguments) {
             return keys_differ.then_some(KeysDiffer);
-        }
-        if !self.call.reads_in_turn() && (inputs.len() < 2 || keys_differ) {
-            return None;
         }
         let files: Vec<_> = inputs
             .iter()

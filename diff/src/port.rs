@@ -30,10 +30,29 @@ struct ExportOptions {
     key: [u64; 4],
     now: u64,
     valid_seconds: u64,
-    files: bool,
-    aux_rows: bool,
-    xorb_table: bool,
-    chunk_table: bool,
+    without_files: bool,
+    without_aux_rows: bool,
+    without_xorb_table: bool,
+    without_chunk_table: bool,
+}
+
+#[repr(C)]
+struct MinimalOptions {
+    now: u64,
+    verification: bool,
+    without_aux_rows: bool,
+}
+
+/// All zero: the union of all records of any shards.
+#[repr(C)]
+#[derive(Default)]
+struct MergeOptions {
+    from: [u64; 4],
+    to: [u64; 4],
+    has_from: bool,
+    has_to: bool,
+    strict: bool,
+    by_tables: bool,
 }
 
 #[repr(C)]
@@ -53,43 +72,39 @@ struct Bytes {
 // As in bindings/c/xet.h.
 unsafe extern "C" {
     fn xet_load(shard: *const u8, length: usize, info: *mut Info) -> u32;
-    fn xet_union(
-        first: *const u8,
-        first_length: usize,
-        second: *const u8,
-        second_length: usize,
+    fn xet_merge(
+        shards: *const Bytes,
+        count: usize,
+        options: *const MergeOptions,
+        version: u64,
         out: *mut u8,
         capacity: usize,
         written: *mut usize,
+        differing: *mut usize,
+        found: *mut Disagreement,
     ) -> u32;
     fn xet_difference(
         first: *const u8,
         first_length: usize,
         second: *const u8,
         second_length: usize,
+        version: u64,
         out: *mut u8,
         capacity: usize,
         written: *mut usize,
     ) -> u32;
-    fn xet_find_disagreement(
+    fn xet_find_disagreements(
         shards: *const Bytes,
         count: usize,
-        differing: *mut usize,
-        found: *mut Disagreement,
-    ) -> u32;
-    fn xet_merge_agreeing(
-        shards: *const Bytes,
-        count: usize,
-        out: *mut u8,
+        out: *mut Disagreement,
         capacity: usize,
         written: *mut usize,
-        differing: *mut usize,
-        found: *mut Disagreement,
     ) -> u32;
     fn xet_export(
         shard: *const u8,
         length: usize,
         options: *const ExportOptions,
+        version: u64,
         out: *mut u8,
         capacity: usize,
         written: *mut usize,
@@ -97,16 +112,8 @@ unsafe extern "C" {
     fn xet_minimal(
         shard: *const u8,
         length: usize,
-        now: u64,
-        verification: bool,
-        aux_rows: bool,
-        out: *mut u8,
-        capacity: usize,
-        written: *mut usize,
-    ) -> u32;
-    fn xet_merge(
-        shards: *const Bytes,
-        count: usize,
+        options: *const MinimalOptions,
+        version: u64,
         out: *mut u8,
         capacity: usize,
         written: *mut usize,
@@ -117,6 +124,7 @@ unsafe extern "C" {
         options: *const SubsetOptions,
         xorbs: *const Hash,
         xorb_count: usize,
+        version: u64,
         out: *mut u8,
         capacity: usize,
         written: *mut usize,
@@ -129,9 +137,10 @@ unsafe extern "C" {
         count: *mut usize,
         run: *mut Segment,
     ) -> u32;
-    fn xet_write_v2(
+    fn xet_convert(
         shard: *const u8,
         length: usize,
+        version: u64,
         out: *mut u8,
         capacity: usize,
         written: *mut usize,
@@ -156,6 +165,8 @@ unsafe extern "C" {
 const SHORT: u32 = 19;
 const DISAGREE: u32 = 20;
 const MALFORMED: u32 = 21;
+/// The version that is written, but where another is named.
+const VERSION: u64 = 3;
 const NO_HASH: Hash = Hash { words: [0; 4] };
 
 /// What the port answers. Each pointer below is that of a slice or a value that outlives the call,
@@ -165,23 +176,14 @@ pub fn answer(call: &Call, first: &[u8], second: &[u8]) -> Answer {
         Call::Load => load(first),
         Call::Find(hash) => find(first, hash),
         Call::Query(hashes) => query(first, hashes),
-        Call::Union => shard(|out, room, written| unsafe {
-            xet_union(
-                first.as_ptr(),
-                first.len(),
-                second.as_ptr(),
-                second.len(),
-                out,
-                room,
-                written,
-            )
-        }),
+        Call::Union => merge(&[first, second]),
         Call::Difference => shard(|out, room, written| unsafe {
             xet_difference(
                 first.as_ptr(),
                 first.len(),
                 second.as_ptr(),
                 second.len(),
+                VERSION,
                 out,
                 room,
                 written,
@@ -194,18 +196,7 @@ pub fn answer(call: &Call, first: &[u8], second: &[u8]) -> Answer {
         Call::Minimal {
             verification,
             aux_rows,
-        } => shard(|out, room, written| unsafe {
-            xet_minimal(
-                first.as_ptr(),
-                first.len(),
-                NOW,
-                *verification,
-                *aux_rows,
-                out,
-                room,
-                written,
-            )
-        }),
+        } => minimal(first, *verification, *aux_rows),
         Call::Eligible => items(NO_HASH, Answer::Hashes, |out, room, written| unsafe {
             xet_eligible(first.as_ptr(), first.len(), out, room, written)
         }),
@@ -215,7 +206,7 @@ pub fn answer(call: &Call, first: &[u8], second: &[u8]) -> Answer {
 /// What the port answers if it is to write a shard in version 2.
 pub fn version_2(bytes: &[u8]) -> Answer {
     shard(|out, room, written| unsafe {
-        xet_write_v2(bytes.as_ptr(), bytes.len(), out, room, written)
+        xet_convert(bytes.as_ptr(), bytes.len(), 2, out, room, written)
     })
 }
 
@@ -278,8 +269,42 @@ fn query(shard: &[u8], hashes: &[Hash]) -> Answer {
 
 /// What the port answers of a merge.
 pub fn merge(shards: &[&[u8]]) -> Answer {
-    let list = list(shards);
-    shard(|out, room, written| unsafe { xet_merge(list.as_ptr(), list.len(), out, room, written) })
+    let (list, options) = (list(shards), MergeOptions::default());
+    let (mut differing, mut found) = (1, UNTOUCHED);
+    let merged = shard(|out, room, written| unsafe {
+        xet_merge(
+            list.as_ptr(),
+            list.len(),
+            &options,
+            VERSION,
+            out,
+            room,
+            written,
+            &mut differing,
+            &mut found,
+        )
+    });
+    assert_eq!(shown(differing, found), None, "nothing has to agree");
+    merged
+}
+
+fn minimal(shard_bytes: &[u8], verification: bool, aux_rows: bool) -> Answer {
+    let options = MinimalOptions {
+        now: NOW,
+        verification,
+        without_aux_rows: !aux_rows,
+    };
+    shard(|out, room, written| unsafe {
+        xet_minimal(
+            shard_bytes.as_ptr(),
+            shard_bytes.len(),
+            &options,
+            VERSION,
+            out,
+            room,
+            written,
+        )
+    })
 }
 
 fn subset(shard_bytes: &[u8], subset: &Subset) -> Answer {
@@ -296,6 +321,7 @@ fn subset(shard_bytes: &[u8], subset: &Subset) -> Answer {
             &options,
             listed.as_ptr(),
             listed.len(),
+            VERSION,
             out,
             room,
             written,
@@ -308,16 +334,17 @@ fn export(shard_bytes: &[u8], export: &Export) -> Answer {
         key: export.key,
         now: export.now,
         valid_seconds: export.valid_seconds,
-        files: export.files,
-        aux_rows: export.aux_rows,
-        xorb_table: export.xorb_table,
-        chunk_table: export.chunk_table,
+        without_files: !export.files,
+        without_aux_rows: !export.aux_rows,
+        without_xorb_table: !export.xorb_table,
+        without_chunk_table: !export.chunk_table,
     };
     shard(|out, room, written| unsafe {
         xet_export(
             shard_bytes.as_ptr(),
             shard_bytes.len(),
             &options,
+            VERSION,
             out,
             room,
             written,
@@ -343,25 +370,27 @@ const UNTOUCHED: Disagreement = Disagreement {
 
 fn find_disagreement(first: &[u8], second: &[u8]) -> Answer {
     let shards = list(&[first, second]);
-    let (mut differing, mut found) = (1, UNTOUCHED);
-    let result =
-        unsafe { xet_find_disagreement(shards.as_ptr(), shards.len(), &mut differing, &mut found) };
-    let found = shown(differing, found);
-    if result != 0 {
-        assert_eq!(found, None, "an error shows a disagreement");
-        return Answer::Error(Error::of_number(result));
-    }
-    Answer::Disagreement(found)
+    let first_of =
+        |all: Vec<Disagreement>| Answer::Disagreement(all.first().map(|found| (all.len(), *found)));
+    items(UNTOUCHED, first_of, |out, room, written| unsafe {
+        xet_find_disagreements(shards.as_ptr(), shards.len(), out, room, written)
+    })
 }
 
 fn merge_agreeing(first: &[u8], second: &[u8]) -> Answer {
     let shards = list(&[first, second]);
+    let options = MergeOptions {
+        strict: true,
+        ..MergeOptions::default()
+    };
     let (mut result, mut differing, mut found) = (0, 1, UNTOUCHED);
     let merged = shard(|out, room, written| {
         result = unsafe {
-            xet_merge_agreeing(
+            xet_merge(
                 shards.as_ptr(),
                 shards.len(),
+                &options,
+                VERSION,
                 out,
                 room,
                 written,

@@ -26,7 +26,7 @@ TEXT = {
  The library merges, looks up, checks and exports the metadata shards of
  Hugging Face's Xet storage: bytes in, bytes or an answer out.
  .
- This package has the header, the archive, and what pkg-config reads."""),
+ This package has the header, the archive, and what pkg-config and CMake read."""),
 }
 
 
@@ -37,7 +37,8 @@ def placed(found):
     tools = {path: f"usr/{path}" for path in found if path.startswith(of_mdb)}
     tools.update({f"share/doc/{NAME}/{it}": f"usr/share/doc/xet-mdb/examples/{it}" for it in SHARDS})
     runtime = {path: f"{LIBRARY}/{os.path.basename(path)}" for path in (own, f"lib/{SONAME}")}
-    rest = ("lib/libxet.a", "lib/libxet.so", "lib/pkgconfig/xet.pc")
+    cmake = (f"lib/cmake/xet/xet-config{it}.cmake" for it in ("", "-version"))
+    rest = ("lib/libxet.a", "lib/libxet.so", "lib/pkgconfig/xet.pc", *cmake)
     developing = {path: f"{LIBRARY}/{path[4:]}" for path in rest}
     developing["include/xet.h"] = "usr/include/xet.h"
     developing["share/doc/xet-shards/example.c"] = "usr/share/doc/libxet-dev/examples/example.c"

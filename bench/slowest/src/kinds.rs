@@ -1,8 +1,9 @@
 //! The kinds of shards that are meant to be slow.
 
+use crate::calls::{self, ExportOptions};
 use crate::shard::{mix, shuffle};
 use crate::shard::{Layout, Parts, Shard, Tables, CHUNK_ENTRY, EMPTY, MARK, RECORD_ENTRY, ROW};
-use crate::{calls, Chunk, Export, Hash, Segment};
+use crate::{Chunk, Hash, Segment};
 
 /// How the rows of a section stand in records.
 #[derive(Clone, Copy)]
@@ -398,12 +399,24 @@ fn segments(xorb: Hash, start: usize, count: usize, change: u32) -> Vec<Segment>
     (0..count).map(one).collect()
 }
 
+/// An export with all parts, under a key of this word.
+pub fn export(word: u64) -> ExportOptions {
+    ExportOptions {
+        key: Hash([word; 4]),
+        now: 0,
+        valid_seconds: 1,
+        without_files: false,
+        without_aux_rows: false,
+        without_xorb_table: false,
+        without_chunk_table: false,
+    }
+}
+
 /// The export of a shard under a key.
 fn keyed(shard: &[u8]) -> Vec<u8> {
     let mut out = vec![0; shard.len()];
     let mut written = 0;
-    let options = Export::new(Hash([1; 4]), 0, 1);
-    let result = calls::xet_export(shard, &options, &mut out, &mut written);
+    let result = calls::xet_export(shard, &export(1), 3, &mut out, &mut written);
     assert_eq!(result, 0, "a shard of one xorb can be exported");
     out.truncate(written);
     out

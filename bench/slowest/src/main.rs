@@ -16,7 +16,7 @@ mod subject;
 
 use measure::Cost;
 use subject::{Subject, SUBJECTS};
-use xet_shards::{Chunk, ChunkPlace, ChunkRow, Export, Hash, Info, Segment};
+use xet_shards::{Chunk, ChunkPlace, ChunkRow, Hash, Info, Segment};
 
 struct Arguments {
     bytes: usize,

@@ -1,9 +1,13 @@
 //! The calls that are measured.
 
-use crate::calls::{self, Bytes, Disagreement, File, FileSegment, Finding, Place, Subset, Xorb};
+use crate::calls::{
+    self, Bytes, Disagreement, File, FileSegment, Finding, MergeOptions, MinimalOptions, Place,
+    SubsetOptions, Xorb,
+};
 use crate::inputs::{self, Input, Inputs};
+use crate::kinds::export;
 use crate::shard::{EMPTY, ROW};
-use crate::{Chunk, Export, Hash, Info, Segment};
+use crate::{Chunk, Hash, Info, Segment};
 
 /// A call of `xet.h`.
 pub struct Subject {
@@ -33,24 +37,22 @@ pub const SUBJECTS: [Subject; 18] = [
     subject("xet_file_at", inputs::alone, file_at),
     subject("xet_xorb_at", inputs::alone, xorb_at),
     subject("xet_union", inputs::pairs, |it, room| {
-        calls::xet_union(it.first(), &it.shards[1], &mut room.bytes, &mut 0)
+        merge(it, room, false)
     }),
     subject("xet_difference", inputs::pairs, |it, room| {
-        calls::xet_difference(it.first(), &it.shards[1], &mut room.bytes, &mut 0)
+        calls::xet_difference(it.first(), &it.shards[1], 3, &mut room.bytes, &mut 0)
     }),
     subject("xet_merge", inputs::lists, |it, room| {
-        calls::xet_merge(&it.list(), &mut room.bytes, &mut 0)
+        merge(it, room, false)
     }),
-    subject("xet_find_disagreement", inputs::lists, |it, _| {
-        calls::xet_find_disagreement(&it.list(), &mut 0, &mut Disagreement::default())
+    subject("xet_find_disagreements", inputs::lists, |it, room| {
+        calls::xet_find_disagreements(&it.list(), &mut room.disagreements, &mut 0)
     }),
-    subject("xet_merge_agreeing", inputs::lists, |it, room| {
-        let mut found = Disagreement::default();
-        calls::xet_merge_agreeing(&it.list(), &mut room.bytes, &mut 0, &mut 0, &mut found)
+    subject("xet_merge, strictly", inputs::lists, |it, room| {
+        merge(it, room, true)
     }),
     subject("xet_export", inputs::alone, |it, room| {
-        let options = Export::new(Hash([2; 4]), 0, 1);
-        calls::xet_export(it.first(), &options, &mut room.bytes, &mut 0)
+        calls::xet_export(it.first(), &export(2), 3, &mut room.bytes, &mut 0)
     }),
     subject("xet_minimal", inputs::alone, |it, room| {
         minimal(it, room, false)
@@ -64,8 +66,8 @@ pub const SUBJECTS: [Subject; 18] = [
     subject("xet_subset", inputs::alone, |it, room| {
         subset(it, room, true)
     }),
-    subject("xet_write_v2", inputs::alone, |it, room| {
-        calls::xet_write_v2(it.first(), &mut room.bytes, &mut 0)
+    subject("xet_convert", inputs::alone, |it, room| {
+        calls::xet_convert(it.first(), 2, &mut room.bytes, &mut 0)
     }),
     subject("xet_eligible", inputs::alone, |it, room| {
         calls::xet_eligible(it.first(), &mut room.hashes, &mut 0)
@@ -82,6 +84,7 @@ pub struct Room {
     chunks: Vec<Chunk>,
     hashes: Vec<Hash>,
     findings: Vec<Finding>,
+    disagreements: Vec<Disagreement>,
 }
 
 impl Room {
@@ -96,6 +99,7 @@ impl Room {
             chunks: vec![Chunk::default(); rows],
             hashes: vec![Hash::default(); rows],
             findings: vec![Finding::default(); 16],
+            disagreements: vec![Disagreement::default(); rows],
         }
     }
 }
@@ -141,19 +145,35 @@ fn xorb_at(input: &Input, room: &mut Room) -> u32 {
     calls::xet_xorb_at(input.first(), 0, &mut place, &mut xorb, &mut room.chunks)
 }
 
-fn minimal(input: &Input, room: &mut Room, verification: bool) -> u32 {
-    calls::xet_minimal(
-        input.first(),
-        0,
-        verification,
-        true,
-        &mut room.bytes,
+fn merge(input: &Input, room: &mut Room, strict: bool) -> u32 {
+    let options = MergeOptions {
+        strict,
+        ..MergeOptions::default()
+    };
+    let (mut differing, mut found) = (0, Disagreement::default());
+    let out = &mut room.bytes;
+    calls::xet_merge(
+        &input.list(),
+        &options,
+        3,
+        out,
         &mut 0,
+        &mut differing,
+        &mut found,
     )
 }
 
+fn minimal(input: &Input, room: &mut Room, verification: bool) -> u32 {
+    let options = MinimalOptions {
+        now: 0,
+        verification,
+        without_aux_rows: false,
+    };
+    calls::xet_minimal(input.first(), &options, 3, &mut room.bytes, &mut 0)
+}
+
 fn subset(input: &Input, room: &mut Room, all: bool) -> u32 {
-    let options = Subset {
+    let options = SubsetOptions {
         now: 0,
         expiry: 0,
         all,
@@ -162,6 +182,7 @@ fn subset(input: &Input, room: &mut Room, all: bool) -> u32 {
         input.first(),
         &options,
         &input.hashes,
+        3,
         &mut room.bytes,
         &mut 0,
     )

@@ -201,10 +201,10 @@ def test_full_disk():
     with files([made_shard(0), made_shard(1)]) as (_, paths, to):
         call = xet_shards.concatenate_into
 
-        def look(shards, out, version):
+        def look(shards, out):
             [file] = [it for it in to.parent.iterdir() if it.name.endswith(".new")]
             assert 512 * file.stat().st_blocks >= file.stat().st_size == len(out)
-            return call(shards, out, version)
+            return call(shards, out)
 
         with mock.patch.object(cluster, "concatenate_into", look):
             check(paths, to, tasks=3)

@@ -52,6 +52,16 @@ def records(choice, word, count):
     return files, xorbs
 
 
+def records_in_a_shard(choice, word, count):
+    """Returns a shard with so many records of each kind."""
+    shard = Shard()
+    files, xorbs = records(choice, word, count)
+    for add, found in ((shard.add_file, files), (shard.add_xorb, xorbs)):
+        for name, parts in found.items():
+            add(name, *parts)
+    return shard.written()
+
+
 def random_shards(choice, word, version=3):
     """Returns shards that agree: each has some of a set of records."""
     files, xorbs = records(choice, word, choice.choice([0, 1, 2, 30]))
@@ -90,7 +100,7 @@ def check_same(shards, threads, **named):
 
 def check_parts(shards, threads, whole, start=None, stop=None):
     """Looks whether the ranges of a merge follow one another, and returns how many there are."""
-    parts = ranges.range_merges(shards, threads, False, start, stop)
+    parts = ranges.range_merges(shards, threads, False, start, stop, 3)
     assert len(parts) <= threads
     assert not parts or xet_shards.concatenate(parts) == whole
     return len(parts)
@@ -239,7 +249,7 @@ def test_ranges_are_of_about_one_size():
             for _ in range(count):
                 shard.add_xorb(text_of(choice, word), *["21:1"] * choice.randrange(5))
             shards.append(shard.written())
-        sizes = [len(it) - 344 for it in ranges.range_merges(shards, 4, False, None, None)]
+        sizes = [len(it) - 344 for it in ranges.range_merges(shards, 4, False, None, None, 3)]
         assert len(sizes) == 4 and max(sizes) < 0.35 * sum(sizes), sizes
 
 
@@ -247,7 +257,7 @@ def test_a_range_that_fails():
     """The bytes are those of a merge without threads if a part can't be made, or the parts not put together."""
     shards = [ONE_FILE, XORB_AND_FILE]
     whole = xet_shards.merge(shards)
-    for name in ("_list", "_advise_large_pages", "_merge_in_to"):
+    for name in ("_options", "_advise_large_pages", "_merge_to", "concatenate_into"):
         original = getattr(ranges, name)
 
         def fails(*_):
@@ -264,7 +274,7 @@ def test_threads_that_nobody_waits_for():
     """A thread holds the bytes of the shards until its merge is done, also if no one waits for it any more."""
     runs, goes_on, done = threading.Event(), threading.Event(), threading.Event()
     shards = [bytearray(ONE_FILE), bytearray(XORB_AND_FILE)]
-    library, pool_class = ranges._library, ranges.ThreadPoolExecutor
+    merge_to, pool_class = ranges._merge_to, ranges.ThreadPoolExecutor
 
     class Interrupted(pool_class):
         """Is interrupted once a thread runs, and again while it waits for that to end."""
@@ -277,45 +287,86 @@ def test_threads_that_nobody_waits_for():
         def __exit__(self, *_):
             raise KeyboardInterrupt
 
-    class Slow:
-        def __getattr__(self, name):
-            return getattr(library, name)
-
-        @staticmethod
-        def xet_merge_range(*arguments):
+    def slow(of, *arguments):
+        with xet_shards._memory._Addresses(*of):
             runs.set()
             goes_on.wait(60)
-            number = library.xet_merge_range(*arguments)
-            done.set()
-            return number
+            size = merge_to(of, *arguments)
+        done.set()
+        return size
 
-    ranges._library, ranges.ThreadPoolExecutor = Slow(), Interrupted
+    ranges._merge_to, ranges.ThreadPoolExecutor = slow, Interrupted
     try:
-        raises(KeyboardInterrupt, ranges.range_merges, shards, 2, False, hash_text("0"), None)
+        raises(KeyboardInterrupt, ranges.range_merges, shards, 2, False, hash_text("0"), None, 3)
         raises(BufferError, shards[0].append, 0)
         goes_on.set()
         assert done.wait(60)
     finally:
         goes_on.set()
-        ranges._library, ranges.ThreadPoolExecutor = library, pool_class
+        ranges._merge_to, ranges.ThreadPoolExecutor = merge_to, pool_class
 
 
-def test_merges_of_rows():
-    """Where tables are right and first words differ, no thread reads more than the rows of its range."""
-    class OfRows:
-        def __getattr__(self, name):
-            assert name != "xet_merge_range"
-            return getattr(library, name)
+def test_numbers_of_threads():
+    for threads, error in ((0, ValueError), (-1, ValueError), (1.5, TypeError), ("2", TypeError)):
+        raises(error, xet_shards.merge, [ONE_FILE], threads=threads)
+    assert xet_shards.merge([ONE_FILE], threads=True) == ONE_FILE
 
-    choice, library, found = random.Random(6), ranges._library, 0
-    ranges._library = OfRows()
+
+def test_merges_by_tables():
+    """Where tables are right and first words differ, no thread reads more than the records of its range."""
+    def by_tables(shards, out, options, version):
+        assert options.by_tables
+        return merge_to(shards, out, options, version)
+
+    choice, merge_to, found = random.Random(6), ranges._merge_to, 0
+    ranges._merge_to = by_tables
     try:
         for turn in range(30):
             shards = random_shards(choice, spread)
             found = max(found, check_parts(shards, 2 + turn % 4, xet_shards.merge(shards)))
     finally:
-        ranges._library = library
+        ranges._merge_to = merge_to
     assert found == 5
+
+
+def merges_by_tables(shards, bounds, strict=False):
+    """Returns the merges by tables of the ranges between these bounds, or None if one of them is refused."""
+    room, bounds = xet_shards.merge_room(shards), [None, *bounds, None]
+    try:
+        return [
+            ranges._range_merge(shards, ranges._options(*it, strict, True), 3, room) for it in zip(bounds, bounds[1:])
+        ]
+    except xet_shards.XetError:
+        return None
+
+
+def test_flipped_bits_in_tables():
+    """All ranges together are the one merge, whatever a table says, or one of them is refused: nothing is lost."""
+    choice, refused = random.Random(7), 0
+    for turn in range(200):
+        shards = [records_in_a_shard(choice, spread, 20) for _ in range(3)]
+        whole, wrong = xet_shards.merge(shards), bytearray(shards[1])
+        info = xet_shards.load(wrong)
+        wrong[choice.randrange(info.file_table, info.chunk_table)] ^= 1 << choice.randrange(8)
+        shards[1] = wrong
+        bounds = sorted((choice.randrange(2**64), 0, 0, 0) for _ in range(5))
+        parts = merges_by_tables(shards, bounds, bool(turn % 2))
+        assert parts is None or xet_shards.concatenate(parts) == whole
+        refused += parts is None
+    assert 3 < refused < 197, refused
+
+
+def test_strict_merges_by_tables():
+    """Of a range only its own records have to agree."""
+    shards = [shard_of(f"file 100 200:0:{it}:5", "file 300 200:0:5:5", "xorb 300 21:5") for it in (5, 6)]
+    middle, room = (200, 0, 0, 0), xet_shards.merge_room(shards)
+    low, high = (ranges._options(*it, True, True) for it in ((None, middle), (middle, None)))
+    raises(xet_shards.DisagreementError, ranges._range_merge, shards, low, 3, room)
+    start = f"{200:016x}{0:048x}"
+    assert ranges._range_merge(shards, high, 3, room) == xet_shards.merge(shards, strict=True, start=start)
+    assert merges_by_tables(shards, [middle]) and not merges_by_tables(shards, [middle], strict=True)
+    # A bound that is not the least hash with its first word.
+    assert merges_by_tables(shards, [(300, 0, 0, 0)]) and not merges_by_tables(shards, [(300, 2, 0, 0)])
 
 
 def test_bytes_of_large_merges():

@@ -93,7 +93,7 @@ def test_each_method_is_its_function():
                 ("find_file", hash_text("100")), ("query_chunks", hashes), ("query_at", hashes, 0, 1), ("chunk_rows",),
                 ("file_at", 0), ("xorb_at", 3), ("check",), ("eligible",), ("export", key, 9, 60),
                 ("export", xet_shards.NO_KEY, 9, 60, False, False, False, True), ("minimal", 9),
-                ("minimal", 9, True, False), ("subset", 9), ("subset", 9, 77, [hash_text("10")]), ("write_v2",),
+                ("minimal", 9, True, False), ("subset", 9), ("subset", 9, 77, [hash_text("10")]), ("convert", 2),
             ):
                 answers = []
                 for call in (getattr(shard, name), lambda *them: getattr(xet_shards, name)(content, *them)):

@@ -84,7 +84,7 @@ def test_hash_columns():
     written = records_shard().written()
     table = xet_shards.table(written)
     for array, names in (
-        (table.files, ("hash", "sha256_", "aux_hash")), (table.segments, ("xorb", "verification")),
+        (table.files, ("hash", "sha256", "sha256_", "aux_hash")), (table.segments, ("xorb", "verification")),
         (table.xorbs, ("hash",)), (table.chunks[::-1], ("hash",)), (table.chunks[:0], ("hash",)),
     ):
         for name in names:
@@ -104,13 +104,17 @@ def test_hash_columns():
     for column in (packed, packed.view("S32"), packed.astype(object), packed.tolist(), [bytes(it) for it in packed]):
         assert xet_shards.from_table(dataclasses.replace(table, chunks={**others, "hash": column})) == written
     files = {name: table.files[name] for name in ("flags", "segments")}
-    for name in ("hash", "sha256_", "aux_hash"):
-        files[name.rstrip("_")] = xet_shards.hash_column(table.files, name)
+    for name in ("hash", "sha256", "aux_hash"):
+        files[name] = xet_shards.hash_column(table.files, name)
     assert xet_shards.from_table(dataclasses.replace(table, files=files)) == written
     lists = ["text"] * 2, [b"0" * 31, b"0" * 32], [b"0" * 32] * 3, [[b"0" * 32] * 2], [None, b"0" * 32]
     for column in (packed[:1], packed.view("V16"), packed.view("u1"), packed[None], *lists):
         raises(ValueError, xet_shards.from_table, dataclasses.replace(table, chunks={**others, "hash": column}))
-    raises(KeyError, xet_shards.from_table, dataclasses.replace(table, chunks=others))
+    hashes = dict.fromkeys(("hash", "sha256", "aux_hash"), [])
+    starts = table.chunks[["start"]]
+    for missing, part in (("hash", {"chunks": others}), ("hash", {"chunks": starts}), ("flags", {"files": hashes})):
+        error = raises(KeyError, xet_shards.from_table, dataclasses.replace(table, **part))
+        assert f"there is no column {missing}" in str(error)
 
 
 def packed_hashes(table):

@@ -258,14 +258,14 @@ def test_texts_of_refused_arguments():
     file = xet_shards.ListedFile.of("f" * 64, [])
     other_keys, no_rows = "the keys of the shards differ", "the bytes are no whole rows of a table"
     for text, call, *arguments in (
-        (other_keys, xet_shards.union, ONE_FILE, keyed),
+        (f"the shard at 1: {other_keys}", xet_shards.union, ONE_FILE, keyed),
         (other_keys, xet_shards.difference, ONE_FILE, keyed),
         (f"the shard at 1: {other_keys}", xet_shards.merge, [ONE_FILE, keyed]),
         (f"{other_keys}, or hashes do not ascend from one shard to the next", xet_shards.concatenate, [ONE_FILE] * 2),
         ("the chunk hashes are keyed already, or the times add up to 2^64 or more", xet_shards.export, keyed,
          hash_text("7"), 0, 0),
-        ("a file has an auxiliary row, which version 2 does not have", xet_shards.write_v2,
-         shard_of("file 100 x=777 200:0:5:5")),
+        ("a file has a row that the version does not have", xet_shards.convert, shard_of("file 100 x=777 200:0:5:5"),
+         2),
         ("there is no chunk at this row and index", xet_shards.query_at, ONE_FILE, [hash_text("21")], 0, 0),
         (no_rows, xet_shards.find_rows, b"?", hash_text("21")),
         (no_rows, xet_shards.find_places, b"?", hash_text("21")),
@@ -550,14 +550,17 @@ def test_merge_in_a_range_of_other_inputs():
     for texts in ({"start": hash_text("0")}, {"stop": "f" * 64}):
         assert xet_shards.merge(keyed, **texts) == xet_shards.merge(keyed)
     assert xet_shards.load(xet_shards.merge(keyed, stop=hash_text("0"))).key == hash_text("7")
-    # Records outside of the range are asked for no union, but read, and compared if they have to agree.
+    # Records outside of the range are read, but need not be well-formed, agree or have a union.
     one, two = shard_of("file 100 v=365 200:0:5:5"), shard_of("file 100 s=9364 200:0:5:5 200:5:6:1")
     refused("InvalidShard", xet_shards.merge, [one, two], start=hash_text("100"))
     assert xet_shards.load(xet_shards.merge([one, two], start=hash_text("101"))).files == 0
-    raises(xet_shards.DisagreementError, xet_shards.merge, [one, two], strict=True, start=hash_text("101"))
+    raises(xet_shards.DisagreementError, xet_shards.merge, [one, two], strict=True, start=hash_text("100"))
+    strictly = xet_shards.merge([one, two], strict=True, start=hash_text("101"))
+    assert strictly == xet_shards.merge([one, two], start=hash_text("101"))
     assert refused("Io", xet_shards.merge, [ONE_FILE, ONE_FILE[:199]], start="f" * 64).index == 1
     # Of files that are not well-formed the order counts, as in a merge without a range.
     malformed = ONE_FILE[:88] + b"\1" + ONE_FILE[89:]
+    raises(xet_shards.MalformedError, xet_shards.merge, [malformed], strict=True, stop="f" * 64)
     both = [xet_shards.merge(it, stop="f" * 64) for it in ([ONE_FILE, malformed], [malformed, ONE_FILE])]
     assert both[0][88] == 0 and both[1] == both[0][:88] + b"\1" + both[0][89:]
     raises(ValueError, xet_shards.merge, [], start=hash_text("0"))
@@ -583,7 +586,7 @@ def test_concatenate():
     only_files, only_xorbs = shards_of(those(files, []), those([], xorbs))
     assert xet_shards.concatenate([only_files, only_xorbs]) == xet_shards.concatenate([only_xorbs, only_files]) == both
     # In version 2, and with an expiry.
-    assert xet_shards.concatenate([xet_shards.write_v2(low), high]) == both
+    assert xet_shards.concatenate([xet_shards.convert(low, 2), high]) == both
     # Ranges of a merge, whatever the cuts, are the merge.
     shards = shards_of(those(["100", "300"], ["200"]), those(["200", "300"], ["200", "300"]), those([], []))
     for count in range(4):
@@ -785,7 +788,7 @@ def test_outputs_of_records():
 def test_check():
     Finding = xet_shards.Finding
     shard = shard_of("xorb 10 21:5", "xorb 11 22:5", "file 100 200:0:5:5", "file 101 200:0:5:5")
-    assert xet_shards.check(shard) == [] == xet_shards.check(xet_shards.write_v2(shard))
+    assert xet_shards.check(shard) == [] == xet_shards.check(xet_shards.convert(shard, 2))
     assert xet_shards.check(b"?" + shard[1:]) == [Finding("no_tag", "header", None)]
     assert xet_shards.check(shard[:32] + b"\4" + shard[33:]) == [Finding("other_version", "header", 4)]
     assert xet_shards.check(shard[:-1]) == [Finding("no_footer", "footer", None)]
@@ -845,19 +848,21 @@ def test_check_of_records_and_order():
     assert xet_shards.check(doubled) == [Finding("differs", "chunk_table", None)]
 
 
-def test_write_v2():
+def test_convert():
     shard = Shard()
     shard.add_file("100", "v=365", "s=9364", "200:0:5:5")
     shard.add_xorb("10", "21:5")
     for expiry in (7, xet_shards.NO_EXPIRY):
         old = shard.written(expiry=expiry, version=2)
-        assert xet_shards.write_v2(shard.written(expiry=expiry)) == old
-        assert xet_shards.write_v2(old) == old
+        assert xet_shards.convert(shard.written(expiry=expiry), 2) == xet_shards.convert(old, 2) == old
+        assert xet_shards.convert(old, 3) == shard.written(expiry=expiry)
     keyed = xet_shards.export(old, hash_text("7"), 1000, 60, files=False)
-    assert xet_shards.write_v2(keyed) == keyed[:32] + b"\2" + keyed[33:]
+    assert xet_shards.convert(keyed, 2) == keyed[:32] + b"\2" + keyed[33:]
     shard.add_file("101", "x=777", "200:0:5:5")
-    refused("InvalidArguments", xet_shards.write_v2, shard.written())
-    refused("Io", xet_shards.write_v2, old[:47])
+    assert xet_shards.convert(shard.written(), 3) == shard.written()
+    for version in (2, 4, 0, -1, 2**64 + 2):
+        refused("InvalidArguments", xet_shards.convert, shard.written(), version)
+    refused("Io", xet_shards.convert, old[:47], 2)
 
 
 def test_complete():
@@ -882,6 +887,8 @@ def test_complete():
     for version in (2, 3):
         minimal = xet_shards.minimal(old.written(version=version), 9)
         assert xet_shards.complete(minimal) == old.written()
+        assert xet_shards.complete(minimal, version=2) == old.written(version=2)
+    refused("InvalidArguments", xet_shards.complete, written, version=2)
 
 
 def test_version_2():
@@ -890,13 +897,13 @@ def test_version_2():
         it.add_file(name, "v=365", "s=9364", "200:0:5:5")
         it.add_xorb("10", "21:5")
     shards = [shard.written(), other.written(version=2)]
-    old = xet_shards.write_v2(xet_shards.merge(shards))
+    old = xet_shards.convert(xet_shards.merge(shards), 2)
     assert old[32:40] == b"\2" + bytes(7)
     assert xet_shards.merge(shards, version=2) == xet_shards.merge(shards, version=2, threads=2) == old
     assert xet_shards.merge(shards, strict=True, version=2) == old
     middle = hash_text("101")
     part = xet_shards.merge(shards, start=middle)
-    assert xet_shards.merge(shards, start=middle, version=2) == xet_shards.write_v2(part)
+    assert xet_shards.merge(shards, start=middle, version=2) == xet_shards.convert(part, 2)
     assert xet_shards.merge(shards, start=middle, strict=True, version=2)[32] == 2
     files, xorbs = list(xet_shards.files(shards[0])), list(xet_shards.xorbs(shards[0]))
     assert xet_shards.write(files, xorbs, version=2) == shard.written(version=2)
@@ -936,6 +943,8 @@ def test_two_shards_in_version_2():
         refused("InvalidArguments", call, plain, new, version=2)
         refused("InvalidArguments", call, plain, plain, version=4)
     text = str(refused("InvalidArguments", xet_shards.union, new, plain, version=2))
+    assert text.startswith("a file has a row that the version does not have"), text
+    text = str(refused("InvalidArguments", xet_shards.difference, plain, new, version=2))
     assert text.startswith("the keys of the shards differ, or a file has a row that the version does not have"), text
 
 
@@ -964,10 +973,11 @@ def test_other_forms_in_version_2():
     refused("Io", xet_shards.export, shard[:199], key, 1000, 60, version=2)
     for call, *arguments in (
         (xet_shards.minimal, shard, 9), (xet_shards.subset, shard, 9), (xet_shards.merge, [shard]),
-        (xet_shards.concatenate, [shard]), (xet_shards.write, [], []),
+        (xet_shards.convert, shard), (xet_shards.complete, shard), (xet_shards.write, [], []),
     ):
-        error = refused("InvalidArguments", call, *arguments, version=4)
-        assert "there is no version 4" in error.reason, error
+        for version in (4, -1):
+            error = refused("InvalidArguments", call, *arguments, version=version)
+            assert f"there is no version {version}" in error.reason, error
 
 
 def test_concatenate_in_version_2():
@@ -977,20 +987,16 @@ def test_concatenate_in_version_2():
     shards[2].add_file("103", "x=777", "200:0:5:5")
     one, other, new = (it.written() for it in shards)
     both = xet_shards.concatenate([one, other])
-    assert both[32] == 3 and both == xet_shards.concatenate([one, other], version=3)
-    for parts in ((one, other), (in_version_2(one), other), (one, in_version_2(other))):
-        assert xet_shards.concatenate(parts, version=2) == in_version_2(both)
-    room = bytearray(len(both) + 1)
-    assert xet_shards.concatenate_into([one, other], room, version=2) == len(both)
-    assert room == in_version_2(both) + b"\0"
-    room = bytearray(len(both) - 1)
-    assert xet_shards.concatenate_into([one, other], room, version=2) == len(both)
-    refused("InvalidArguments", xet_shards.concatenate_into, [one, new], room, version=2)
-    assert room == bytes(len(room))
-    for parts, version in (([one, new], 2), ([new], 2), ([one, other], 4), ([one, other], 0)):
-        refused("InvalidArguments", xet_shards.concatenate, parts, version=version)
-    assert xet_shards.concatenate([one, new])[32] == 3
-    refused("Io", xet_shards.concatenate, [one, new[:199]], version=2)
+    assert both[32] == 3
+    for parts in ((in_version_2(one), other), (one, in_version_2(other))):
+        assert xet_shards.concatenate(parts) == both
+    parts = [in_version_2(one), in_version_2(other)]
+    assert xet_shards.concatenate(parts) == in_version_2(both)
+    for room, is_filled in ((bytearray(len(both) + 1), True), (bytearray(len(both) - 1), False)):
+        assert xet_shards.concatenate_into(parts, room) == len(both)
+        assert room == (in_version_2(both) + b"\0" if is_filled else bytes(len(room)))
+    assert xet_shards.concatenate([parts[0], new])[32] == 3
+    refused("Io", xet_shards.concatenate, [parts[0], new[:199]])
 
 
 def test_strict_merges_in_version_2():
@@ -1046,19 +1052,18 @@ def test_disagreements():
         ({"100": ["200:0:6:5"]}, {"10": ["21:5"], "11": ["23:5"]}),
     )
     for shards in ([], [one], [one, one], [one, with_parts], [with_parts, one, with_parts]):
-        assert xet_shards.find_disagreement(shards) is None
+        assert xet_shards.find_disagreements(shards) == []
     # Of what differs files come first, and two hashes have records that differ.
     found = xet_shards.Disagreement("file", hash_text("100"), 0, 2, 2)
-    assert xet_shards.find_disagreement([one, with_parts, other]) == found
+    assert xet_shards.find_disagreements([one, with_parts, other])[0] == found
     found = xet_shards.Disagreement("file", hash_text("100"), 0, 1, 1)
-    assert xet_shards.find_disagreement([with_parts, other]) == found
+    assert xet_shards.find_disagreements([with_parts, other]) == [found]
     # Parts that only one of two has are no difference, but where both have them they are compared.
     unlike = shards_of(({"100": ["v=366", "200:0:5:5"]}, {}))[0]
-    assert xet_shards.find_disagreement([one, unlike]) is None
-    assert xet_shards.find_disagreement([one, unlike, with_parts]).second == 2
+    assert xet_shards.find_disagreements([one, unlike]) == []
+    assert xet_shards.find_disagreements([one, unlike, with_parts])[0].second == 2
     xorbs = shards_of(({}, {"10": ["21:5"]}), ({}, {"10": ["21:6"]}))
-    assert xet_shards.find_disagreement(xorbs) == xet_shards.Disagreement("xorb", hash_text("10"), 0, 1, 1)
-    refused("Io", xet_shards.find_disagreement, [one, one[:199]])
+    assert xet_shards.find_disagreements(xorbs) == [xet_shards.Disagreement("xorb", hash_text("10"), 0, 1, 1)]
 
 
 def three_that_disagree():
@@ -1078,7 +1083,6 @@ def three_that_disagree():
 def test_all_disagreements():
     shards, found = three_that_disagree()
     assert xet_shards.find_disagreements(iter(shards)) == found
-    assert xet_shards.find_disagreement(shards) == found[0]
     assert xet_shards.find_disagreements(shards[:2]) == [xet_shards.Disagreement("file", hash_text("102"), 0, 1, 1)]
     for agreeing in ([], shards[:1], shards[1:2] * 3):
         assert xet_shards.find_disagreements(agreeing) == []
@@ -1102,7 +1106,7 @@ def test_strict_merge():
         xet_shards.merge([one, again, other], strict=True)
         raise AssertionError("shards that differ are merged")
     except xet_shards.DisagreementError as error:
-        assert (error.name, error.disagreement) == ("Disagree", xet_shards.find_disagreement([one, again, other]))
+        assert (error.name, error.disagreement) == ("Disagree", xet_shards.find_disagreements([one, again, other])[0])
         assert error.disagreement == xet_shards.Disagreement("file", hash_text("100"), 0, 2, 1)
     assert xet_shards.merge([one, other]) == one
     raises(ValueError, xet_shards.merge, [], strict=True)
@@ -1143,15 +1147,18 @@ def test_arguments():
 
 def test_sizes_of_structs():
     # Of a 64-bit target: each word at a multiple of eight.
-    sizes = {"_Hash": 32, "_Segment": 48, "_Info": 216, "_Export": 56, "_File": 88, "_Chunk": 48}
+    sizes = {
+        "_Hash": 32, "_Segment": 48, "_Info": 216, "_MergeOptions": 72, "_ExportOptions": 56, "_MinimalOptions": 16,
+        "_File": 88, "_Chunk": 48,
+    }
     assert {it: ctypes.sizeof(getattr(structs, it)) for it in sizes} == sizes
 
 
-def union_into(out, room, first, second):
-    """Calls xet_union, and returns its result and the count that it writes."""
+def difference_into(out, room, first, second):
+    """Calls xet_difference, and returns its result and the count that it writes."""
     written = ctypes.c_size_t(12345)
-    number = LIBRARY.xet_union(
-        first, len(first), second, len(second), out, room, ctypes.byref(written)
+    number = LIBRARY.xet_difference(
+        first, len(first), second, len(second), 3, out, room, ctypes.byref(written)
     )
     return number, written.value
 
@@ -1160,18 +1167,18 @@ def test_room():
     # 452 bytes are written to the front of what has room for them, and what is behind them stays.
     for room in (452, 453, 500):
         out = ctypes.create_string_buffer(b"\xaa" * 500, 500)
-        assert union_into(out, room, ONE_FILE, ONE_FILE) == (0, 452)
+        assert difference_into(out, room, shard_of(), ONE_FILE) == (0, 452)
         assert out.raw == ONE_FILE + b"\xaa" * 48
     # With less room the size is told, and all stays.
     for room in (0, 1, 451):
         out = ctypes.create_string_buffer(b"\xaa" * 500, 500)
-        assert union_into(out, room, ONE_FILE, ONE_FILE) == (19, 452)
+        assert difference_into(out, room, shard_of(), ONE_FILE) == (19, 452)
         assert out.raw == b"\xaa" * 500
 
 
 def test_outputs_of_errors():
     out = ctypes.create_string_buffer(b"\xaa" * 500, 500)
-    assert union_into(out, 500, ONE_FILE[:100], ONE_FILE) == (1, 0)
+    assert difference_into(out, 500, ONE_FILE[:100], ONE_FILE) == (1, 0)
     assert out.raw == b"\xaa" * 500
     info = structs._Info(*range(4), (4, 5, 6, 7), *range(8, 13))
     before = bytes(info)

@@ -23,15 +23,14 @@ from ._checking import Finding, check  # noqa: E402
 from ._errors import (  # noqa: E402
     Disagreement, DisagreementError, MalformedError, MalformedRecord, XetError,
 )
-from ._forms import complete, eligible, export, minimal, subset, write_v2  # noqa: E402
+from ._forms import complete, convert, eligible, export, minimal, subset  # noqa: E402
 from ._hashes import hash_bytes, hash_of_name, hmac, shard_name  # noqa: E402
 from ._lookups import (  # noqa: E402
     Info, Run, chunk_rows, find_file, find_places, find_rows, load, query_at, query_chunks,
 )
 from ._memory import Buffer, WritableBuffer  # noqa: E402
 from ._merging import (  # noqa: E402
-    concatenate, concatenate_into, difference, find_disagreement, find_disagreements, find_malformed, merge, merge_into,
-    merge_room, union,
+    concatenate, concatenate_into, difference, find_disagreements, find_malformed, merge, merge_into, merge_room, union,
 )
 from ._records import (  # noqa: E402
     Chunk, File, ListedFile, Segment, Xorb, file_at, file_in, files, write, xorb_at, xorb_in, xorbs,
@@ -44,9 +43,9 @@ from .shard import Shard, open as open  # noqa: E402
 __all__ = [
     "Buffer", "Chunk", "Disagreement", "DisagreementError", "File", "Finding", "Index", "Info", "ListedFile",
     "MalformedError", "MalformedRecord", "NO_EXPIRY", "NO_KEY", "Run", "Segment", "Shard", "Table", "WritableBuffer",
-    "XetError", "Xorb", "check", "chunk_rows", "complete", "concatenate", "concatenate_into", "difference", "eligible",
-    "export", "file_at", "file_in", "files", "find_disagreement", "find_disagreements", "find_file", "find_malformed",
+    "XetError", "Xorb", "check", "chunk_rows", "complete", "concatenate", "concatenate_into", "convert", "difference",
+    "eligible", "export", "file_at", "file_in", "files", "find_disagreements", "find_file", "find_malformed",
     "find_places", "find_rows", "from_table", "hash_bytes", "hash_column", "hash_of_name", "hash_texts", "hmac", "load",
     "merge", "merge_into", "merge_room", "minimal", "query_at", "query_chunks", "shard_name", "subset", "table",
-    "union", "write", "write_v2", "xorb_at", "xorb_in", "xorbs",
+    "union", "write", "xorb_at", "xorb_in", "xorbs",
 ]

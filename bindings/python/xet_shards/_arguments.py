@@ -26,16 +26,15 @@ def _seconds(number: int) -> int:
     return number
 
 
-def _word(number: int) -> int:
-    if not 0 <= number < 2**64:
-        raise ValueError("a number of a shard has 64 bits")
-    return number
-
-
 def _number(number: int) -> int:
     if not 0 <= number < 2**32:
         raise ValueError("a number of a record has 32 bits")
     return number
+
+
+def _version(number: int) -> int:
+    """Returns a version of the format for a call: 0, which is none, in place of a number that 64 bits do not hold."""
+    return number if 0 <= number < 2**64 else 0
 
 
 def _words(text: str) -> ctypes.Array[c_uint64]:

@@ -1,10 +1,11 @@
 """Unions and differences of shards, and what does not agree."""
 from __future__ import annotations
 
+import operator
 from ctypes import byref, c_bool, c_size_t
-from typing import Any, Callable, Iterable, List, Optional, Sequence
+from typing import Iterable, List, Optional, Sequence, Tuple
 
-from ._arguments import _number, _text, _words
+from ._arguments import _text, _version, _words
 from ._calls import _library
 from ._errors import (
     _DISAGREE, _INVALID_ARGUMENTS, _MALFORMED, _OTHER_KEYS, _SHORT, Disagreement, DisagreementError, MalformedError,
@@ -12,27 +13,25 @@ from ._errors import (
 )
 from ._lookups import load
 from ._memory import Buffer, WritableBuffer, _Addresses, _filled, _list, _made, _output_apart, _written_bytes
-from ._structs import _Disagreement, _Range, _Words
+from ._structs import _Disagreement, _MergeOptions, _Words
 
 
 def union(first: Buffer, second: Buffer, version: int = 3) -> bytes:
-    """Returns the union of two shards of one key.
-
-    It is in version 3 of the format, or in `version` 2, which no file with an auxiliary row may have.
-    """
-    return _combined(_library.xet_union_in, first, second, version)
+    """Returns the union of two shards: the `merge` of both."""
+    return merge([first, second], version=version)
 
 
 def difference(first: Buffer, second: Buffer, version: int = 3) -> bytes:
-    """Returns the second shard's records whose hashes the first does not have, in a version as `union`."""
-    return _combined(_library.xet_difference_in, first, second, version)
+    """Returns the second shard's records whose hashes the first does not have. Both have one key.
 
-
-def _combined(operation: Callable[..., Any], first: Buffer, second: Buffer, version: int) -> bytes:
+    It is in version 3 of the format, or in `version` 2, which no file with an auxiliary row may have.
+    """
     with _Addresses(first, second) as [one, other]:
         return _made(
-            one[1] + other[1],
-            lambda out, room, written: operation(*one, *other, _number(version), out, room, byref(written)),
+            other[1],
+            lambda out, room, written: _library.xet_difference(
+                *one, *other, _version(version), out, room, byref(written)
+            ),
             _OTHER_KEYS + _or_reason_of(version),
         )
 
@@ -45,12 +44,11 @@ def merge(
     threads: Optional[int] = None,
     version: int = 3,
 ) -> bytes:
-    """Returns the union of one shard or more, by a balanced tree of unions; a single one is united with itself.
+    """Returns the union of one shard or more, by a balanced tree of unions.
 
     With `start` or `stop`, hashes as text, it has only the files and the xorbs whose hash is not below `start` and is
     below `stop`. Of well-formed shards that agree, ranges that follow one another have together each record of the join
-    once, so each may be merged by a thread or a machine of its own. All shards are read for each range, and with
-    `strict` all their records have to agree.
+    once, so each may be merged by a thread or a machine of its own. All shards are read for each range.
 
     With `threads` so many threads at most merge a range each, and `concatenate` puts the results together. Bytes and
     errors are the same, whatever is given; the bytes of the output are in memory twice.
@@ -60,8 +58,9 @@ def merge(
     If the sections of the inputs hold well-formed shards that agree pairwise, under one key, it is the bytes of their
     join, which has no order, and any other tree of unions gives the same. Shards agree if files with one hash have
     equal segments, and an equal optional part wherever both have it, and xorbs with one hash are equal. They are
-    well-formed if `find_malformed` finds nothing. With `strict` it is a `MalformedError` if one of the shards is not
-    well-formed, and a `DisagreementError` if two do not agree; so what it returns has no order, whatever is given.
+    well-formed if `find_malformed` finds nothing. With `strict` it is a `MalformedError` if one of the records that are
+    merged is not well-formed, and a `DisagreementError` if two do not agree; so what it returns has no order, whatever
+    is given.
     """
     shards = list(shards)
     # With this room no merge is made twice.
@@ -73,8 +72,12 @@ def merge(
 def merge_room(shards: Iterable[Buffer]) -> int:
     """Returns the bytes that are enough for `merge_into` of these shards, whatever they hold."""
     with _Addresses(*shards) as data:
-        # As in xet_union_room of xet.h.
-        return 352 + sum(length for _, length in data) // 3 * 8
+        return _union_room(sum(length for _, length in data))
+
+
+def _union_room(length: int) -> int:
+    # As in xet_union_room of xet.h.
+    return 352 + length // 3 * 8
 
 
 def merge_into(
@@ -98,18 +101,15 @@ def merge_into(
     shards = list(shards)
     if not shards:
         raise ValueError("no shard is given")
-    if threads is not None and threads < 1:
+    count = 1 if threads is None else operator.index(threads)
+    if count < 1:
         raise ValueError("there is one thread at least")
-    if threads is not None and threads > 1:
-        length = _merge_in_threads_to(shards, out, threads, strict, start, stop, version)
+    if count > 1:
+        length = _merge_in_threads_to(shards, out, count, strict, start, stop, version)
         if length is not None:
             return length
     try:
-        if start is not None or stop is not None:
-            return _merge_range_to(shards, out, strict, start, stop, version)
-        if strict:
-            return _merge_strictly_to(shards, out, version)
-        return _merge_in_to(_library.xet_merge_in, shards, out, version)
+        return _merge_to(shards, out, _options(_words_of(start), _words_of(stop), strict), version)
     except (DisagreementError, MalformedError):
         raise
     except XetError as error:
@@ -124,7 +124,7 @@ def _to_blame(shards: Sequence[Buffer], number: int) -> Optional[int]:
         return _first_of_other_key(shards)
     for index, shard in enumerate(shards):
         try:
-            _merge_to(_library.xet_merge, [shard], bytearray(0))
+            _merge_to([shard], bytearray(0), _MergeOptions(), 3)
         except XetError as error:
             if error.number == number:
                 return index
@@ -146,80 +146,44 @@ def _key_of(shard: Buffer) -> Optional[str]:
         return None
 
 
-def _merge_to(
-    call: Callable[..., Any], shards: Sequence[Buffer], out: WritableBuffer, reason: Optional[str] = None
-) -> int:
-    """Makes a call that merges shards to the front of a buffer, and returns the number of the bytes of the merge."""
-    written = c_size_t()
+def _words_of(text: Optional[str]) -> Optional[Tuple[int, ...]]:
+    """Returns the words of a hash that may be left out."""
+    return None if text is None else tuple(_words(text))
+
+
+def _options(
+    start: Optional[Sequence[int]] = None, stop: Optional[Sequence[int]] = None, strict: bool = False,
+    by_tables: bool = False,
+) -> _MergeOptions:
+    """Returns the options of a merge between two hashes, where a bound may be left out."""
+    words = [_Words(*(it or ())) for it in (start, stop)]
+    return _MergeOptions(*words, start is not None, stop is not None, strict, by_tables)
+
+
+def _merge_to(shards: Sequence[Buffer], out: WritableBuffer, options: _MergeOptions, version: int) -> int:
+    """Merges shards to the front of a buffer, and returns the number of the bytes of the merge."""
+    written, differing, found = c_size_t(), c_size_t(), _Disagreement()
     with _output_apart(out, shards) as (array, data):
-        number = call(_list(data), len(data), array, len(array), byref(written))
+        number = _library.xet_merge(
+            _list(data), len(data), byref(options), _version(version), array, len(array), byref(written),
+            byref(differing), byref(found),
+        )
+    if number == _MALFORMED:
+        raise MalformedError(_malformed(found))
+    if number == _DISAGREE:
+        raise DisagreementError(_disagreement(found, differing.value))
     if number != _SHORT:
-        _check(number, reason)
+        _check(number)
     return written.value
 
 
-def _merge_in_to(
-    call: Callable[..., Any], shards: Sequence[Buffer], out: WritableBuffer, version: int, reason: Optional[str] = None
-) -> int:
-    return _merge_to(lambda listed, count, *output: call(listed, count, _number(version), *output), shards, out, reason)
-
-
-def _merge_strictly_to(shards: Sequence[Buffer], out: WritableBuffer, version: int) -> int:
-    differing, found = c_size_t(), _Disagreement()
-    try:
-        return _merge_in_to(
-            lambda *arguments: _library.xet_merge_agreeing_in(*arguments, byref(differing), byref(found)),
-            shards,
-            out,
-            version,
-        )
-    except XetError as error:
-        if error.number == _MALFORMED:
-            raise MalformedError(_malformed(found)) from None
-        if error.number == _DISAGREE:
-            raise DisagreementError(_disagreement(found, differing.value)) from None
-        raise
-
-
-def _merge_range_to(
-    shards: Sequence[Buffer], out: WritableBuffer, strict: bool, start: Optional[str], stop: Optional[str], version: int
-) -> int:
-    asked = _range(*(None if it is None else tuple(_words(it)) for it in (start, stop)))
-    if strict:
-        _check_agreement(shards)
-    return _merge_to(
-        lambda listed, count, *output: _library.xet_merge_range_in(
-            listed, count, byref(asked), _number(version), *output
-        ),
-        shards,
-        out,
-    )
-
-
-def _check_agreement(shards: Sequence[Buffer]) -> None:
-    malformed = find_malformed(shards)
-    if malformed:
-        raise MalformedError(malformed)
-    differing = find_disagreement(shards)
-    if differing:
-        raise DisagreementError(differing)
-
-
-def _range(start: Optional[Sequence[int]], stop: Optional[Sequence[int]]) -> _Range:
-    """Returns the range between two hashes, where a bound may be left out."""
-    words = [_Words(*(it or ())) for it in (start, stop)]
-    return _Range(*words, start is not None, stop is not None)
-
-
-def concatenate(shards: Iterable[Buffer], version: int = 3) -> bytes:
+def concatenate(shards: Iterable[Buffer]) -> bytes:
     """Returns the shard that has the records of one shard or more, in their order, with all tables and no timestamps.
 
     The hashes of files have to ascend from each shard to the next, and so have those of xorbs, and the shards have one
     key. So it puts together what `merge` returns of well-formed shards that agree, for ranges that follow one another,
     where `start` of the first and `stop` of the last are left out: the result is that of the one merge. Records are
-    copied and not checked.
-
-    It is in version 3 of the format, or in `version` 2, which no file with an auxiliary row may have.
+    copied and not checked. It is in version 2 of the format if all shards are, else in version 3.
     """
     shards = list(shards)
     if not shards:
@@ -228,19 +192,16 @@ def concatenate(shards: Iterable[Buffer], version: int = 3) -> bytes:
         listed, room = _list(data), sum(length for _, length in data)
         return _made(
             room,
-            lambda out, room, written: _library.xet_concatenate_in(
-                listed, len(data), _number(version), out, room, byref(written)
-            ),
-            _not_in_a_row(version),
+            lambda out, room, written: _library.xet_concatenate(listed, len(data), out, room, byref(written)),
+            _NOT_CONCATENATED,
         )
 
 
-def _not_in_a_row(version: int) -> str:
-    """Returns why shards may not be concatenated."""
-    return f"{_OTHER_KEYS}, or hashes do not ascend from one shard to the next{_or_reason_of(version)}"
+# Why shards may not be concatenated.
+_NOT_CONCATENATED = f"{_OTHER_KEYS}, or hashes do not ascend from one shard to the next"
 
 
-def concatenate_into(shards: Iterable[Buffer], out: WritableBuffer, version: int = 3) -> int:
+def concatenate_into(shards: Iterable[Buffer], out: WritableBuffer) -> int:
     """Writes what `concatenate` returns to the front of a buffer that can be written, and returns its number of bytes.
 
     If the buffer is too small, and after any error, it stays as it is: if it is too small, the number is greater than
@@ -252,18 +213,12 @@ def concatenate_into(shards: Iterable[Buffer], out: WritableBuffer, version: int
     shards = list(shards)
     if not shards:
         raise ValueError("no shard is given")
-    return _merge_in_to(_library.xet_concatenate_in, shards, out, version, _not_in_a_row(version))
-
-
-def find_disagreement(shards: Iterable[Buffer]) -> Optional[Disagreement]:
-    """Returns the first hash under which two of the shards have records that do not agree, or None if each two agree.
-
-    Those of files are before those of xorbs, and the least hash is first.
-    """
-    differing, found = c_size_t(), _Disagreement()
-    with _Addresses(*shards) as data:
-        _check(_library.xet_find_disagreement(_list(data), len(data), byref(differing), byref(found)))
-    return _disagreement(found, differing.value) if differing.value else None
+    written = c_size_t()
+    with _output_apart(out, shards) as (array, data):
+        number = _library.xet_concatenate(_list(data), len(data), array, len(array), byref(written))
+    if number != _SHORT:
+        _check(number, _NOT_CONCATENATED)
+    return written.value
 
 
 def find_disagreements(shards: Iterable[Buffer]) -> List[Disagreement]:
@@ -285,7 +240,7 @@ def find_disagreements(shards: Iterable[Buffer]) -> List[Disagreement]:
 def find_malformed(shards: Iterable[Buffer]) -> Optional[MalformedRecord]:
     """Returns a record that no shard may have, of the first shard that has one, or None if each is well-formed.
 
-    A union keeps the reserved word and the flags of a file of one of its inputs, and `find_disagreement` does not
+    A union keeps the reserved word and the flags of a file of one of its inputs, and `find_disagreements` does not
     compare them. So the order of a merge may count unless its shards are well-formed and agree.
     """
     malformed, found = c_bool(), _Disagreement()

@@ -5,7 +5,9 @@ from ctypes import byref
 from dataclasses import dataclass
 from typing import Any, Callable, Iterable, Iterator, List, Optional, Sequence, Tuple
 
-from ._arguments import NO_EXPIRY, _array_of, _number, _seconds, _text, _word, _words, _words_or_zero
+from ._arguments import (
+    NO_EXPIRY, _array_of, _number, _seconds, _text, _version, _words, _words_or_zero,
+)
 from ._calls import _library
 from ._errors import _INVALID_SHARD, _SHORT, XetError, _check, _or_reason_of
 from ._memory import Buffer, _Addresses, _array, _made
@@ -182,7 +184,7 @@ def file_in(data: Buffer, version: int) -> Optional[Tuple[ListedFile, int]]:
     """
     step = _file_step()
     with _Addresses(data) as [given]:
-        segments = step(_library.xet_file_in, *given, _word(version))
+        segments = step(_library.xet_file_in, *given, _version(version))
     return None if segments is None else (_listed_file(step, segments), step.place.next)
 
 
@@ -267,8 +269,6 @@ def _written(lists: Sequence[Any], expiry: Optional[int], version: int) -> bytes
     room = 156 * files + 96 * segments + 60 * xorbs + 64 * chunks
     return _made(
         room,
-        lambda out, room, written: _library.xet_write_in(
-            *lists, _number(version), time, out, room, byref(written)
-        ),
+        lambda out, room, written: _library.xet_write(*lists, time, _version(version), out, room, byref(written)),
         f"no shard has these records, or their counts do not add up{_or_reason_of(version)}",
     )

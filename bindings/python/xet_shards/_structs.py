@@ -35,23 +35,26 @@ class _Info(ctypes.Structure):
     ]
 
 
-class _Export(ctypes.Structure):
+class _MergeOptions(ctypes.Structure):
     _fields_ = [
-        ("key", _Words), ("now", c_uint64), ("valid_seconds", c_uint64), ("files", c_bool), ("aux_rows", c_bool),
-        ("xorb_table", c_bool), ("chunk_table", c_bool),
+        ("from", _Words), ("to", _Words), ("has_from", c_bool), ("has_to", c_bool), ("strict", c_bool),
+        ("by_tables", c_bool),
     ]
 
 
-class _Subset(ctypes.Structure):
+class _ExportOptions(ctypes.Structure):
+    _fields_ = [
+        ("key", _Words), ("now", c_uint64), ("valid_seconds", c_uint64), ("without_files", c_bool),
+        ("without_aux_rows", c_bool), ("without_xorb_table", c_bool), ("without_chunk_table", c_bool),
+    ]
+
+
+class _MinimalOptions(ctypes.Structure):
+    _fields_ = [("now", c_uint64), ("verification", c_bool), ("without_aux_rows", c_bool)]
+
+
+class _SubsetOptions(ctypes.Structure):
     _fields_ = [("now", c_uint64), ("expiry", c_uint64), ("all", c_bool)]
-
-
-class _Range(ctypes.Structure):
-    _fields_ = [("from", _Words), ("to", _Words), ("has_from", c_bool), ("has_to", c_bool)]
-
-
-class _Rows(ctypes.Structure):
-    _fields_ = [("file", c_uint32), ("xorb", c_uint32)]
 
 
 class _File(ctypes.Structure):

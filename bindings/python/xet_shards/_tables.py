@@ -159,11 +159,12 @@ def _columns(columns: Any, wanted: Any) -> Iterator[Tuple[str, Any]]:
             if name == "reserved":
                 yield name, None
                 continue
-            if not name.endswith("0"):
-                raise
-            hashes = name[:-1].rstrip("_")
-            words = _words_of_column(hashes, columns[hashes])
-            yield from zip((name, *itertools.islice(names, 3)), words.T)
+            hashes = name[:-1].rstrip("_") if name.endswith("0") else name
+            try:
+                values = columns[hashes]
+            except (KeyError, ValueError):
+                raise KeyError(f"there is no column {hashes}") from None
+            yield from zip((name, *itertools.islice(names, 3)), _words_of_column(hashes, values).T)
             continue
         yield name, _column(name, values, wanted[name])
 
@@ -219,7 +220,7 @@ def hash_column(array: Any, name: str = "hash") -> Any:
     `from_table` takes such a column in place of the four, under their name without a number: `hash`, `sha256`.
     """
     numpy = _numpy()
-    place = array.dtype.fields[f"{name}0"][1]
+    place = array.dtype.fields[f"{_numbered(array, name)}0"][1]
     one = numpy.dtype({"names": [name], "formats": ["V32"], "offsets": [place], "itemsize": array.dtype.itemsize})
     return array.view(one)[name]
 
@@ -227,6 +228,12 @@ def hash_column(array: Any, name: str = "hash") -> Any:
 def hash_texts(array: Any, name: str = "hash") -> List[str]:
     """Returns the hashes in the four columns of this name, as texts: `hash_texts(table.segments, "xorb")`."""
     numpy = _numpy()
-    words = numpy.stack([numpy.asarray(array[f"{name}{it}"], "u8") for it in range(4)], axis=-1)
+    columns = _numbered(array, name)
+    words = numpy.stack([numpy.asarray(array[f"{columns}{it}"], "u8") for it in range(4)], axis=-1)
     digits = words.astype(">u8").tobytes().hex()
     return [digits[at : at + 64] for at in range(0, len(digits), 64)]
+
+
+def _numbered(array: Any, name: str) -> str:
+    """Returns how the names of the four columns of a hash begin: `sha256_` of `sha256`, which ends with a digit."""
+    return name if f"{name}0" in array.dtype.names else f"{name}_"

@@ -31,7 +31,7 @@ from typing import (
 from ._errors import DisagreementError, MalformedError, XetError
 from ._memory import _Addresses
 from ._merging import concatenate_into, merge as _merge
-from .ranges import _sample, merge_found_rows
+from .ranges import _sample, merge_by_tables
 from .shard import Shard
 
 Path = Union[str, "os.PathLike[str]"]
@@ -106,15 +106,17 @@ def merge(
         # After an error a task may still write to it.
         opened.callback(shutil.rmtree, room, ignore_errors=True)
         ranges = plan(names, memory, pool, tasks=least)
-        size = concatenate_parts(_merged(names, ranges, room, pool, strict), to, version)
+        size = concatenate_parts(_merged(names, ranges, room, pool, strict, version), to)
     return size
 
 
-def _merged(names: List[str], ranges: Sequence[Range], room: str, pool: Executor, strict: bool) -> List[Part]:
+def _merged(
+    names: List[str], ranges: Sequence[Range], room: str, pool: Executor, strict: bool, version: int
+) -> List[Part]:
     whole: Tuple[int, ...] = ()
     while True:
         # Each is refused at most once, so this ends.
-        calls = [(names, it, os.path.join(room, f"{at}.mdb"), strict, whole) for at, it in enumerate(ranges)]
+        calls = [(names, it, os.path.join(room, f"{at}.mdb"), strict, whole, version) for at, it in enumerate(ranges)]
         parts: List[Part] = _all(pool, merge_part, calls)
         refused = {it for part in parts for it in part.refused}
         if not refused:
@@ -176,7 +178,8 @@ def _words_in(looks: Sequence[Tuple[str, int, int]]) -> List[int]:
 
 
 def merge_part(
-    paths: Iterable[Path], range: Range, to: Path, strict: bool = False, read_whole: Collection[int] = ()
+    paths: Iterable[Path], range: Range, to: Path, strict: bool = False, read_whole: Collection[int] = (),
+    version: int = 3,
 ) -> Part:
     """Writes the merge of the records of a range of hashes to a file, which takes its name when it is whole.
 
@@ -193,15 +196,15 @@ def merge_part(
             if at in whole:
                 cuts.append(_merge([shard], start=range[0], stop=range[1]))
                 continue
-            rows = merge_found_rows(shard, *range)
-        if rows is None:
+            found = merge_by_tables(shard, *range)
+        if found is None:
             refused.append(at)
         elif not refused:
-            cuts.append(rows)
+            cuts.append(found)
     if refused:
         return Part(target, range, 0, whole, tuple(refused))
     with _named(names):
-        merged = _merge(cuts, strict)
+        merged = _merge(cuts, strict, version=version)
     cuts.clear()
     with _new(target) as new, open(new, "xb") as file:
         file.write(merged)
@@ -210,7 +213,7 @@ def merge_part(
     return Part(target, range, len(merged), whole, ())
 
 
-def concatenate_parts(parts: Iterable[Part], to: Path, version: int = 3) -> int:
+def concatenate_parts(parts: Iterable[Part], to: Path) -> int:
     """Writes the merge whose parts are given to a file, which takes its name when it is whole, and returns its size.
 
     It is a `ValueError` if a part is left out, comes twice or in another place, or if tables were refused: see `Part`.
@@ -230,7 +233,7 @@ def concatenate_parts(parts: Iterable[Part], to: Path, version: int = 3) -> int:
                 # If the file had holes, a full disk would end the process that fills its map.
                 os.posix_fallocate(file.fileno(), 0, sum(it.size for it in listed) + 400)
                 with mmap.mmap(file.fileno(), 0) as out, _named([it.path for it in listed]):
-                    size = concatenate_into(maps, out, version)
+                    size = concatenate_into(maps, out)
                 file.truncate(size)
                 os.fsync(file.fileno())
     return size

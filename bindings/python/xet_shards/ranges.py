@@ -4,16 +4,15 @@ from __future__ import annotations
 import ctypes
 import mmap
 import struct
-from concurrent.futures import Future, ThreadPoolExecutor
-from ctypes import byref, c_char, c_size_t, string_at
-from typing import Any, Iterator, List, NamedTuple, Optional, Sequence, Tuple
+from concurrent.futures import ThreadPoolExecutor
+from ctypes import byref, c_char, string_at
+from typing import Iterator, List, NamedTuple, Optional, Sequence, Tuple
 
-from ._arguments import _words
 from ._calls import _library
-from ._errors import _OUT_OF_MEMORY, XetError, _check
-from ._memory import Buffer, WritableBuffer, _Addresses, _advise_large_pages, _list, _made, _output_apart
-from ._merging import _merge_in_to, _range, find_disagreement, find_malformed
-from ._structs import _ROW, _Info, _Range, _Rows
+from ._errors import _OUT_OF_MEMORY, XetError
+from ._memory import Buffer, WritableBuffer, _Addresses, _advise_large_pages, _output_apart, _written_bytes
+from ._merging import _merge_to, _options, _union_room, _words_of, concatenate_into
+from ._structs import _ROW, _Info, _MergeOptions
 
 # The four words of a hash, by which hashes are ordered.
 Words = Tuple[int, ...]
@@ -48,102 +47,63 @@ def merge_in_threads_to(
         # An output that shares memory with a shard is an error before anything is written to it.
         with _output_apart(out, shards):
             pass
-        parts = range_merges(shards, threads, strict, start, stop)
-        return _merge_in_to(_library.xet_concatenate_in, parts, out, version) if parts else None
+        parts = range_merges(shards, threads, strict, start, stop, version)
+        return concatenate_into(parts, out) if parts else None
     except Exception:
         return None
 
 
 def range_merges(
-    shards: Sequence[Buffer], threads: int, strict: bool, start: Optional[str], stop: Optional[str]
+    shards: Sequence[Buffer], threads: int, strict: bool, start: Optional[str], stop: Optional[str], version: int
 ) -> List[memoryview]:
     """Returns the merges of ranges that follow one another from `start` to `stop`, one for each thread at most.
 
-    The list is empty if there is no hash to cut at, or if with `strict` the shards are malformed or do not agree.
+    The list is empty if there is no hash to cut at.
     """
-    bounds = [None if it is None else tuple(_words(it)) for it in (start, stop)]
+    low, high = _words_of(start), _words_of(stop)
     # Threads take the addresses anew, since they may go on when whoever waits for them is interrupted.
     with _Addresses(*shards) as data, ThreadPoolExecutor(threads) as pool:
-        bounds[1:1] = cuts(data, threads, *bounds)
+        bounds = [low, *cuts(data, threads, low, high), high]
         if len(bounds) == 2:
             return []
-        checks: List[Future[Any]] = []
-        if strict:
-            checks = [pool.submit(it, shards) for it in (find_disagreement, find_malformed)]
-        ranges = [_range(*it) for it in zip(bounds, bounds[1:])]
-        # As in xet_union_room of xet.h.
-        room = 352 + sum(length for _, length in data) // 3 * 8
+        room = _union_room(sum(length for _, length in data))
 
-        def merged(calls: Sequence[Any]) -> List[memoryview]:
-            merges = [pool.submit(_range_merge, shards, call, of, room) for call, of in calls]
-            return [it.result() for it in merges] if all(it.result() is None for it in checks) else []
+        def merged(by_tables: bool) -> List[memoryview]:
+            options = [_options(*it, strict, by_tables) for it in zip(bounds, bounds[1:])]
+            return list(pool.map(lambda it: _range_merge(shards, it, version, room), options))
 
         if start is None and stop is None:
             try:
-                return merged(_row_calls(shards, ranges, pool))
+                return merged(True)
             except XetError:
                 # A shard lacks tables, they are wrong, or a cut is not the least hash with its first word.
                 pass
-        return merged([(_library.xet_merge_range, (byref(it),)) for it in ranges])
+        return merged(False)
 
 
-def _row_calls(shards: Sequence[Buffer], ranges: Sequence[_Range], pool: ThreadPoolExecutor) -> List[Any]:
-    """Returns for each range the call that merges its rows, which are those between its end and that of the one before.
+def merge_by_tables(shard: Buffer, start: Optional[str], stop: Optional[str]) -> Optional[bytes]:
+    """Returns a shard of the records in a range of one shard, which are found by its tables.
 
-    The tables that say where ranges end are not trusted. A call refuses rows with anything else than the records of its
-    range. If none does, they have written what merges of the ranges are.
+    It is None if the tables lead to anything but whole records of the range, or after another error than that of
+    memory. If ranges that follow one another, the first without `start` and the last without `stop`, all give a shard,
+    these have all records of the ranges: a record that one lacks would be read for another, and be refused there.
     """
-    count = len(shards)
-    ends: List[Any] = [(_Rows * count)()]
-    ends += pool.map(lambda it: _range_ends(shards, it), ranges)
-    return [
-        (_library.xet_merge_rows, (start, count, end, count, byref(it))) for start, end, it in zip(ends, ends[1:], ranges)
-    ]
-
-
-def _range_ends(shards: Sequence[Buffer], asked: _Range) -> Any:
-    ends, written = (_Rows * len(shards))(), c_size_t()
-    with _Addresses(*shards) as data:
-        _check(_library.xet_find_ends(_list(data), len(data), byref(asked), ends, len(ends), byref(written)))
-    return ends
-
-
-def merge_found_rows(shard: Buffer, start: Optional[str], stop: Optional[str]) -> Optional[bytes]:
-    """Returns the merge of one shard in a range, of the rows between its ends as the tables of the shard tell them.
-
-    It is None if the rows hold anything but whole records of the range, or if another error comes. If it is not None
-    for each of some ranges that follow one another, the first without `start` and the last without `stop`, then all are
-    what merges of the ranges are: rows that one lacks another would have, and refuse.
-    """
-    low, high = (None if it is None else tuple(_words(it)) for it in (start, stop))
-    asked, none, rows = _range(low, high), (_Rows * 1)(), 2
+    options = _options(_words_of(start), _words_of(stop), by_tables=True)
     try:
-        starts = none if low is None else _range_ends([shard], _range(None, low))
-        ends = _range_ends([shard], asked)
-        for it in ("file", "xorb"):
-            rows += max(getattr(ends[0], it) - getattr(starts[0], it), 0)
         with _Addresses(shard) as data:
-            # As in xet_union_room of xet.h, for these rows and two bookends, of which a shard has no more than bytes.
-            return _made(
-                min(_ROW * rows, data[0][1]) // 3 * 8,
-                lambda out, size, written: _library.xet_merge_rows(
-                    _list(data), 1, starts, 1, ends, 1, byref(asked), out, size, byref(written)
-                ),
-            )
+            room = _union_room(data[0][1])
+        return _written_bytes(room, lambda out: _merge_to([shard], memoryview(out), options, 3))
     except XetError as error:
         if error.number == _OUT_OF_MEMORY:
             raise
         return None
 
 
-def _range_merge(shards: Sequence[Buffer], call: Any, arguments: Sequence[Any], room: int) -> memoryview:
+def _range_merge(shards: Sequence[Buffer], options: _MergeOptions, version: int, room: int) -> memoryview:
     # Pages that no one writes to cost nothing, and the system reserves no memory for them.
-    out, written = mmap.mmap(-1, room, flags=mmap.MAP_PRIVATE | mmap.MAP_ANONYMOUS | _MAP_NORESERVE), c_size_t()
-    array = (c_char * room).from_buffer(out)
-    _advise_large_pages(ctypes.addressof(array), room)
-    with _Addresses(*shards) as data:
-        _check(call(_list(data), len(data), *arguments, array, room, byref(written)))
-    return memoryview(out)[: written.value]
+    out = mmap.mmap(-1, room, flags=mmap.MAP_PRIVATE | mmap.MAP_ANONYMOUS | _MAP_NORESERVE)
+    _advise_large_pages(ctypes.addressof(c_char.from_buffer(out)), room)
+    return memoryview(out)[: _merge_to(shards, out, options, version)]
 
 
 def cuts(

@@ -8,7 +8,7 @@ from typing import Any, Iterator, List, Optional, Sequence, Tuple, TypeVar, Unio
 
 from ._checking import Finding, check
 from ._errors import _INTERNAL_ERROR, _IO, XetError
-from ._forms import eligible, export, minimal, subset, write_v2
+from ._forms import convert, eligible, export, minimal, subset
 from ._lookups import Info, Run, chunk_rows, find_file, find_rows, load, query_at, query_chunks
 from ._memory import _Mapped
 from ._records import File, ListedFile, Xorb, file_at, files, xorb_at, xorbs
@@ -191,6 +191,6 @@ class Shard(_Mapped):
         """Returns the xorbs with these hashes, or all, without files and tables."""
         return subset(self.buffer, now, expiry, xorbs, version)
 
-    def write_v2(self) -> bytes:
-        """Returns the same shard in version 2."""
-        return write_v2(self.buffer)
+    def convert(self, version: int) -> bytes:
+        """Returns the same shard in a version of the format."""
+        return convert(self.buffer, version)

@@ -370,7 +370,7 @@ fn version_3() -> Vec<u8> {
     let [verification, sha256, aux] = [365, 9364, 777].map(|it| xet_shards::Hash([it, 1, 0, 0]));
     let file = File { segments, verification: Some(vec![verification]), sha256: Some(sha256), aux_hash: Some(aux) };
     let files = [ListedFile::new([100, 1, 0, 0].into(), file)];
-    xet_shards::write_records(&files, &[], None).expect("a shard")
+    xet_shards::write_records(&files, &[], None, xet_shards::Version::V3).expect("a shard")
 }
 
 #[test]

@@ -10,6 +10,7 @@ use std::hash::{BuildHasher, Hasher};
 use std::io::Write;
 use std::process::ExitCode;
 use std::{env, fs, io};
+use xet_shards::Merge;
 
 /// Writes a file that is whole or not there.
 fn write(path: &str, bytes: &[u8]) -> Result<(), Box<dyn Error>> {
@@ -31,7 +32,7 @@ pub fn write_as(new: &str, path: &str, bytes: &[u8]) -> io::Result<()> {
 fn merge(names: &[String], output: &str) -> Result<(), Box<dyn Error>> {
     let read = |name| fs::read(name).map_err(|error| format!("{name}: {error}"));
     let shards = names.iter().map(read).collect::<Result<Vec<_>, _>>()?;
-    let merged = xet_shards::merge(&shards)?;
+    let merged = xet_shards::merge(&shards, &Merge::default())?;
     write(output, &merged)?;
     let info = xet_shards::load(&merged)?;
     println!("{output}: {} files, {} xorbs, {} chunks", info.files, info.xorbs, info.chunks);

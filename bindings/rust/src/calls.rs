@@ -3,7 +3,7 @@
 //! All `unsafe` code of the crate is the one block in `library`, and what makes memory of zeros in `memory`.
 #![allow(unsafe_code)]
 
-use crate::{Chunk, ChunkPlace, ChunkRow, Export, Hash, Info, Segment};
+use crate::{Chunk, ChunkPlace, ChunkRow, Hash, Info, Segment};
 use std::marker::PhantomData;
 
 /// Defines for each call of the library a safe function of the same name.
@@ -45,46 +45,21 @@ macro_rules! library {
 
 library! {
     fn xet_load(shard: &[u8], info: &mut Info) -> u32;
-    fn xet_union(first: &[u8], second: &[u8], out: &mut [u8], written: &mut usize) -> u32;
-    fn xet_union_in(first: &[u8], second: &[u8], version: u64, out: &mut [u8], written: &mut usize) -> u32;
-    fn xet_merge(shards: &[Bytes], out: &mut [u8], written: &mut usize) -> u32;
-    fn xet_merge_in(shards: &[Bytes], version: u64, out: &mut [u8], written: &mut usize) -> u32;
-    fn xet_merge_range(shards: &[Bytes], range: &Range, out: &mut [u8], written: &mut usize) -> u32;
-    fn xet_merge_range_in(
-        shards: &[Bytes], range: &Range, version: u64, out: &mut [u8], written: &mut usize,
+    fn xet_merge(
+        shards: &[Bytes], options: &MergeOptions, version: u64, out: &mut [u8], written: &mut usize,
+        differing: &mut usize, found: &mut Disagreement,
     ) -> u32;
-    fn xet_find_ends(shards: &[Bytes], range: &Range, ends: &mut [SectionRows], written: &mut usize) -> u32;
-    fn xet_merge_rows(
-        shards: &[Bytes], starts: &[SectionRows], ends: &[SectionRows], range: &Range, out: &mut [u8], written: &mut usize,
-    ) -> u32;
-    fn xet_concatenate(shards: &[Bytes], out: &mut [u8], written: &mut usize) -> u32;
-    fn xet_concatenate_in(shards: &[Bytes], version: u64, out: &mut [u8], written: &mut usize) -> u32;
-    fn xet_find_disagreement(shards: &[Bytes], differing: &mut usize, found: &mut Disagreement) -> u32;
+    fn xet_difference(first: &[u8], second: &[u8], version: u64, out: &mut [u8], written: &mut usize) -> u32;
     fn xet_find_disagreements(shards: &[Bytes], out: &mut [Disagreement], written: &mut usize) -> u32;
     fn xet_find_malformed(shards: &[Bytes], malformed: &mut bool, found: &mut Disagreement) -> u32;
-    fn xet_merge_agreeing(
-        shards: &[Bytes], out: &mut [u8], written: &mut usize, differing: &mut usize, found: &mut Disagreement,
+    fn xet_concatenate(shards: &[Bytes], out: &mut [u8], written: &mut usize) -> u32;
+    fn xet_export(shard: &[u8], options: &ExportOptions, version: u64, out: &mut [u8], written: &mut usize) -> u32;
+    fn xet_minimal(shard: &[u8], options: &MinimalOptions, version: u64, out: &mut [u8], written: &mut usize) -> u32;
+    fn xet_subset(
+        shard: &[u8], options: &SubsetOptions, xorbs: &[Hash], version: u64, out: &mut [u8], written: &mut usize,
     ) -> u32;
-    fn xet_merge_agreeing_in(
-        shards: &[Bytes], version: u64, out: &mut [u8], written: &mut usize, differing: &mut usize,
-        found: &mut Disagreement,
-    ) -> u32;
-    fn xet_difference(first: &[u8], second: &[u8], out: &mut [u8], written: &mut usize) -> u32;
-    fn xet_difference_in(first: &[u8], second: &[u8], version: u64, out: &mut [u8], written: &mut usize) -> u32;
-    fn xet_export(shard: &[u8], options: &Export, out: &mut [u8], written: &mut usize) -> u32;
-    fn xet_export_in(shard: &[u8], options: &Export, version: u64, out: &mut [u8], written: &mut usize) -> u32;
-    fn xet_minimal(
-        shard: &[u8], now: u64, verification: bool, aux_rows: bool, out: &mut [u8], written: &mut usize,
-    ) -> u32;
-    fn xet_minimal_in(
-        shard: &[u8], now: u64, verification: bool, aux_rows: bool, version: u64, out: &mut [u8], written: &mut usize,
-    ) -> u32;
-    fn xet_subset(shard: &[u8], options: &Subset, xorbs: &[Hash], out: &mut [u8], written: &mut usize) -> u32;
-    fn xet_subset_in(
-        shard: &[u8], options: &Subset, xorbs: &[Hash], version: u64, out: &mut [u8], written: &mut usize,
-    ) -> u32;
-    fn xet_write_v2(shard: &[u8], out: &mut [u8], written: &mut usize) -> u32;
-    fn xet_complete(shard: &[u8], key: &Hash, out: &mut [u8], written: &mut usize) -> u32;
+    fn xet_convert(shard: &[u8], version: u64, out: &mut [u8], written: &mut usize) -> u32;
+    fn xet_complete(shard: &[u8], key: &Hash, version: u64, out: &mut [u8], written: &mut usize) -> u32;
     fn xet_query_chunks(shard: &[u8], hashes: &[Hash], count: &mut usize, run: &mut Segment) -> u32;
     fn xet_query_at(
         shard: &[u8], hashes: &[Hash], row: u32, index: u32, count: &mut usize, run: &mut Segment,
@@ -108,11 +83,7 @@ library! {
     ) -> u32;
     fn xet_write(
         files: &[ListedFile], segments: &[FileSegment], xorbs: &[ListedXorb], chunks: &[Chunk], expiry: u64,
-        out: &mut [u8], written: &mut usize,
-    ) -> u32;
-    fn xet_write_in(
-        files: &[ListedFile], segments: &[FileSegment], xorbs: &[ListedXorb], chunks: &[Chunk], version: u64,
-        expiry: u64, out: &mut [u8], written: &mut usize,
+        version: u64, out: &mut [u8], written: &mut usize,
     ) -> u32;
     fn xet_check(shard: &[u8], findings: &mut [Finding], written: &mut usize) -> u32;
     fn xet_version() -> u32;
@@ -159,25 +130,39 @@ pub struct File {
 }
 
 #[repr(C)]
-pub struct Subset {
-    pub now: u64,
-    pub expiry: u64,
-    pub all: bool,
-}
-
-#[repr(C)]
-pub struct Range {
+#[derive(Clone, Copy, Default)]
+pub struct MergeOptions {
     pub from: Hash,
     pub to: Hash,
     pub has_from: bool,
     pub has_to: bool,
+    pub strict: bool,
+    pub by_tables: bool,
 }
 
 #[repr(C)]
-#[derive(Clone, Copy, Default)]
-pub struct SectionRows {
-    pub file: u32,
-    pub xorb: u32,
+pub struct ExportOptions {
+    pub key: Hash,
+    pub now: u64,
+    pub valid_seconds: u64,
+    pub without_files: bool,
+    pub without_aux_rows: bool,
+    pub without_xorb_table: bool,
+    pub without_chunk_table: bool,
+}
+
+#[repr(C)]
+pub struct MinimalOptions {
+    pub now: u64,
+    pub verification: bool,
+    pub without_aux_rows: bool,
+}
+
+#[repr(C)]
+pub struct SubsetOptions {
+    pub now: u64,
+    pub expiry: u64,
+    pub all: bool,
 }
 
 #[repr(C)]

@@ -3,9 +3,9 @@
 use crate::calls::{self, Bytes};
 use crate::error::{check, Error};
 use crate::output::{bytes_of, filled, with_room, SHORT};
-use crate::{Hash, Result};
+use crate::threads::merge_in_threads;
+use crate::{Hash, Result, Version};
 use std::fmt;
-use std::ops::{Bound, RangeBounds};
 
 /// The number of the error that tells a disagreement.
 const DISAGREE: u32 = 20;
@@ -95,244 +95,157 @@ impl fmt::Display for MalformedRecord {
     }
 }
 
-/// The union of two shards of one key: the records of both.
+/// Which records are merged, what is asked of them, and how. The default is all records of any shards, by one thread.
 ///
-/// Of well-formed shards that agree it is the same bytes in either order and any grouping of several. `xet.h` says
-/// which of two records with one hash it has where they do not agree.
+/// ```
+/// use xet_shards::{merge, Hash, Merge, Version};
+///
+/// # fn main() -> Result<(), Box<dyn std::error::Error>> {
+/// let shards = [std::fs::read("examples/a.mdb")?, std::fs::read("examples/b.mdb")?];
+/// let merged = merge(&shards, &Merge { strict: true, threads: 4, ..Merge::default() })?;
+/// assert_eq!(merged, merge(&shards, &Merge::default())?);
+///
+/// let middle = Hash([1 << 63, 0, 0, 0]);
+/// let low = merge(&shards, &Merge { to: Some(middle), ..Merge::default() })?;
+/// let high = merge(&shards, &Merge { from: Some(middle), ..Merge::default() })?;
+/// assert_eq!(xet_shards::concatenate(&[low, high])?, merged);
+///
+/// let old = merge(&shards, &Merge { version: Version::V2, ..Merge::default() })?;
+/// assert_eq!(old, xet_shards::convert(&merged, Version::V2)?);
+/// # Ok(())
+/// # }
+/// ```
+#[derive(Clone, Copy, Debug, Default, PartialEq, Eq)]
+pub struct Merge {
+    /// Only records whose hash is not below it, files by that of the file and xorbs by that of the xorb.
+    pub from: Option<Hash>,
+    /// Only records whose hash is below it.
+    pub to: Option<Hash>,
+    /// These records have to be well-formed, and to agree wherever two have one hash.
+    pub strict: bool,
+    /// So many threads at most merge a range of hashes each, and [`concatenate`] puts the results together: the bytes of
+    /// the output are in memory twice. 0 means 1.
+    pub threads: usize,
+    /// The version of the format.
+    pub version: Version,
+}
+
+/// The union of one shard or more under one key: the records of all, or those that [`Merge`] asks for. Of the records
+/// with one hash it has what is made of them by uniting the first half of the list with the second, each made in the
+/// same way; `xet.h` says what that is of two.
+///
+/// Of well-formed shards that agree pairwise it is the same bytes in any order, which `strict` makes sure of. Ranges
+/// that follow one another then have together each record once, so each may be merged by a thread or a machine of its
+/// own.
 ///
 /// # Errors
 ///
-/// - `ShardVersion`, `Io`: as of [`load`](crate::load), of either shard; `Io` also if a section ends too early.
-/// - `InvalidArguments`: the keys differ.
+/// Of several causes any may be told.
+///
+/// - `ShardVersion`, `Io`: as of [`load`](crate::load), of any shard; `Io` also if a section ends too early.
+/// - `InvalidArguments`: there is no shard, the keys differ, or a file has an auxiliary row and the version is 2.
 /// - `InvalidShard`: hashes of a section do not ascend, a file has a row that its version does not have, or a section,
 ///   here or in the union, has more than 4294967295 rows; or two files that have to be combined have different numbers
 ///   of segments.
+/// - `Malformed`, `Disagree`: with `strict`, a record is one that no shard may have, or two do not agree. Then the first
+///   shard decides that cannot be read or is not well-formed; next come shards that do not agree, then keys.
 /// - `OutOfMemory`: an allocation failed.
 ///
 /// ```
+/// use xet_shards::{merge, Error, Merge, RecordHash};
+///
+/// # fn main() -> Result<(), Box<dyn std::error::Error>> {
+/// let [a, b, c] = ["a", "b", "c"].map(|it| std::fs::read(format!("examples/{it}.mdb")));
+/// let (a, b, c) = (a?, b?, c?);
+/// assert_eq!(xet_shards::load(&merge(&[&a, &b, &a], &Merge::default())?)?.files, 2);
+///
+/// match merge(&[&a, &b, &c], &Merge { strict: true, ..Merge::default() }) {
+///     Err(Error::Disagree(it)) => assert_eq!(it.record_hash, RecordHash::File([100, 1, 0, 0].into())),
+///     _ => unreachable!("a.mdb and c.mdb differ in a file"),
+/// }
+/// # Ok(())
+/// # }
+/// ```
+pub fn merge<T: AsRef<[u8]>>(shards: &[T], options: &Merge) -> Result<Vec<u8>> {
+    let (list, length) = listed(shards)?;
+    // A merge by one call gives the error, or the bytes of shards that can be merged and not concatenated.
+    match merge_in_threads(shards, options) {
+        Some(merged) => Ok(merged),
+        None => merge_list(&list, length, options, false),
+    }
+}
+
+/// The merge of a list of shards of so many bytes by one call.
+pub(crate) fn merge_list(list: &[Bytes<'_>], length: usize, options: &Merge, by_tables: bool) -> Result<Vec<u8>> {
+    let asked = calls::MergeOptions {
+        from: options.from.unwrap_or_default(),
+        to: options.to.unwrap_or_default(),
+        has_from: options.from.is_some(),
+        has_to: options.to.is_some(),
+        strict: options.strict,
+        by_tables,
+    };
+    let mut found = None;
+    let merged = bytes_of(length, |out, written| {
+        let (mut count, mut first) = (0, calls::Disagreement::default());
+        let number = calls::xet_merge(list, &asked, options.version.number(), out, written, &mut count, &mut first);
+        found = match number {
+            DISAGREE => Some(Error::Disagree(Disagreement::of(&first, count))),
+            MALFORMED => Some(Error::Malformed(MalformedRecord::of(&first))),
+            _ => None,
+        };
+        number
+    });
+    found.map_or(merged, Err)
+}
+
+/// The union of two shards of one key: the [`merge`] of both.
+///
+/// # Errors
+///
+/// Those of [`merge`].
+///
+/// ```
+/// use xet_shards::Version;
+///
 /// # fn main() -> Result<(), Box<dyn std::error::Error>> {
 /// let (one, other) = (std::fs::read("examples/a.mdb")?, std::fs::read("examples/b.mdb")?);
-/// let union = xet_shards::union(&one, &other)?;
-/// assert_eq!(union, xet_shards::union(&other, &one)?);
+/// let union = xet_shards::union(&one, &other, Version::V3)?;
+/// assert_eq!(union, xet_shards::union(&other, &one, Version::V3)?);
 /// assert_eq!(xet_shards::load(&union)?.files, 2);
 /// # Ok(())
 /// # }
 /// ```
-pub fn union(first: &[u8], second: &[u8]) -> Result<Vec<u8>> {
-    let length = first.len().saturating_add(second.len());
-    bytes_of(length, |out, written| calls::xet_union(first, second, out, written))
-}
-
-/// What [`union`] makes, in a version of the format, 2 or 3.
-///
-/// # Errors
-///
-/// Those of [`union`]; `InvalidArguments` also if it is another version, or 2, and a file of the union has an auxiliary
-/// row.
-///
-/// ```
-/// # fn main() -> Result<(), Box<dyn std::error::Error>> {
-/// let (one, other) = (std::fs::read("examples/a.mdb")?, std::fs::read("examples/b.mdb")?);
-/// let union = xet_shards::union(&one, &other)?;
-/// assert_eq!(xet_shards::union_in(&one, &other, 2)?, xet_shards::write_v2(&union)?);
-/// # Ok(())
-/// # }
-/// ```
-pub fn union_in(first: &[u8], second: &[u8], version: u64) -> Result<Vec<u8>> {
-    let length = first.len().saturating_add(second.len());
-    bytes_of(length, |out, written| calls::xet_union_in(first, second, version, out, written))
+pub fn union(first: &[u8], second: &[u8], version: Version) -> Result<Vec<u8>> {
+    merge(&[first, second], &Merge { version, ..Merge::default() })
 }
 
 /// The second shard's records whose hashes the first does not have. Both have one key.
 ///
 /// # Errors
 ///
-/// Those of [`union`], without that of files that have to be combined.
+/// Those of [`merge`], without that of files that have to be combined.
 ///
 /// ```
+/// use xet_shards::Version;
+///
 /// # fn main() -> Result<(), Box<dyn std::error::Error>> {
 /// let (one, other) = (std::fs::read("examples/a.mdb")?, std::fs::read("examples/b.mdb")?);
-/// let union = xet_shards::union(&one, &other)?;
-/// assert_eq!(xet_shards::difference(&one, &union)?, other);
+/// let union = xet_shards::union(&one, &other, Version::V3)?;
+/// assert_eq!(xet_shards::difference(&one, &union, Version::V3)?, other);
 /// # Ok(())
 /// # }
 /// ```
-pub fn difference(first: &[u8], second: &[u8]) -> Result<Vec<u8>> {
-    bytes_of(second.len(), |out, written| calls::xet_difference(first, second, out, written))
-}
-
-/// What [`difference`] makes, in a version of the format, 2 or 3, as [`union_in`].
-///
-/// # Errors
-///
-/// Those of [`difference`] and of [`union_in`].
-///
-/// ```
-/// # fn main() -> Result<(), Box<dyn std::error::Error>> {
-/// let (one, other) = (std::fs::read("examples/a.mdb")?, std::fs::read("examples/b.mdb")?);
-/// let rest = xet_shards::difference(&one, &other)?;
-/// assert_eq!(xet_shards::difference_in(&one, &other, 2)?, xet_shards::write_v2(&rest)?);
-/// # Ok(())
-/// # }
-/// ```
-pub fn difference_in(first: &[u8], second: &[u8], version: u64) -> Result<Vec<u8>> {
-    bytes_of(second.len(), |out, written| calls::xet_difference_in(first, second, version, out, written))
-}
-
-/// The union of one shard or more: that of the first half of the list with that of the second, each made in the same
-/// way, down to single shards; if only one is given it is united with itself. Of well-formed shards that agree
-/// pairwise, under one key, it is the same bytes in any order: [`find_malformed`] and [`find_disagreement`] tell
-/// whether they do.
-///
-/// # Errors
-///
-/// Those of [`union`]; `InvalidArguments` also if there is no shard.
-///
-/// ```
-/// # fn main() -> Result<(), Box<dyn std::error::Error>> {
-/// let (one, other) = (std::fs::read("examples/a.mdb")?, std::fs::read("examples/b.mdb")?);
-/// let merged = xet_shards::merge(&[&one, &other, &one])?;
-/// assert_eq!(merged, xet_shards::union(&one, &other)?);
-/// # Ok(())
-/// # }
-/// ```
-pub fn merge<T: AsRef<[u8]>>(shards: &[T]) -> Result<Vec<u8>> {
-    let (list, length) = listed(shards)?;
-    bytes_of(length, |out, written| calls::xet_merge(&list, out, written))
-}
-
-/// What [`merge`] makes, in a version of the format, 2 or 3: in version 2 the bytes that [`write_v2`](crate::write_v2)
-/// makes of it, without a second pass.
-///
-/// # Errors
-///
-/// Those of [`merge`]; `InvalidArguments` also if it is another version, or 2, and a file of the union has an auxiliary
-/// row.
-///
-/// ```
-/// # fn main() -> Result<(), Box<dyn std::error::Error>> {
-/// let shards = [std::fs::read("examples/a.mdb")?, std::fs::read("examples/b.mdb")?];
-/// let merged = xet_shards::merge(&shards)?;
-/// assert_eq!(xet_shards::merge_in(&shards, 3)?, merged);
-/// assert_eq!(xet_shards::merge_in(&shards, 2)?, xet_shards::write_v2(&merged)?);
-/// # Ok(())
-/// # }
-/// ```
-pub fn merge_in<T: AsRef<[u8]>>(shards: &[T], version: u64) -> Result<Vec<u8>> {
-    let (list, length) = listed(shards)?;
-    bytes_of(length, |out, written| calls::xet_merge_in(&list, version, out, written))
-}
-
-/// The records in a range of hashes of the union that [`merge`] makes, files and xorbs each by their own hash, as a
-/// shard. Of well-formed shards that agree pairwise, under one key, it is the same bytes in any order. Ranges that
-/// follow one another then have together each record of the join once, so each may be made by a thread or a machine of
-/// its own.
-///
-/// # Errors
-///
-/// Those of [`merge`], but that records outside of the range are asked for no union.
-///
-/// ```
-/// use xet_shards::Hash;
-///
-/// # fn main() -> Result<(), Box<dyn std::error::Error>> {
-/// let shards = [std::fs::read("examples/a.mdb")?, std::fs::read("examples/b.mdb")?];
-/// assert_eq!(xet_shards::merge_range(&shards, ..)?, xet_shards::merge(&shards)?);
-///
-/// let middle = Hash([1 << 63, 0, 0, 0]);
-/// let parts = [xet_shards::merge_range(&shards, ..middle)?, xet_shards::merge_range(&shards, middle..)?];
-/// assert_eq!(xet_shards::merge(&parts)?, xet_shards::merge(&shards)?);
-/// # Ok(())
-/// # }
-/// ```
-pub fn merge_range<T: AsRef<[u8]>>(shards: &[T], range: impl RangeBounds<Hash>) -> Result<Vec<u8>> {
-    let range = range_of(range);
-    let (list, length) = listed(shards)?;
-    bytes_of(length, |out, written| calls::xet_merge_range(&list, &range, out, written))
-}
-
-/// What [`merge_range`] makes, in a version of the format, 2 or 3, as [`merge_in`].
-///
-/// # Errors
-///
-/// Those of [`merge_range`] and of [`merge_in`].
-///
-/// ```
-/// # fn main() -> Result<(), Box<dyn std::error::Error>> {
-/// let shards = [std::fs::read("examples/a.mdb")?, std::fs::read("examples/b.mdb")?];
-/// assert_eq!(xet_shards::merge_range_in(&shards, .., 2)?, xet_shards::merge_in(&shards, 2)?);
-/// # Ok(())
-/// # }
-/// ```
-pub fn merge_range_in<T: AsRef<[u8]>>(shards: &[T], range: impl RangeBounds<Hash>, version: u64) -> Result<Vec<u8>> {
-    let range = range_of(range);
-    let (list, length) = listed(shards)?;
-    bytes_of(length, |out, written| calls::xet_merge_range_in(&list, &range, version, out, written))
-}
-
-/// The rows before which the records of a range are in each shard, by its tables. Nothing checks them.
-pub(crate) fn find_ends<T: AsRef<[u8]>>(
-    shards: &[T],
-    range: impl RangeBounds<Hash>,
-) -> Result<Vec<calls::SectionRows>> {
-    let range = range_of(range);
-    let (list, _) = listed(shards)?;
-    filled(list.len(), |ends, written| calls::xet_find_ends(&list, &range, ends, written))
-}
-
-/// What [`merge_range`] makes, if the records of the range are between these rows of the shards.
-pub(crate) fn merge_rows<T: AsRef<[u8]>>(
-    shards: &[T],
-    range: impl RangeBounds<Hash>,
-    starts: &[calls::SectionRows],
-    ends: &[calls::SectionRows],
-) -> Result<Vec<u8>> {
-    let range = range_of(range);
-    let (list, length) = listed(shards)?;
-    bytes_of(length, |out, written| calls::xet_merge_rows(&list, starts, ends, &range, out, written))
-}
-
-/// A range of hashes, as the library takes it.
-fn range_of(range: impl RangeBounds<Hash>) -> calls::Range {
-    let from = match range.start_bound() {
-        Bound::Included(from) => Some(*from),
-        // Above the last hash there is none: no hash is below the first.
-        Bound::Excluded(below) => match next(*below) {
-            Some(from) => Some(from),
-            None => return range_of(Hash::default()..Hash::default()),
-        },
-        Bound::Unbounded => None,
-    };
-    let to = match range.end_bound() {
-        Bound::Included(last) => next(*last),
-        Bound::Excluded(to) => Some(*to),
-        Bound::Unbounded => None,
-    };
-    calls::Range {
-        from: from.unwrap_or_default(),
-        to: to.unwrap_or_default(),
-        has_from: from.is_some(),
-        has_to: to.is_some(),
-    }
-}
-
-/// The hash after this one, if it is not the last.
-fn next(mut hash: Hash) -> Option<Hash> {
-    for word in hash.0.iter_mut().rev() {
-        let (sum, wraps) = word.overflowing_add(1);
-        *word = sum;
-        if !wraps {
-            return Some(hash);
-        }
-    }
-    None
+pub fn difference(first: &[u8], second: &[u8], version: Version) -> Result<Vec<u8>> {
+    bytes_of(second.len(), |out, written| calls::xet_difference(first, second, version.number(), out, written))
 }
 
 /// The shard that has the records of one shard or more, in their order, with all tables, under the key of all, and
-/// without timestamps. The hashes of files have to ascend from each shard to the next, and so have those of xorbs. So
-/// it puts together what [`merge_range`] gives of well-formed shards that agree, for ranges that follow one another,
-/// from no bound to no bound: it is what the one [`merge`] gives. Records are copied and not checked:
-/// [`check`](crate::check) tells what is wrong with what is made of shards that are not trusted.
+/// without timestamps, in version 2 of the format if all have it, else in version 3. The hashes of files have to ascend
+/// from each shard to the next, and so have those of xorbs. So it puts together what [`merge`] gives of well-formed
+/// shards that agree, for ranges that follow one another, from no bound to no bound: it is what the one merge gives.
+/// Records are copied and not checked: [`check`](crate::check) tells what is wrong with what is made of shards that are
+/// not trusted.
 ///
 /// # Errors
 ///
@@ -343,38 +256,20 @@ fn next(mut hash: Hash) -> Option<Hash> {
 /// - `OutOfMemory`: an allocation failed.
 ///
 /// ```
-/// use xet_shards::Hash;
+/// use xet_shards::{concatenate, merge, Hash, Merge};
 ///
 /// # fn main() -> Result<(), Box<dyn std::error::Error>> {
 /// let shards = [std::fs::read("examples/a.mdb")?, std::fs::read("examples/b.mdb")?];
-/// let middle = Hash([1 << 63, 0, 0, 0]);
-/// let parts = [xet_shards::merge_range(&shards, ..middle)?, xet_shards::merge_range(&shards, middle..)?];
-/// assert_eq!(xet_shards::concatenate(&parts)?, xet_shards::merge(&shards)?);
+/// let middle = Some(Hash([1 << 63, 0, 0, 0]));
+/// let low = merge(&shards, &Merge { to: middle, ..Merge::default() })?;
+/// let high = merge(&shards, &Merge { from: middle, ..Merge::default() })?;
+/// assert_eq!(concatenate(&[low, high])?, merge(&shards, &Merge::default())?);
 /// # Ok(())
 /// # }
 /// ```
 pub fn concatenate<T: AsRef<[u8]>>(shards: &[T]) -> Result<Vec<u8>> {
     let (list, length) = listed(shards)?;
     bytes_of(length, |out, written| calls::xet_concatenate(&list, out, written))
-}
-
-/// What [`concatenate`] makes, in a version of the format, 2 or 3.
-///
-/// # Errors
-///
-/// Those of [`concatenate`]; `InvalidArguments` also if it is another version, or 2, and a file of a shard has an
-/// auxiliary row.
-///
-/// ```
-/// # fn main() -> Result<(), Box<dyn std::error::Error>> {
-/// let shard = std::fs::read("examples/a.mdb")?;
-/// assert_eq!(xet_shards::concatenate_in(&[&shard], 2)?, xet_shards::merge_in(&[&shard], 2)?);
-/// # Ok(())
-/// # }
-/// ```
-pub fn concatenate_in<T: AsRef<[u8]>>(shards: &[T], version: u64) -> Result<Vec<u8>> {
-    let (list, length) = listed(shards)?;
-    bytes_of(length, |out, written| calls::xet_concatenate_in(&list, version, out, written))
 }
 
 /// What [`concatenate`] returns, straight to the front of `out`, and its number of bytes. If `out` is too small, and
@@ -386,18 +281,19 @@ pub fn concatenate_in<T: AsRef<[u8]>>(shards: &[T], version: u64) -> Result<Vec<
 /// As of [`concatenate`].
 ///
 /// ```
-/// use xet_shards::Hash;
+/// use xet_shards::{concatenate_into, merge, Hash, Merge};
 ///
 /// # fn main() -> Result<(), Box<dyn std::error::Error>> {
 /// let shards = [std::fs::read("examples/a.mdb")?, std::fs::read("examples/b.mdb")?];
-/// let middle = Hash([1 << 63, 0, 0, 0]);
-/// let parts = [xet_shards::merge_range(&shards, ..middle)?, xet_shards::merge_range(&shards, middle..)?];
-/// let whole = xet_shards::merge(&shards)?;
+/// let middle = Some(Hash([1 << 63, 0, 0, 0]));
+/// let low = merge(&shards, &Merge { to: middle, ..Merge::default() })?;
+/// let high = merge(&shards, &Merge { from: middle, ..Merge::default() })?;
+/// let whole = merge(&shards, &Merge::default())?;
 /// let mut out = vec![7; whole.len() + 1];
-/// assert_eq!(xet_shards::concatenate_into(&parts, &mut out[..whole.len() - 1])?, whole.len());
-/// assert!(xet_shards::concatenate_into(&[&parts[0], &parts[0]], &mut out).is_err());
+/// assert_eq!(concatenate_into(&[&low, &high], &mut out[..whole.len() - 1])?, whole.len());
+/// assert!(concatenate_into(&[&low, &low], &mut out).is_err());
 /// assert_eq!(out, vec![7; whole.len() + 1]);
-/// assert_eq!(xet_shards::concatenate_into(&parts, &mut out)?, whole.len());
+/// assert_eq!(concatenate_into(&[&low, &high], &mut out)?, whole.len());
 /// assert_eq!((&out[..whole.len()], out[whole.len()]), (&whole[..], 7));
 /// # Ok(())
 /// # }
@@ -411,110 +307,15 @@ pub fn concatenate_into<T: AsRef<[u8]>>(shards: &[T], out: &mut [u8]) -> Result<
     Ok(written)
 }
 
-/// The union of one shard or more as [`merge`] makes it, if each of the shards is well-formed and each two agree. It is
-/// the bytes of their join, whatever the order of the list; nothing else need be known of the shards.
-///
-/// # Errors
-///
-/// `Malformed`: one of them has a record that no shard may have. `Disagree`: two of them do not agree. Else those of
-/// [`merge`]. The first shard that cannot be read, or is not well-formed, decides; then come shards that do not agree,
-/// then keys that differ.
-///
-/// ```
-/// use xet_shards::{Error, RecordHash};
-///
-/// # fn main() -> Result<(), Box<dyn std::error::Error>> {
-/// let (one, other) = (std::fs::read("examples/a.mdb")?, std::fs::read("examples/b.mdb")?);
-/// assert_eq!(xet_shards::merge_agreeing(&[&one, &other])?, xet_shards::merge(&[&one, &other])?);
-///
-/// let unlike = std::fs::read("examples/c.mdb")?;
-/// match xet_shards::merge_agreeing(&[&one, &other, &unlike]) {
-///     Err(Error::Disagree(it)) => assert_eq!(it.record_hash, RecordHash::File([100, 1, 0, 0].into())),
-///     _ => unreachable!("a.mdb and c.mdb differ in a file"),
-/// }
-/// # Ok(())
-/// # }
-/// ```
-pub fn merge_agreeing<T: AsRef<[u8]>>(shards: &[T]) -> Result<Vec<u8>> {
-    merge_if_agreeing(shards, calls::xet_merge_agreeing)
-}
-
-/// What [`merge_agreeing`] makes, in a version of the format, 2 or 3.
-///
-/// # Errors
-///
-/// `InvalidArguments` if it is another version. Else those of [`merge_agreeing`], with `InvalidArguments` also if it is
-/// 2, and a file of the merge has an auxiliary row.
-///
-/// ```
-/// # fn main() -> Result<(), Box<dyn std::error::Error>> {
-/// let shards = [std::fs::read("examples/a.mdb")?, std::fs::read("examples/b.mdb")?];
-/// assert_eq!(xet_shards::merge_agreeing_in(&shards, 2)?, xet_shards::merge_in(&shards, 2)?);
-/// # Ok(())
-/// # }
-/// ```
-pub fn merge_agreeing_in<T: AsRef<[u8]>>(shards: &[T], version: u64) -> Result<Vec<u8>> {
-    merge_if_agreeing(shards, |list, out, written, count, first| {
-        calls::xet_merge_agreeing_in(list, version, out, written, count, first)
-    })
-}
-
-/// What a call of the library makes that looks for what is malformed or does not agree.
-fn merge_if_agreeing<T: AsRef<[u8]>>(
-    shards: &[T],
-    call: impl Fn(&[Bytes<'_>], &mut [u8], &mut usize, &mut usize, &mut calls::Disagreement) -> u32,
-) -> Result<Vec<u8>> {
-    let (list, length) = listed(shards)?;
-    let mut found = None;
-    let merged = bytes_of(length, |out, written| {
-        let (mut count, mut first) = (0, calls::Disagreement::default());
-        let number = call(&list, out, written, &mut count, &mut first);
-        found = match number {
-            DISAGREE => Some(Error::Disagree(Disagreement::of(&first, count))),
-            MALFORMED => Some(Error::Malformed(MalformedRecord::of(&first))),
-            _ => None,
-        };
-        number
-    });
-    match found {
-        Some(error) => Err(error),
-        None => merged,
-    }
-}
-
-/// Looks for the first hash under which two of the shards have records that do not agree: of files before xorbs, and
-/// the least hash first. If there is none, each two agree.
+/// All hashes under which two of the shards have records that do not agree, each once: those of files, then those of
+/// xorbs, and each in ascending order. If there is none, each two agree.
 ///
 /// Two files agree if they have equal segments, and an equal optional part wherever both have it, and two xorbs if they
 /// are equal. The keys of the shards do not count.
 ///
 /// # Errors
 ///
-/// Those of [`union`] that one of the shards alone is the cause of, and `OutOfMemory`.
-///
-/// ```
-/// # fn main() -> Result<(), Box<dyn std::error::Error>> {
-/// let [a, b, c] = ["a", "b", "c"].map(|it| std::fs::read(format!("examples/{it}.mdb")));
-/// let shards = [a?, b?, c?];
-/// assert_eq!(xet_shards::find_disagreement(&shards[..2])?, None);
-/// let found = xet_shards::find_disagreement(&shards)?.expect("a.mdb and c.mdb differ in a file");
-/// assert_eq!((found.first, found.second, found.count), (0, 2, 1));
-/// # Ok(())
-/// # }
-/// ```
-pub fn find_disagreement<T: AsRef<[u8]>>(shards: &[T]) -> Result<Option<Disagreement>> {
-    let (list, _) = listed(shards)?;
-    let (mut count, mut found) = (0, calls::Disagreement::default());
-    check(calls::xet_find_disagreement(&list, &mut count, &mut found))?;
-    Ok((count > 0).then(|| Disagreement::of(&found, count)))
-}
-
-/// All hashes under which two of the shards have records that do not agree, each once: those of files, then those of
-/// xorbs, and each in ascending order.
-///
-/// # Errors
-///
-/// Those of [`find_disagreement`].
+/// Those of [`merge`] that one of the shards alone is the cause of, and `OutOfMemory`.
 ///
 /// ```
 /// # fn main() -> Result<(), Box<dyn std::error::Error>> {
@@ -538,7 +339,7 @@ pub fn find_disagreements<T: AsRef<[u8]>>(shards: &[T]) -> Result<Vec<Disagreeme
 ///
 /// # Errors
 ///
-/// Those of [`find_disagreement`].
+/// Those of [`find_disagreements`].
 ///
 /// ```
 /// # fn main() -> Result<(), Box<dyn std::error::Error>> {
@@ -559,7 +360,7 @@ pub fn find_malformed<T: AsRef<[u8]>>(shards: &[T]) -> Result<Option<MalformedRe
 }
 
 /// The shards as the library takes a list of them, and the sum of their lengths.
-fn listed<T: AsRef<[u8]>>(shards: &[T]) -> Result<(Vec<Bytes<'_>>, usize)> {
+pub(crate) fn listed<T: AsRef<[u8]>>(shards: &[T]) -> Result<(Vec<Bytes<'_>>, usize)> {
     let (mut list, mut length) = (with_room(shards.len())?, 0usize);
     for shard in shards {
         length = length.saturating_add(shard.as_ref().len());
@@ -575,14 +376,15 @@ mod tests {
     #[test]
     fn strict_merges_leave_their_output() {
         let [a, b, c] = ["a", "b", "c"].map(|it| std::fs::read(format!("examples/{it}.mdb")).expect("a shard"));
-        let merged = merge(&[&a, &b]).expect("a merge");
+        let merged = merge(&[&a, &b], &Merge::default()).expect("a merge");
         let mut malformed = a.clone();
         // The reserved word of the first file.
         malformed[48 + 40] = 1;
         let strict = |shards: &[&[u8]], out: &mut [u8]| {
             let (mut written, mut count, mut found) = (7, 7, calls::Disagreement::default());
             let (list, _) = listed(shards).expect("a list");
-            let number = calls::xet_merge_agreeing(&list, out, &mut written, &mut count, &mut found);
+            let options = calls::MergeOptions { strict: true, ..Default::default() };
+            let number = calls::xet_merge(&list, &options, 3, out, &mut written, &mut count, &mut found);
             (number, written, count)
         };
         let mut out = vec![7; merged.len() + 1];

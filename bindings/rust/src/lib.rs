@@ -8,7 +8,7 @@
 //! ```
 //! # fn main() -> Result<(), Box<dyn std::error::Error>> {
 //! let shards = [std::fs::read("examples/a.mdb")?, std::fs::read("examples/b.mdb")?];
-//! let merged = xet_shards::merge(&shards)?;
+//! let merged = xet_shards::merge(&shards, &xet_shards::Merge::default())?;
 //! assert_eq!(xet_shards::load(&merged)?.files, 2);
 //! let file = xet_shards::find_file(&merged, [101, 1, 0, 0].into())?.expect("the file is in b.mdb");
 //! assert_eq!(file.segments.len(), 1);
@@ -31,13 +31,13 @@ mod output;
 mod parts;
 mod records;
 mod threads;
+mod version;
 mod walk;
 mod write;
 
 pub use combine::{
-    concatenate, concatenate_in, concatenate_into, difference, difference_in, find_disagreement, find_disagreements,
-    find_malformed, merge, merge_agreeing, merge_agreeing_in, merge_in, merge_range, merge_range_in, union, union_in,
-    Disagreement, MalformedRecord, RecordHash,
+    concatenate, concatenate_into, difference, find_disagreements, find_malformed, merge, union, Disagreement,
+    MalformedRecord, Merge, RecordHash,
 };
 pub use error::Error;
 pub use finding::{check, Finding, Part};
@@ -46,12 +46,10 @@ pub use index::Index;
 pub use lookup::{chunk_rows, eligible, find_file, load, query_at, query_chunks, ChunkRow, File, Info, Run, Segment};
 pub use name::{hash_bytes, hash_of_name, hmac, shard_name};
 pub use parts::{file_in, find_places, find_rows, xorb_in, ChunkPlace};
-pub use records::{records, write_records, write_records_in, Records, WITH_AUX, WITH_SHA256, WITH_VERIFICATION};
-pub use threads::{merge_agreeing_in_threads, merge_in_threads};
+pub use records::{records, write_records, Records, WITH_AUX, WITH_SHA256, WITH_VERIFICATION};
+pub use version::Version;
 pub use walk::{file_at, files, xorb_at, xorbs, Chunk, FileIter, ListedFile, Xorb, XorbIter};
-pub use write::{
-    complete, export, export_in, minimal, minimal_in, subset, subset_in, write_v2, Export, Minimal, Subset, Xorbs,
-};
+pub use write::{complete, convert, export, minimal, subset, Export, Minimal, Subset, Xorbs};
 
 /// The version of the library that is linked: 10000 times the first of its three numbers, 100 times the second, and the
 /// third.

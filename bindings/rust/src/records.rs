@@ -3,7 +3,7 @@
 use crate::error::check;
 use crate::lookup::file_of;
 use crate::output::{filled, with_room, zeros, SHORT};
-use crate::{calls, Chunk, Error, File, Hash, ListedFile, Result, Segment, Xorb, NO_EXPIRY};
+use crate::{calls, Chunk, Error, File, Hash, ListedFile, Result, Segment, Version, Xorb, NO_EXPIRY};
 
 /// The flag of a file that has verification hashes.
 pub const WITH_VERIFICATION: u32 = 1 << 31;
@@ -51,11 +51,13 @@ impl ListedFile {
 /// - `OutOfMemory`: an allocation failed.
 ///
 /// ```
+/// use xet_shards::Version;
+///
 /// # fn main() -> Result<(), Box<dyn std::error::Error>> {
 /// let shard = std::fs::read("examples/a.mdb")?;
 /// let records = xet_shards::records(&shard)?;
 /// assert_eq!(records.files, xet_shards::files(&shard).collect::<Result<Vec<_>, _>>()?);
-/// assert_eq!(xet_shards::write_records(&records.files, &records.xorbs, None)?, shard);
+/// assert_eq!(xet_shards::write_records(&records.files, &records.xorbs, None, Version::V3)?, shard);
 /// # Ok(())
 /// # }
 /// ```
@@ -111,18 +113,19 @@ fn file_with(it: &calls::ListedFile, segments: &[calls::FileSegment]) -> ListedF
     ListedFile { hash: it.hash, flags: it.flags, file: file_of(&file, segments) }
 }
 
-/// The shard that has these files and xorbs, in version 3, with all tables and without a key, and with an expiry in
-/// seconds or none. They may be in any order; of two files, or two xorbs, with one hash the later one counts.
+/// The shard that has these files and xorbs, with all tables and without a key, with an expiry in seconds or none, in a
+/// version of the format. They may be in any order; of two files, or two xorbs, with one hash the later one counts.
 ///
 /// # Errors
 ///
 /// - `InvalidArguments`: the flags of a file are not those of its parts, or it has more or fewer verification hashes
-///   than segments; or there is no such shard: a hash is all ones, a file has flags of no known part, the chunks of a
-///   xorb have more than 4294967295 bytes in all, or the rows of the files, or of the xorbs, would pass 4294967295.
+///   than segments; or there is no such shard: a hash is all ones, a file has flags of no known part, or an auxiliary
+///   row and the version is 2, the chunks of a xorb have more than 4294967295 bytes in all, or the rows of the files, or
+///   of the xorbs, would pass 4294967295.
 /// - `OutOfMemory`: an allocation failed.
 ///
 /// ```
-/// use xet_shards::{Chunk, File, ListedFile, Segment, Xorb};
+/// use xet_shards::{Chunk, File, ListedFile, Segment, Version, Xorb};
 ///
 /// # fn main() -> Result<(), Box<dyn std::error::Error>> {
 /// let xorb = [10, 1, 0, 0].into();
@@ -131,50 +134,19 @@ fn file_with(it: &calls::ListedFile, segments: &[calls::FileSegment]) -> ListedF
 /// let segments = vec![Segment { xorb, flags: 0, bytes: 5, start: 0, end: 1 }];
 /// let file = File { segments, verification: None, sha256: None, aux_hash: None };
 /// let files = [ListedFile::new([100, 1, 0, 0].into(), file)];
-/// assert_eq!(xet_shards::write_records(&files, &xorbs, None)?, std::fs::read("examples/a.mdb")?);
+/// assert_eq!(xet_shards::write_records(&files, &xorbs, None, Version::V3)?, std::fs::read("examples/a.mdb")?);
 /// # Ok(())
 /// # }
 /// ```
-pub fn write_records(files: &[ListedFile], xorbs: &[Xorb], expiry: Option<u64>) -> Result<Vec<u8>> {
-    let expiry = expiry.unwrap_or(NO_EXPIRY);
-    written(files, xorbs, |files, segments, xorbs, chunks, out, written| {
-        calls::xet_write(files, segments, xorbs, chunks, expiry, out, written)
-    })
-}
-
-/// What [`write_records`] makes, in a version of the format, 2 or 3.
-///
-/// # Errors
-///
-/// Those of [`write_records`]; `InvalidArguments` also if it is another version, or 2, and a file has an auxiliary row.
-///
-/// ```
-/// # fn main() -> Result<(), Box<dyn std::error::Error>> {
-/// let shard = std::fs::read("examples/a.mdb")?;
-/// let records = xet_shards::records(&shard)?;
-/// let old = xet_shards::write_records_in(&records.files, &records.xorbs, 2, None)?;
-/// assert_eq!(old, xet_shards::write_v2(&shard)?);
-/// # Ok(())
-/// # }
-/// ```
-pub fn write_records_in(files: &[ListedFile], xorbs: &[Xorb], version: u64, expiry: Option<u64>) -> Result<Vec<u8>> {
-    let expiry = expiry.unwrap_or(NO_EXPIRY);
-    written(files, xorbs, |files, segments, xorbs, chunks, out, written| {
-        calls::xet_write_in(files, segments, xorbs, chunks, version, expiry, out, written)
-    })
-}
-
-/// What a call writes of these records, given as four lists.
-fn written(
-    files: &[ListedFile],
-    xorbs: &[Xorb],
-    call: impl Fn(&[calls::ListedFile], &[calls::FileSegment], &[calls::ListedXorb], &[Chunk], &mut [u8], &mut usize) -> u32,
-) -> Result<Vec<u8>> {
+pub fn write_records(files: &[ListedFile], xorbs: &[Xorb], expiry: Option<u64>, version: Version) -> Result<Vec<u8>> {
     let (files, segments) = file_lists(files)?;
     let (xorbs, chunks) = xorb_lists(xorbs)?;
+    let expiry = expiry.unwrap_or(NO_EXPIRY);
     // As xet_write_room of xet.h.
     let room = 344 + 156 * files.len() + 96 * segments.len() + 60 * xorbs.len() + 64 * chunks.len();
-    filled(room, |out, written| call(&files, &segments, &xorbs, &chunks, out, written))
+    filled(room, |out, written| {
+        calls::xet_write(&files, &segments, &xorbs, &chunks, expiry, version.number(), out, written)
+    })
 }
 
 /// The files as the library takes a list of them, and their segments.

@@ -1,12 +1,9 @@
 //! Merges by ranges of hashes, each in a thread.
 
-use crate::calls::SectionRows;
-use crate::combine::{find_ends, merge_rows};
+use crate::combine::{listed, merge_list};
 use crate::output::with_room;
-use crate::{concatenate, find_disagreement, find_malformed, load, merge, merge_agreeing, merge_range};
-use crate::{Hash, Info, Result};
+use crate::{concatenate, load, Hash, Info, Merge};
 use std::iter::once;
-use std::ops::Bound;
 use std::sync::atomic::{AtomicUsize, Ordering};
 use std::{io, thread};
 
@@ -23,100 +20,35 @@ const ROW_AT: u64 = 8;
 /// The fractional parts of its multiples are spread evenly, however many there are.
 const GOLDEN_RATIO: f64 = 0.618_033_988_749_894_9;
 
-/// The bytes of [`merge`], by so many threads at most, each of which merges a range of hashes. [`concatenate`] puts
-/// their results together, so the bytes of the output are in memory twice. If there is no hash to cut at, or if there
-/// are fewer than two threads, it is [`merge`].
-///
-/// # Errors
-///
-/// Those of [`merge`].
-///
-/// ```
-/// # fn main() -> Result<(), Box<dyn std::error::Error>> {
-/// let shards = [std::fs::read("examples/a.mdb")?, std::fs::read("examples/b.mdb")?];
-/// assert_eq!(xet_shards::merge_in_threads(&shards, 4)?, xet_shards::merge(&shards)?);
-/// # Ok(())
-/// # }
-/// ```
-pub fn merge_in_threads<T: AsRef<[u8]>>(shards: &[T], threads: usize) -> Result<Vec<u8>> {
-    // The merge by one call gives the error, or the bytes of shards that can be merged and not concatenated.
-    merge_by_ranges(shards, threads, false).map_or_else(|| merge(shards), Ok)
-}
-
-/// The bytes of [`merge_agreeing`], by so many threads at most, as [`merge_in_threads`] makes those of [`merge`].
-///
-/// # Errors
-///
-/// Those of [`merge_agreeing`].
-///
-/// ```
-/// # fn main() -> Result<(), Box<dyn std::error::Error>> {
-/// let [a, b, c] = ["a", "b", "c"].map(|it| std::fs::read(format!("examples/{it}.mdb")));
-/// let shards = [a?, b?, c?];
-/// assert_eq!(xet_shards::merge_agreeing_in_threads(&shards[..2], 4)?, xet_shards::merge(&shards[..2])?);
-/// assert!(xet_shards::merge_agreeing_in_threads(&shards, 4).is_err());
-/// # Ok(())
-/// # }
-/// ```
-pub fn merge_agreeing_in_threads<T: AsRef<[u8]>>(shards: &[T], threads: usize) -> Result<Vec<u8>> {
-    merge_by_ranges(shards, threads, true).map_or_else(|| merge_agreeing(shards), Ok)
-}
-
-/// A merge of ranges that are put together. It is `None` if there is no hash to cut at, if anything fails, or if with
-/// `strict` the shards are malformed or do not agree.
-fn merge_by_ranges<T: AsRef<[u8]>>(shards: &[T], threads: usize, strict: bool) -> Option<Vec<u8>> {
-    if threads < 2 {
+/// A merge of ranges that are put together. It is `None` if there are fewer than two threads, if there is no hash to cut
+/// at, or if anything fails.
+pub fn merge_in_threads<T: AsRef<[u8]>>(shards: &[T], options: &Merge) -> Option<Vec<u8>> {
+    if options.threads < 2 {
         return None;
     }
     let mut list = with_room(shards.len()).ok()?;
     list.extend(shards.iter().map(AsRef::as_ref));
-    concatenate(&range_merges(&list, threads, strict)?).ok()
+    concatenate(&range_merges(&list, options)?).ok()
 }
 
-/// What a thread does at a time.
-enum Task<'a> {
-    FindDisagreement,
-    FindMalformed,
-    Merge(Bounds),
-    MergeRows(Bounds, &'a [SectionRows], &'a [SectionRows]),
-}
-
-/// A range of hashes.
-type Bounds = (Bound<Hash>, Bound<Hash>);
-
-impl Task<'_> {
-    /// The merge of a range, or nothing of a task that looks for something. It is `None` if the task fails or finds it.
-    fn run(&self, shards: &[&[u8]]) -> Option<Option<Vec<u8>>> {
-        match *self {
-            Task::FindDisagreement => find_disagreement(shards).ok()?.is_none().then_some(None),
-            Task::FindMalformed => find_malformed(shards).ok()?.is_none().then_some(None),
-            Task::Merge(range) => merge_range(shards, range).ok().map(Some),
-            Task::MergeRows(range, starts, ends) => merge_rows(shards, range, starts, ends).ok().map(Some),
-        }
-    }
-}
-
-/// The merges of ranges that follow one another, from no bound to no bound.
-fn range_merges(shards: &[&[u8]], threads: usize, strict: bool) -> Option<Vec<Vec<u8>>> {
-    let cuts = cuts(shards, threads);
+/// The merges of ranges that follow one another, which have together what is asked for.
+fn range_merges(shards: &[&[u8]], options: &Merge) -> Option<Vec<Vec<u8>>> {
+    let cuts = cuts(shards, options);
     if cuts.is_empty() {
         return None;
     }
-    let starts = once(Bound::Unbounded).chain(cuts.iter().copied().map(Bound::Included));
-    let ends = cuts.iter().copied().map(Bound::Excluded).chain(once(Bound::Unbounded));
-    let ranges: Vec<Bounds> = starts.zip(ends).collect();
-    let checks = if strict { vec![Task::FindDisagreement, Task::FindMalformed] } else { vec![] };
-    let merged = |tasks: Vec<Task>| {
-        let tasks: Vec<&Task> = checks.iter().chain(&tasks).collect();
-        let done = results_of_threads(threads, tasks.len(), |at| tasks[at].run(shards))?;
-        Some(done.into_iter().flatten().collect())
+    let starts = once(options.from).chain(cuts.iter().copied().map(Some));
+    let ends = cuts.iter().copied().map(Some).chain(once(options.to));
+    let ranges: Vec<Merge> = starts.zip(ends).map(|(from, to)| Merge { from, to, ..*options }).collect();
+    let merged = |by_tables| {
+        results_of_threads(options.threads, ranges.len(), |at| {
+            let (list, length) = listed(shards).ok()?;
+            merge_list(&list, length, &ranges[at], by_tables).ok()
+        })
     };
-    // The tables that say where ranges end are not trusted: a merge refuses rows with anything else than its range.
-    let ends = results_of_threads(threads, ranges.len(), |at| find_ends(shards, ranges[at]).ok())?;
-    let starts: Vec<_> = once(vec![SectionRows::default(); shards.len()]).chain(ends.iter().cloned()).collect();
-    let of_rows = ranges.iter().zip(starts.iter().zip(&ends));
-    merged(of_rows.map(|(&range, (starts, ends))| Task::MergeRows(range, starts, ends)).collect())
-        .or_else(|| merged(ranges.iter().map(|&range| Task::Merge(range)).collect()))
+    // The tables are not trusted: merges by them refuse anything else than their ranges, which have to be all.
+    let all = options.from.is_none() && options.to.is_none();
+    all.then(|| merged(true)).flatten().or_else(|| merged(false))
 }
 
 /// The results of so many tasks, in their order, or `None` if that is the result of one. The thread that calls runs
@@ -143,12 +75,13 @@ fn results_of_threads<T: Send>(
     })
 }
 
-/// Hashes, in ascending order, that cut the records into so many ranges at most, of about one size. Any would do, so
-/// what the shards hold is not checked.
-fn cuts(shards: &[&[u8]], ranges: usize) -> Vec<Hash> {
+/// Hashes, in ascending order, that cut the records into a range for each thread at most, of about one size. Any would
+/// do, so what the shards hold is not checked.
+fn cuts(shards: &[&[u8]], options: &Merge) -> Vec<Hash> {
     let mut hashes = sample(shards);
+    hashes.retain(|it| options.from.map_or(true, |from| from < *it) && options.to.map_or(true, |to| *it < to));
     hashes.sort_unstable();
-    let ranges = ranges.min(hashes.len() + 1);
+    let ranges = options.threads.min(hashes.len() + 1);
     let mut cuts: Vec<Hash> = (1..ranges).map(|at| hashes[hashes.len() * at / ranges]).collect();
     cuts.dedup();
     cuts
@@ -211,14 +144,16 @@ fn bytes_at<const COUNT: usize>(shard: &[u8], place: u64) -> Option<[u8; COUNT]>
 #[cfg(test)]
 mod tests {
     use super::*;
+    use crate::merge;
 
     #[test]
     fn two_ranges_of_two_shards() {
         let [a, b] = ["a", "b"].map(|it| std::fs::read(format!("examples/{it}.mdb")).expect("a shard"));
         for strict in [false, true] {
-            let parts = range_merges(&[&a, &b], 2, strict).expect("ranges");
+            let options = Merge { strict, threads: 2, ..Merge::default() };
+            let parts = range_merges(&[&a, &b], &options).expect("ranges");
             assert_eq!(parts.len(), 2);
-            assert_eq!(concatenate(&parts), merge(&[&a, &b]));
+            assert_eq!(concatenate(&parts), merge(&[&a, &b], &Merge::default()));
         }
     }
 

@@ -7,7 +7,9 @@ use std::error::Error as _;
 use std::slice::from_ref;
 use std::thread;
 use xet_shards::{
-    Disagreement, Error, Export, File, Finding, Hash, ListedFile, MalformedRecord, Minimal, Part, RecordHash, Subset,
+    Disagreement, Error, Export, File, Finding, Hash, ListedFile, MalformedRecord, Merge, Minimal, Part, RecordHash,
+    Subset,
+    Version::{V2, V3},
     Xorb, Xorbs, NO_EXPIRY, NO_KEY,
 };
 
@@ -33,9 +35,8 @@ fn inputs_that_are_no_shards() {
     let file = one_file();
     assert_eq!(xet_shards::load(&[]), Err(Error::Io));
     assert_eq!(xet_shards::load(&[7; 500]), Err(Error::ShardVersion));
-    assert_eq!(xet_shards::merge::<&[u8]>(&[]), Err(Error::InvalidArguments));
-    assert_eq!(xet_shards::merge(&[&file[..], &file[..199]]), Err(Error::Io));
-    assert_eq!(xet_shards::find_disagreement(&[&file[..], &file[..199]]), Err(Error::Io));
+    assert_eq!(xet_shards::merge::<&[u8]>(&[], &Merge::default()), Err(Error::InvalidArguments));
+    assert_eq!(xet_shards::merge(&[&file[..], &file[..199]], &Merge::default()), Err(Error::Io));
     assert_eq!("10".parse::<Hash>(), Err(Error::HashParsing));
     assert_eq!(xet_shards::hash_of_name("/a.mdb"), Err(Error::BadFilename));
 }
@@ -43,7 +44,7 @@ fn inputs_that_are_no_shards() {
 #[test]
 fn each_beginning_is_cut_short() {
     // The header and the two sections are 240 bytes of the 452.
-    let (file, options) = (one_file(), Minimal { now: 0, verification: false, aux_rows: true });
+    let (file, options) = (one_file(), Minimal::default());
     for end in 0..240 {
         assert_eq!(xet_shards::eligible(&file[..end]), Err(Error::Io));
         assert_eq!(xet_shards::minimal(&file[..end], &options), Err(Error::Io));
@@ -57,9 +58,12 @@ fn each_beginning_is_cut_short() {
 #[test]
 fn keys() {
     let shard = one_file();
-    let keyed = xet_shards::export(&shard, &Export::new(hash("7"), 0, 0)).expect("an export");
-    assert_eq!(xet_shards::union(&keyed, &shard), Err(Error::InvalidArguments));
-    assert_eq!(xet_shards::export(&keyed, &Export::new(hash("8"), 0, 0)), Err(Error::InvalidArguments));
+    let keyed = xet_shards::export(&shard, &Export { key: hash("7"), ..Export::default() }).expect("an export");
+    assert_eq!(xet_shards::union(&keyed, &shard, V3), Err(Error::InvalidArguments));
+    assert_eq!(
+        xet_shards::export(&keyed, &Export { key: hash("8"), ..Export::default() }),
+        Err(Error::InvalidArguments)
+    );
 }
 
 #[test]
@@ -76,11 +80,11 @@ fn names_of_either_case() {
 fn outputs_longer_than_the_first_room() {
     let chunks: String = (0..1000).map(|it| format!(" {it}:1")).collect();
     let whole = shard_of(&[&format!("xorb 10{chunks}")]);
-    let options = Export { files: false, xorb_table: false, chunk_table: false, ..Export::new(NO_KEY, 0, 0) };
+    let options = Export { files: false, xorb_table: false, chunk_table: false, ..Export::default() };
     let bare = xet_shards::export(&whole, &options).expect("an export");
     assert!(bare.len() + 16000 < whole.len());
     // The union has the tables that the export lacks.
-    assert_eq!(xet_shards::merge(&[bare, shard_of(&[])]).as_ref(), Ok(&whole));
+    assert_eq!(xet_shards::merge(&[bare, shard_of(&[])], &Merge::default()).as_ref(), Ok(&whole));
     assert_eq!(
         xet_shards::eligible(&whole).expect("hashes"),
         (0..1000).map(|it| Hash([it, 1, 0, 0])).collect::<Vec<_>>()
@@ -101,16 +105,16 @@ fn more_segments_than_the_first_room() {
 fn disagreements() {
     let one = shard_of(&["file 100 200:0:5:5", "xorb 10 21:5"]);
     let other = shard_of(&["file 100 s=7 200:0:5:5", "xorb 10 21:6"]);
-    assert_eq!(xet_shards::find_disagreement(&[&one, &one, &one]), Ok(None));
-    assert_eq!(xet_shards::merge_agreeing(&[&one, &one]).as_ref(), Ok(&one));
+    assert_eq!(xet_shards::find_disagreements(&[&one, &one, &one]), Ok(vec![]));
+    assert_eq!(xet_shards::merge(&[&one, &one], &STRICT).as_ref(), Ok(&one));
     let found = Disagreement { record_hash: RecordHash::Xorb(hash("10")), first: 0, second: 2, count: 1 };
-    assert_eq!(xet_shards::find_disagreement(&[&one, &one, &other]), Ok(Some(found)));
-    let error = xet_shards::merge_agreeing(&[&one, &one, &other]).expect_err("they do not agree");
+    assert_eq!(xet_shards::find_disagreements(&[&one, &one, &other]), Ok(vec![found]));
+    let error = xet_shards::merge(&[&one, &one, &other], &STRICT).expect_err("they do not agree");
     assert_eq!(error, Error::Disagree(found));
     assert_eq!(error.to_string(), format!("the shards at 0 and 2 do not agree on xorb {}", hash("10")));
     assert!(error.source().is_none());
     // Where records do not agree a merge takes one of them.
-    assert!(xet_shards::merge(&[&one, &other]).is_ok());
+    assert!(xet_shards::merge(&[&one, &other], &Merge::default()).is_ok());
 }
 
 #[test]
@@ -126,8 +130,7 @@ fn all_disagreements() {
         Disagreement { record_hash: RecordHash::Xorb(hash("10")), first: 1, second: 2, count: 3 },
     ];
     assert_eq!(xet_shards::find_disagreements(&shards), Ok(found.to_vec()));
-    assert_eq!(xet_shards::find_disagreement(&shards), Ok(Some(found[0])));
-    let error = xet_shards::merge_agreeing(&shards).expect_err("they do not agree");
+    let error = xet_shards::merge(&shards, &STRICT).expect_err("they do not agree");
     assert_eq!(error, Error::Disagree(found[0]));
     let text = format!("the shards at 0 and 2 do not agree on file {}", hash("100"));
     assert_eq!(error.to_string(), text + ", one of 3 hashes that find_disagreements lists");
@@ -154,7 +157,7 @@ fn more_disagreements_than_the_first_room() {
 #[test]
 fn order_of_refusals() {
     let (file, other) = (one_file(), shard_of(&["file 100 200:0:6:5"]));
-    let keyed = xet_shards::export(&file, &Export::new(hash("7"), 0, 0)).expect("an export");
+    let keyed = xet_shards::export(&file, &Export { key: hash("7"), ..Export::default() }).expect("an export");
     // The reserved word of the file's header, which is at 48, is in its bytes 40 to 47.
     let (mut malformed, cut) = (file.clone(), &file[..199]);
     malformed[88] = 1;
@@ -162,15 +165,15 @@ fn order_of_refusals() {
     assert_eq!(xet_shards::find_malformed(&[&file, &malformed]), Ok(Some(found)));
     assert_eq!(xet_shards::find_malformed(&[&file, &other, &keyed]), Ok(None));
     // The first shard decides that cannot be read or is not well-formed.
-    let error = xet_shards::merge_agreeing(&[&file[..], &malformed, cut]).expect_err("one is not well-formed");
+    let error = xet_shards::merge(&[&file[..], &malformed, cut], &STRICT).expect_err("one is not well-formed");
     assert_eq!(error, Error::Malformed(found));
     let text = format!("the shard at 1 has a record that no shard may have, of file {}", hash("100"));
     assert_eq!(error.to_string(), text);
-    assert_eq!(xet_shards::merge_agreeing(&[&file[..], cut, &malformed]), Err(Error::Io));
+    assert_eq!(xet_shards::merge(&[&file[..], cut, &malformed], &STRICT), Err(Error::Io));
     // Then disagreements, then keys.
-    let error = xet_shards::merge_agreeing(&[&other, &keyed]).expect_err("they do not agree");
+    let error = xet_shards::merge(&[&other, &keyed], &STRICT).expect_err("they do not agree");
     assert!(matches!(error, Error::Disagree(Disagreement { first: 0, second: 1, .. })));
-    assert_eq!(xet_shards::merge_agreeing(&[&file, &keyed]), Err(Error::InvalidArguments));
+    assert_eq!(xet_shards::merge(&[&file, &keyed], &STRICT), Err(Error::InvalidArguments));
 }
 
 #[test]
@@ -178,7 +181,8 @@ fn threads() {
     let file = one_file();
     thread::scope(|scope| {
         for _ in 0..4 {
-            scope.spawn(|| assert_eq!(xet_shards::merge(&[&file, &file, &file]).as_ref(), Ok(&file)));
+            scope
+                .spawn(|| assert_eq!(xet_shards::merge(&[&file, &file, &file], &Merge::default()).as_ref(), Ok(&file)));
         }
     });
 }
@@ -188,42 +192,40 @@ fn version_2_without_auxiliary_rows() {
     let mut shard = Shard::default();
     shard.add_file(&["100", "v=365", "s=9364", "200:0:5:5"]);
     shard.add_xorb(&["10", "21:5"]);
-    assert_eq!(xet_shards::write_v2(&shard.written(7, 3)), Ok(shard.written(7, 2)));
-    assert_eq!(xet_shards::write_v2(&shard.written(7, 2)), Ok(shard.written(7, 2)));
+    for from in [2, 3] {
+        assert_eq!(xet_shards::convert(&shard.written(7, from), V2), Ok(shard.written(7, 2)));
+        assert_eq!(xet_shards::convert(&shard.written(7, from), V3), Ok(shard.written(7, 3)));
+    }
     let (new, old) = (shard.written(NO_EXPIRY, 3), shard.written(NO_EXPIRY, 2));
     let records = xet_shards::records(&new).expect("records");
-    assert_eq!(xet_shards::write_records_in(&records.files, &records.xorbs, 2, None), Ok(old.clone()));
-    assert_eq!(xet_shards::merge_in(&[&new, &old], 2), Ok(old.clone()));
-    assert_eq!(xet_shards::merge_in(&[&new, &old], 3), Ok(new.clone()));
-    assert_eq!(xet_shards::merge_in(&[&new, &old], 4), Err(Error::InvalidArguments));
-    assert_eq!(xet_shards::merge_range_in(&[&new], .., 2).as_ref(), Ok(&old));
-    assert_eq!(xet_shards::merge_agreeing_in(&[&old, &new], 2).as_ref(), Ok(&old));
-    assert_eq!(xet_shards::union_in(&old, &new, 2).as_ref(), Ok(&old));
-    assert_eq!(xet_shards::difference_in(&shard_of(&[]), &new, 2).as_ref(), Ok(&old));
-    assert_eq!(xet_shards::concatenate_in(&[&new], 2).as_ref(), Ok(&old));
-    assert_eq!(xet_shards::concatenate_in(&[&old], 3).as_ref(), Ok(&new));
-    other_forms_in_version_2(&new);
-    shard.add_file(&["101", "x=777", "200:0:5:5"]);
-    assert_eq!(xet_shards::write_v2(&shard.written(7, 3)), Err(Error::InvalidArguments));
-    let aux = shard.written(NO_EXPIRY, 3);
-    for (shard, version) in [(&aux, 2), (&new, 4)] {
-        assert_eq!(xet_shards::merge_agreeing_in(&[shard], version), Err(Error::InvalidArguments));
-        assert_eq!(xet_shards::union_in(shard, &new, version), Err(Error::InvalidArguments));
-        assert_eq!(xet_shards::difference_in(&new, shard, version), Err(Error::InvalidArguments));
-        assert_eq!(xet_shards::concatenate_in(&[shard], version), Err(Error::InvalidArguments));
-        assert_eq!(xet_shards::export_in(shard, &EXPORT, version), Err(Error::InvalidArguments));
-        assert_eq!(xet_shards::minimal_in(shard, &MINIMAL, version), Err(Error::InvalidArguments));
+    assert_eq!(xet_shards::write_records(&records.files, &records.xorbs, None, V2), Ok(old.clone()));
+    for options in [Merge::default(), STRICT, Merge { threads: 2, ..STRICT }, Merge { from: Some(NO_KEY), ..STRICT }] {
+        assert_eq!(xet_shards::merge(&[&new, &old], &Merge { version: V2, ..options }), Ok(old.clone()));
+        assert_eq!(xet_shards::merge(&[&new, &old], &options), Ok(new.clone()));
     }
-    assert_eq!(xet_shards::subset_in(&new, &SUBSET, 4), Err(Error::InvalidArguments));
+    assert_eq!(xet_shards::union(&old, &new, V2).as_ref(), Ok(&old));
+    assert_eq!(xet_shards::difference(&shard_of(&[]), &new, V2).as_ref(), Ok(&old));
+    assert_eq!(xet_shards::concatenate(&[&old]).as_ref(), Ok(&old));
+    assert_eq!(xet_shards::concatenate(&[&old, &shard_of(&[])]).as_ref(), Ok(&new));
+    other_forms_in_version_2(&new);
     other_forms_in_version_2(&old);
-    let verified = Minimal { verification: true, ..MINIMAL };
-    assert_eq!(xet_shards::minimal_in(&aux, &verified, 2), Err(Error::Io));
+    shard.add_file(&["101", "x=777", "200:0:5:5"]);
+    assert_eq!(xet_shards::convert(&shard.written(7, 3), V2), Err(Error::InvalidArguments));
+    let aux = shard.written(NO_EXPIRY, 3);
+    assert_eq!(xet_shards::merge(&[&aux], &Merge { version: V2, ..STRICT }), Err(Error::InvalidArguments));
+    assert_eq!(xet_shards::union(&aux, &new, V2), Err(Error::InvalidArguments));
+    assert_eq!(xet_shards::difference(&new, &aux, V2), Err(Error::InvalidArguments));
+    assert_eq!(xet_shards::export(&aux, &Export { version: V2, ..EXPORT }), Err(Error::InvalidArguments));
+    assert_eq!(xet_shards::minimal(&aux, &Minimal { version: V2, ..MINIMAL }), Err(Error::InvalidArguments));
+    assert_eq!(xet_shards::complete(&aux, &NO_KEY, V2), Err(Error::InvalidArguments));
+    let verified = Minimal { verification: true, version: V2, ..MINIMAL };
+    assert_eq!(xet_shards::minimal(&aux, &verified), Err(Error::Io));
     let plain = Minimal { aux_rows: false, ..MINIMAL };
     for shard in [&old, &aux] {
         let minimal = xet_shards::minimal(shard, &plain).expect("it is a shard");
-        assert_eq!(xet_shards::minimal_in(shard, &plain, 2), Ok(in_version_2(&minimal)));
+        assert_eq!(xet_shards::minimal(shard, &Minimal { version: V2, ..plain }), Ok(in_version_2(&minimal)));
         let subset = xet_shards::subset(shard, &SUBSET).expect("it is a shard");
-        assert_eq!(xet_shards::subset_in(shard, &SUBSET, 2), Ok(in_version_2(&subset)));
+        assert_eq!(xet_shards::subset(shard, &Subset { version: V2, ..SUBSET }), Ok(in_version_2(&subset)));
     }
 }
 
@@ -235,9 +237,11 @@ const EXPORT: Export = Export {
     aux_rows: true,
     xorb_table: true,
     chunk_table: true,
+    version: V3,
 };
-const MINIMAL: Minimal = Minimal { now: 9, verification: false, aux_rows: true };
-const SUBSET: Subset<'_> = Subset { now: 9, expiry: Some(11), xorbs: Xorbs::All };
+const MINIMAL: Minimal = Minimal { now: 9, verification: false, aux_rows: true, version: V3 };
+const SUBSET: Subset<'_> = Subset { now: 9, expiry: Some(11), xorbs: Xorbs::All, version: V3 };
+const STRICT: Merge = Merge { from: None, to: None, strict: true, threads: 1, version: V3 };
 
 fn in_version_2(shard: &[u8]) -> Vec<u8> {
     let mut bytes = shard.to_vec();
@@ -249,11 +253,9 @@ fn other_forms_in_version_2(shard: &[u8]) {
     let exported = xet_shards::export(shard, &EXPORT).expect("it is a shard");
     let minimal = xet_shards::minimal(shard, &MINIMAL).expect("it is a shard");
     let subset = xet_shards::subset(shard, &SUBSET).expect("it is a shard");
-    for (version, form) in [(2, in_version_2 as fn(&[u8]) -> Vec<u8>), (3, <[u8]>::to_vec)] {
-        assert_eq!(xet_shards::export_in(shard, &EXPORT, version), Ok(form(&exported)));
-        assert_eq!(xet_shards::minimal_in(shard, &MINIMAL, version), Ok(form(&minimal)));
-        assert_eq!(xet_shards::subset_in(shard, &SUBSET, version), Ok(form(&subset)));
-    }
+    assert_eq!(xet_shards::export(shard, &Export { version: V2, ..EXPORT }), Ok(in_version_2(&exported)));
+    assert_eq!(xet_shards::minimal(shard, &Minimal { version: V2, ..MINIMAL }), Ok(in_version_2(&minimal)));
+    assert_eq!(xet_shards::subset(shard, &Subset { version: V2, ..SUBSET }), Ok(in_version_2(&subset)));
 }
 
 #[test]
@@ -264,9 +266,9 @@ fn completes_what_ends_behind_its_sections() {
     let written = shard.written(xet_shards::NO_EXPIRY, 3);
     let end = xet_shards::load(&written).expect("it is a shard").file_table as usize;
     for size in [end, end + 1, written.len()] {
-        assert_eq!(xet_shards::complete(&written[..size], &NO_KEY).as_ref(), Ok(&written));
+        assert_eq!(xet_shards::complete(&written[..size], &NO_KEY, V3).as_ref(), Ok(&written));
     }
-    assert_eq!(xet_shards::complete(&written[..end - 1], &NO_KEY), Err(Error::Io));
+    assert_eq!(xet_shards::complete(&written[..end - 1], &NO_KEY, V3), Err(Error::Io));
 }
 
 #[test]
@@ -332,29 +334,29 @@ fn records_in_and_out() {
     let mut records = xet_shards::records(&bytes).expect("records");
     assert_eq!(records.files, xet_shards::files(&bytes).map(Result::unwrap).collect::<Vec<_>>());
     assert_eq!(records.xorbs, xet_shards::xorbs(&bytes).map(Result::unwrap).collect::<Vec<_>>());
-    assert_eq!(xet_shards::write_records(&records.files, &records.xorbs, None).as_ref(), Ok(&bytes));
-    assert_eq!(xet_shards::write_records(&records.files, &records.xorbs, Some(7)), Ok(shard.written(7, 3)));
+    assert_eq!(xet_shards::write_records(&records.files, &records.xorbs, None, V3).as_ref(), Ok(&bytes));
+    assert_eq!(xet_shards::write_records(&records.files, &records.xorbs, Some(7), V3), Ok(shard.written(7, 3)));
     records.files.reverse();
     records.xorbs.reverse();
-    assert_eq!(xet_shards::write_records(&records.files, &records.xorbs, None).as_ref(), Ok(&bytes));
+    assert_eq!(xet_shards::write_records(&records.files, &records.xorbs, None, V3).as_ref(), Ok(&bytes));
     // Of two records with one hash the later one counts.
     let other = ListedFile::new(
         hash("101"),
         File { segments: vec![], verification: None, sha256: Some(hash("1")), aux_hash: None },
     );
-    let written = |files: &[ListedFile]| xet_shards::write_records(files, &records.xorbs, None).expect("a shard");
+    let written = |files: &[ListedFile]| xet_shards::write_records(files, &records.xorbs, None, V3).expect("a shard");
     let twice = [&[other.clone()][..], &records.files].concat();
     assert_eq!(written(&twice), bytes);
     assert_ne!(written(&[&records.files[..], &[other]].concat()), bytes);
-    assert_eq!(xet_shards::write_records(&[], &[], None), Ok(Shard::default().written(NO_EXPIRY, 3)));
+    assert_eq!(xet_shards::write_records(&[], &[], None, V3), Ok(Shard::default().written(NO_EXPIRY, 3)));
     // A shard without tables has the same records, here without verification hashes; under a key chunks have other
     // hashes.
-    let minimal = Minimal { now: 0, verification: false, aux_rows: true };
+    let minimal = Minimal::default();
     let minimal = xet_shards::minimal(&bytes, &minimal).expect("a minimal shard");
     let found = xet_shards::records(&minimal).expect("records");
     assert_eq!((found.files[1].file.sha256, found.files[1].file.verification.as_ref()), (Some(hash("9364")), None));
     assert_eq!(found.files[1].file.segments, records.files[0].file.segments);
-    let keyed = xet_shards::export(&bytes, &Export::new(hash("7"), 0, 0)).expect("an export");
+    let keyed = xet_shards::export(&bytes, &Export { key: hash("7"), ..Export::default() }).expect("an export");
     let keyed = xet_shards::records(&keyed).expect("records");
     assert_eq!(keyed.xorbs.iter().map(|it| it.hash).collect::<Vec<_>>(), [hash("10"), hash("11")]);
     assert_ne!(keyed.xorbs[1].chunks[0].hash, hash("21"));
@@ -368,7 +370,7 @@ fn records_that_no_shard_has() {
     let xorb = Xorb { hash: hash("10"), flags: 0, bytes: 0, bytes_on_disk: 0, chunks: vec![] };
     let chunk = |bytes| xet_shards::Chunk { bytes, ..Default::default() };
     let refused = Err(Error::InvalidArguments);
-    let one = |file: &ListedFile, xorb: &Xorb| xet_shards::write_records(from_ref(file), from_ref(xorb), None);
+    let one = |file: &ListedFile, xorb: &Xorb| xet_shards::write_records(from_ref(file), from_ref(xorb), None, V3);
     assert!(one(&file, &xorb).is_ok());
     assert_eq!(one(&ListedFile { hash: Hash([u64::MAX; 4]), ..file.clone() }, &xorb), refused);
     assert_eq!(Error::InvalidArguments.to_string(), "the call does not admit its arguments, as keys that differ");

@@ -22,12 +22,12 @@ fn xorbs(lines: &[&str]) -> Vec<u8> {
 }
 
 fn keyed(shard: &[u8], chunk_table: bool) -> Vec<u8> {
-    let options = Export { chunk_table, ..Export::new(hash("7"), 0, 0) };
+    let options = Export { chunk_table, key: hash("7"), ..Export::default() };
     xet_shards::export(shard, &options).expect("an export")
 }
 
 fn minimal(shard: &[u8]) -> Vec<u8> {
-    let options = Minimal { now: 9, verification: false, aux_rows: true };
+    let options = Minimal { now: 9, ..Minimal::default() };
     xet_shards::minimal(shard, &options).expect("a minimal shard")
 }
 

@@ -137,7 +137,7 @@ fn bytes_and_requests() {
 #[test]
 fn chunks() {
     let shard = shard();
-    let keyed = xet_shards::export(&shard, &Export::new(hash("7"), 0, 0)).expect("an export");
+    let keyed = xet_shards::export(&shard, &Export { key: hash("7"), ..Export::default() }).expect("an export");
     for url in [serve(shard, Way::Parts), serve(keyed, Way::Turned)] {
         // How many rows are read: a xorb has 21, the last that has chunks 8, and behind it are two more.
         for (wanted, rows, count, xorb, start) in [
@@ -162,7 +162,7 @@ fn chunks() {
 
 #[test]
 fn other_shards_and_servers() {
-    let options = Minimal { now: 0, verification: false, aux_rows: true };
+    let options = Minimal::default();
     let minimal = xet_shards::minimal(&shard(), &options).expect("a minimal shard");
     let mut remote = RemoteShard::open(&serve(minimal, Way::Parts)).expect("a shard");
     assert_eq!(remote.find_file(hash("1000")).expect("an answer"), None);

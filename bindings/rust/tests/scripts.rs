@@ -6,7 +6,7 @@ use common::{hash, Shard};
 use std::collections::HashMap;
 use std::path::{Path, PathBuf};
 use std::{env, fs};
-use xet_shards::{Error, Export, Hash, Minimal, Subset, Xorbs};
+use xet_shards::{Error, Export, Hash, Minimal, Subset, Version, Xorbs};
 
 fn vectors() -> PathBuf {
     match env::var_os("XET_VECTORS") {
@@ -63,8 +63,10 @@ impl Run {
         let made = match *words {
             ["write", shard, into, ref rest @ ..] => (into, self.written(shard, rest, 3)),
             ["write2", shard, into, ref rest @ ..] => (into, self.written(shard, rest, 2)),
-            ["union", one, other, into] => (into, xet_shards::union(self.bytes(one), self.bytes(other))?),
-            ["diff", one, other, into] => (into, xet_shards::difference(self.bytes(one), self.bytes(other))?),
+            ["union", one, other, into] => (into, xet_shards::union(self.bytes(one), self.bytes(other), Version::V3)?),
+            ["diff", one, other, into] => {
+                (into, xet_shards::difference(self.bytes(one), self.bytes(other), Version::V3)?)
+            }
             ["merge", into, ref tree @ ..] => (into, self.tree(&mut tree.iter())?),
             ["export", from, into, ref rest @ ..] => (into, self.export(from, rest, true)?),
             ["drop", from, into, ref rest @ ..] => (into, self.export(from, rest, false)?),
@@ -85,7 +87,7 @@ impl Run {
             "(" => {
                 let (one, other) = (self.tree(words)?, self.tree(words)?);
                 assert_eq!(words.next(), Some(&")"));
-                xet_shards::union(&one, &other)
+                xet_shards::union(&one, &other, Version::V3)
             }
             name => Ok(self.bytes(name).to_vec()),
         }
@@ -99,13 +101,16 @@ impl Run {
             xorb_table: parts[1],
             chunk_table: parts[2],
             aux_rows,
-            ..Export::new(key, number(words[1]), number(words[2]))
+            key,
+            now: number(words[1]),
+            valid_seconds: number(words[2]),
+            ..Export::default()
         };
         xet_shards::export(self.bytes(from), &options)
     }
 
     fn minimal(&self, from: &str, now: &str, parts: &str, aux_rows: bool) -> Result<Vec<u8>, Error> {
-        let options = Minimal { now: number(now), verification: parts == "v", aux_rows };
+        let options = Minimal { now: number(now), verification: parts == "v", aux_rows, version: Version::V3 };
         xet_shards::minimal(self.bytes(from), &options)
     }
 
@@ -116,7 +121,7 @@ impl Run {
             words => (false, hashes(words)),
         };
         let xorbs = if is_all { Xorbs::All } else { Xorbs::Listed(&listed) };
-        xet_shards::subset(self.bytes(from), &Subset { now: number(words[0]), expiry, xorbs })
+        xet_shards::subset(self.bytes(from), &Subset { now: number(words[0]), expiry, xorbs, version: Version::V3 })
     }
 
     fn eligible(&mut self, name: &str) -> Result<(), Error> {

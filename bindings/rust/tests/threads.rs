@@ -3,7 +3,7 @@
 mod common;
 
 use common::{hash, Shard};
-use xet_shards::{Error, Export, Minimal, NO_EXPIRY, NO_KEY};
+use xet_shards::{merge, Error, Export, Merge, Minimal, Version, NO_EXPIRY};
 
 /// Numbers that look random, and are the same in each run.
 struct Choice(u64);
@@ -74,10 +74,17 @@ fn random_shards(choice: &mut Choice, word: Word, version: u64) -> Vec<Vec<u8>> 
     shards
 }
 
-fn check_same(shards: &[Vec<u8>], threads: usize) {
-    let (merge, strict) = (xet_shards::merge(shards), xet_shards::merge_agreeing(shards));
-    assert_eq!(xet_shards::merge_in_threads(shards, threads), merge);
-    assert_eq!(xet_shards::merge_agreeing_in_threads(shards, threads), strict);
+fn check_same<T: AsRef<[u8]>>(shards: &[T], threads: usize) {
+    let middle = Some([1 << 63, 0, 0, 0].into());
+    for strict in [false, true] {
+        for version in [Version::V2, Version::V3] {
+            for (from, to) in [(None, None), (middle, None), (None, middle)] {
+                let options = Merge { from, to, strict, threads: 1, version };
+                let merged = xet_shards::merge(shards, &options);
+                assert_eq!(xet_shards::merge(shards, &Merge { threads, ..options }), merged);
+            }
+        }
+    }
 }
 
 /// Merges random shards that are changed first.
@@ -101,7 +108,8 @@ fn shards_that_agree() {
 #[test]
 fn keyed_shards() {
     let keyed = |shard: &Vec<u8>, key: u64| {
-        xet_shards::export(shard, &Export::new(hash(&key.to_string()), 0, 9)).expect("an export")
+        xet_shards::export(shard, &Export { key: hash(&key.to_string()), valid_seconds: 9, ..Export::default() })
+            .expect("an export")
     };
     check_many(10, 3, |_, shards| shards.iter().map(|it| keyed(it, 7)).collect());
     check_many(10, 3, |choice, shards| shards.iter().map(|it| keyed(it, choice.below(2))).collect());
@@ -109,9 +117,10 @@ fn keyed_shards() {
 
 #[test]
 fn shards_without_tables() {
-    let minimal = Minimal { now: 0, verification: false, aux_rows: true };
+    let minimal = Minimal::default();
     check_many(10, 3, |choice, shards| {
-        let options = Export { xorb_table: choice.below(2) == 0, chunk_table: false, ..Export::new(NO_KEY, 0, 9) };
+        let options =
+            Export { xorb_table: choice.below(2) == 0, chunk_table: false, valid_seconds: 9, ..Export::default() };
         let bare = |(at, it): (usize, &Vec<u8>)| match at % 3 {
             0 => xet_shards::minimal(it, &minimal).expect("a minimal shard"),
             1 => xet_shards::export(it, &options).expect("an export"),
@@ -150,16 +159,18 @@ fn shards_that_do_not_agree() {
 #[test]
 fn errors() {
     let none: [&[u8]; 0] = [];
-    assert_eq!(xet_shards::merge_in_threads(&none, 4), Err(Error::InvalidArguments));
-    assert_eq!(xet_shards::merge_agreeing_in_threads(&none, 4), Err(Error::InvalidArguments));
+    let three = Merge { threads: 3, ..Merge::default() };
+    assert_eq!(merge(&none, &three), Err(Error::InvalidArguments));
     let [a, b, c] = ["a", "b", "c"].map(|it| std::fs::read(format!("examples/{it}.mdb")).expect("a shard"));
-    let (mut malformed, keyed) = (b.clone(), xet_shards::export(&b, &Export::new(hash("7"), 0, 0)).expect("an export"));
+    let options = Export { key: hash("7"), ..Export::default() };
+    let (mut malformed, keyed) = (b.clone(), xet_shards::export(&b, &options).expect("an export"));
     malformed[88] = 1;
     for (other, error) in [(&b[..199], Error::Io), (&[7; 500][..], Error::ShardVersion)] {
-        assert_eq!(xet_shards::merge_in_threads(&[&a[..], &b, other], 3), Err(error));
+        assert_eq!(merge(&[&a[..], &b, other], &three), Err(error));
     }
-    assert_eq!(xet_shards::merge_in_threads(&[&a, &b, &keyed], 3), Err(Error::InvalidArguments));
-    assert_eq!(xet_shards::merge_in_threads(&[&a, &b], usize::MAX), xet_shards::merge(&[&a, &b]));
+    assert_eq!(merge(&[&a, &b, &keyed], &three), Err(Error::InvalidArguments));
+    let many = Merge { threads: usize::MAX, ..three };
+    assert_eq!(merge(&[&a, &b], &many), merge(&[&a, &b], &Merge::default()));
     for list in [[&a, &b, &c], [&c, &malformed, &a], [&a, &malformed, &keyed], [&b, &a, &b]] {
         let list = list.map(Vec::clone);
         (0..6).for_each(|threads| check_same(&list, threads));

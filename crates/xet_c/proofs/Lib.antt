@@ -1,3 +1,4 @@
+pub mod Completing
 pub mod Listing
 pub mod Merges
 pub mod Outcomes
@@ -5,3 +6,4 @@ pub mod Places
 pub mod Segments
 pub mod Texts
 pub mod Versions
+pub mod WrittenLists

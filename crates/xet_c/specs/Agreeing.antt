@@ -4,19 +4,19 @@ use Rattle.placed_shards.specs.declared.findings.Disagreement.{Disagreement}
 use Rattle.placed_shards.specs.declared.findings.MalformedRecord.{MalformedRecord}
 use Rattle.placed_shards.specs.declared.findings.RecordHash.{RecordHash}
 use Rattle.placed_shards.specs.declared.findings.RecordHash.TheVariants.{File, Xorb}
+use Rattle.placed_shards.specs.declared.selection.Selection.{Selection}
 use Rattle.placed_shards.specs.Content.{Content}
 use Rattle.placed_shards.specs.Findings.{AreOpened, HasAllDisagreements, HasFormedRecords, IsFirstMalformed}
 use Rattle.placed_shards.specs.Merging.{MergeRefusal}
-use Rattle.placed_shards.specs.Ranges.{all_hashes}
+use Rattle.placed_shards.specs.Selections.{all_records}
 use Rattle.placed_shards.specs.Strict.{AreAgreeing, AgreedRefusal, IsJoinedMerge}
 use Rattle.xet_core_structures.specs.declared.error.CoreError.{CoreError}
-use Rattle.xet_core_structures.specs.declared.error.CoreError.TheVariants.{InvalidArguments}
 use Rattle.xet_core_structures.specs.declared.record_reader.FormatVersion.{FormatVersion}
 use Rattle.xet_core_structures.specs.Hash.{words_of}
-use Rattle.xet_core_structures.specs.Version.{IsVersion, number_of}
 use Rattle.shard_bytes.specs.Versions.{IsWrittenIn, NotWrittenIn}
 use Rattle.xet_c.specs.declared.agree.XetDisagreement.{XetDisagreement}
 use Rattle.xet_c.specs.Output.{Delivers, Refuses}
+use Rattle.xet_c.specs.Versions.{InNumber, NotInNumber}
 
 -- a hash, whether it is that of a xorb, and the numbers of two shards
 abbrev pub c_record : RecordHash → ℕ → ℕ → XetDisagreement
@@ -38,7 +38,7 @@ c_malformed m = c_record m.record_hash m.input m.input
 -- these show all disagreements of byte strings, in their order
 abbrev pub AreAllDisagreements : List (List ℕ) → List XetDisagreement → Type 0
 AreAllDisagreements inputs shown =
-    (cs : List Content) × (all : List Disagreement) × AreOpened all_hashes inputs cs
+    (cs : List Content) × (all : List Disagreement) × AreOpened all_records inputs cs
     × HasAllDisagreements cs all × (shown ≡ map c_disagreement all)
 
 -- whether there is a record that no shard may have, and the record; if there is none it stays
@@ -51,35 +51,32 @@ abbrev pub ShowsFirst : List Disagreement → (old new : XetDisagreement) → �
 ShowsFirst [] old new count = (count ≡ 0) × (new ≡ old)
 ShowsFirst (d ∷ ds) old new count = (count ≡ length (d ∷ ds)) × (new ≡ c_disagreement d)
 
--- the bytes in a version of the join of the shards that byte strings hold, which are well-formed and
--- agree
-abbrev pub AreMerged : FormatVersion → List (List ℕ) → List ℕ → Type 0
-AreMerged version inputs bytes =
-    AreAgreeing all_hashes inputs × IsWrittenIn version (IsJoinedMerge all_hashes inputs) bytes
+-- the bytes in a version of the join of the records that are selected of byte strings, which are
+-- well-formed and agree
+abbrev pub AreMerged : Selection → FormatVersion → List (List ℕ) → List ℕ → Type 0
+AreMerged selection version inputs bytes =
+    AreAgreeing selection inputs × IsWrittenIn version (IsJoinedMerge selection inputs) bytes
 
--- a merge in a version of byte strings whose shards have to agree: its bytes are delivered; or all
--- that do not agree are counted, and the first is shown; or a record that no shard may have is
--- shown; or there is an error
-abbrev pub MergesIfAgreeing : FormatVersion → List (List ℕ) → (before after : List ℕ) → ℕ
-    → (old new : XetDisagreement) → ℕ → ℕ → Type 0
-MergesIfAgreeing version inputs before after written old new count result =
-    ((bytes : List ℕ) × AreMerged version inputs bytes
+-- why byte strings whose records have to agree are not merged in a version
+abbrev pub RefusesAgreed : Selection → FormatVersion → List (List ℕ) → CoreError → Type 0
+RefusesAgreed selection version inputs =
+    AgreedRefusal selection inputs
+    (NotWrittenIn version (IsJoinedMerge selection inputs) (MergeRefusal selection inputs))
+
+-- a merge, in the version with a number, of the records that are selected of byte strings, which
+-- have to agree: its bytes are delivered; or all that do not agree are counted, and the first is
+-- shown; or a record that no shard may have is shown; or there is an error
+abbrev pub MergesIfAgreeing : Selection → (number : ℕ) → List (List ℕ) → (before after : List ℕ)
+    → ℕ → (old new : XetDisagreement) → ℕ → ℕ → Type 0
+MergesIfAgreeing selection number inputs before after written old new count result =
+    ((bytes : List ℕ) × InNumber number (λ v. AreMerged selection v inputs) bytes
     × Delivers bytes before after written result × (count ≡ 0) × (new ≡ old))
-    ⊎ ((¬ AreAgreeing all_hashes inputs) × (cs : List Content) × (all : List Disagreement)
-    × AreOpened all_hashes inputs cs × All HasFormedRecords cs × HasAllDisagreements cs all × ShowsFirst all old new count
-    × (0 < count) × (result ≡ 20) × (written ≡ 0) × (after ≡ before))
-    ⊎ ((¬ AreAgreeing all_hashes inputs) × (m : MalformedRecord)
-    × IsFirstMalformed all_hashes inputs m × (new ≡ c_malformed m)
-    × (count ≡ 0) × (result ≡ 21) × (written ≡ 0) × (after ≡ before))
-    ⊎ ((e : CoreError) × AgreedRefusal all_hashes inputs
-    (NotWrittenIn version (IsJoinedMerge all_hashes inputs) (MergeRefusal all_hashes inputs)) e
+    ⊎ ((¬ AreAgreeing selection inputs) × (cs : List Content) × (all : List Disagreement)
+    × AreOpened selection inputs cs × All HasFormedRecords cs × HasAllDisagreements cs all
+    × ShowsFirst all old new count × (0 < count) × (result ≡ 20) × (written ≡ 0)
+    × (after ≡ before))
+    ⊎ ((¬ AreAgreeing selection inputs) × (m : MalformedRecord)
+    × IsFirstMalformed selection inputs m × (new ≡ c_malformed m) × (count ≡ 0) × (result ≡ 21)
+    × (written ≡ 0) × (after ≡ before))
+    ⊎ ((e : CoreError) × NotInNumber number (λ v. RefusesAgreed selection v inputs) e
     × Refuses e before after written result × (count ≡ 0) × (new ≡ old))
-
--- the same in the version with a number, or the number is that of no version
-abbrev pub MergesIfAgreeingIn : (number : ℕ) → List (List ℕ) → (before after : List ℕ) → ℕ
-    → (old new : XetDisagreement) → ℕ → ℕ → Type 0
-MergesIfAgreeingIn number inputs before after written old new count result =
-    ((version : FormatVersion) × (number ≡ number_of version)
-    × MergesIfAgreeing version inputs before after written old new count result)
-    ⊎ ((¬ IsVersion number) × Refuses InvalidArguments before after written result × (count ≡ 0)
-    × (new ≡ old))

@@ -1,14 +1,17 @@
 -- What the structs say that are passed.
-use Rattle.std.specs.Prelude.{◌≡◌, ◌⊎◌, ⊤, ℕ, Bool, true, false, is_some, List, [], ◌∷◌, length, map, Option, None, Some, option_map}
+use Rattle.std.specs.Prelude.{◌≡◌, ◌⊎◌, ⊤, ℕ, Bool, true, false, not, is_some, List, [], ◌∷◌, length, map, Option, None, Some, option_map}
 use Rattle.std.specs.FinMap.{values}
 use Rattle.xet_core_structures.specs.declared.error.CoreError.{CoreError}
 use Rattle.xet_core_structures.specs.declared.error.CoreError.TheVariants.{OutOfMemory}
 use Rattle.xet_core_structures.specs.declared.file_structs.FileDataSequenceEntry.{FileDataSequenceEntry}
 use Rattle.xet_core_structures.specs.declared.file_structs.HashRow.{HashRow}
+use Rattle.xet_core_structures.specs.declared.file_structs.KeptParts.{KeptParts}
 use Rattle.xet_core_structures.specs.declared.file_structs.MDBFileInfo.{MDBFileInfo}
 use Rattle.xet_core_structures.specs.declared.merklehash.DataHash.{DataHash}
 use Rattle.xet_core_structures.specs.declared.shard_format.MDBShardInfo.{MDBShardInfo}
-use Rattle.placed_shards.specs.declared.range.HashRange.{HashRange}
+use Rattle.placed_shards.specs.declared.selection.Access.{Access}
+use Rattle.placed_shards.specs.declared.selection.Access.TheVariants.{Scan, Tables}
+use Rattle.placed_shards.specs.declared.selection.Selection.{Selection}
 use Rattle.xet_core_structures.specs.declared.xorb_structs.MDBXorbInfo.{MDBXorbInfo}
 use Rattle.xet_core_structures.specs.Errors.{variant_number}
 use Rattle.xet_core_structures.specs.FileRecord.{has_verification}
@@ -25,26 +28,32 @@ use Rattle.shard_bytes.specs.declared.minimal.KeptXorbs.TheVariants.{All as all_
 use Rattle.shard_bytes.specs.declared.minimal.Subset.{Subset}
 use Rattle.shard_bytes.specs.Minimal.{SubsetBytes}
 use Rattle.shard_bytes.specs.Query.{AnswersQuery, RefusesQuery, AnswersQueryAt, RefusesQueryAt, HasNoChunkAt}
-use Rattle.xet_c.specs.declared.export.XetExport.{XetExport}
+use Rattle.xet_c.specs.declared.export.XetExportOptions.{XetExportOptions}
 use Rattle.xet_c.specs.declared.find.XetFile.{XetFile}
 use Rattle.xet_c.specs.declared.hash.XetHash.{XetHash}
 use Rattle.xet_c.specs.declared.load.XetInfo.{XetInfo}
-use Rattle.xet_c.specs.declared.merge.XetRange.{XetRange}
+use Rattle.xet_c.specs.declared.merge.XetMergeOptions.{XetMergeOptions}
+use Rattle.xet_c.specs.declared.minimal.XetMinimalOptions.{XetMinimalOptions}
 use Rattle.xet_c.specs.declared.segment.XetFileSegment.{XetFileSegment}
 use Rattle.xet_c.specs.declared.segment.XetSegment.{XetSegment}
-use Rattle.xet_c.specs.declared.subset.XetSubset.{XetSubset}
+use Rattle.xet_c.specs.declared.subset.XetSubsetOptions.{XetSubsetOptions}
 
 -- an export has the key, the times and the parts that are asked for
-pub record AsksFor (options : XetExport) (x : Export) : Type 0 where
+pub record AsksFor (options : XetExportOptions) (x : Export) : Type 0 where
   pub key : words_of x.key ≡ options.key
   -- the creation time, in seconds
   pub now : x.now ≡ options.now
   -- the seconds from the creation to the expiry
   pub valid_seconds : x.valid_seconds ≡ options.valid_seconds
-  pub files : x.parts.files ≡ options.files
-  pub aux_rows : x.parts.aux_ext ≡ options.aux_rows
-  pub xorb_table : x.parts.xorb_table ≡ options.xorb_table
-  pub chunk_table : x.parts.chunk_table ≡ options.chunk_table
+  pub files : x.parts.files ≡ not options.without_files
+  pub aux_rows : x.parts.aux_ext ≡ not options.without_aux_rows
+  pub xorb_table : x.parts.xorb_table ≡ not options.without_xorb_table
+  pub chunk_table : x.parts.chunk_table ≡ not options.without_chunk_table
+
+-- the parts that the files of a minimal shard keep
+abbrev pub kept_parts : XetMinimalOptions → KeptParts
+kept_parts options =
+    record { verification = options.verification; aux_ext = not options.without_aux_rows }
 
 -- the numbers of a header and a footer
 abbrev pub c_info : MDBShardInfo → XetInfo
@@ -81,14 +90,14 @@ KeepsXorbs false cs (Listed hashes) = map c_hash hashes.items ≡ cs
 KeepsXorbs _ cs _ = ⊥
 
 -- a subset has the times and keeps the xorbs that are asked for
-pub record AsksForSubset (options : XetSubset) (xorbs : List XetHash) (subset : Subset) : Type 0
+pub record AsksForSubset (options : XetSubsetOptions) (xorbs : List XetHash) (subset : Subset) : Type 0
   where
     pub now : subset.now ≡ options.now
     pub expiry : subset.expiry ≡ Some options.expiry
     pub kept : KeepsXorbs options.all xorbs subset.kept
 
 -- the bytes of the subset that is asked for
-abbrev pub WritesSubset : XetSubset → List XetHash → List ℕ → List ℕ → Type 0
+abbrev pub WritesSubset : XetSubsetOptions → List XetHash → List ℕ → List ℕ → Type 0
 WritesSubset options xorbs bytes out =
     (subset : Subset) × AsksForSubset options xorbs subset × SubsetBytes subset bytes out
 
@@ -202,7 +211,13 @@ abbrev pub IsBound : Bool → List ℕ → Option DataHash → Type 0
 IsBound false words bound = bound ≡ None
 IsBound true words bound = (hash : DataHash) × (bound ≡ Some hash) × (words_of hash ≡ words)
 
--- a range has the bounds that are asked for
-pub record AsksForRange (c : XetRange) (range : HashRange) : Type 0 where
-  pub from : IsBound c.has_from c.from range.from
-  pub to : IsBound c.has_to c.to range.to
+-- records are found by the tables if that is asked for, else by a scan
+abbrev pub IsAccess : Bool → Access → Type 0
+IsAccess true access = access ≡ Tables
+IsAccess false access = access ≡ Scan
+
+-- the records are selected that are asked for: those in the range with these bounds
+pub record AsksForRecords (options : XetMergeOptions) (selection : Selection) : Type 0 where
+  pub from : IsBound options.has_from options.from selection.range.from
+  pub to : IsBound options.has_to options.to selection.range.to
+  pub access : IsAccess options.by_tables selection.access

@@ -2,7 +2,6 @@ pub mod Agreeing
 pub mod Arguments
 pub mod Checking
 pub mod Finding
-pub mod InARow
 pub mod Output
 pub mod Parts
 pub mod Recording

@@ -1,6 +1,7 @@
 //! Keyed exports.
 
-ghost use Rattle.std.specs.Prelude.{length, IfOk, MatchResult};
+ghost use Rattle.std.specs.Prelude.{IfOk};
+ghost use Rattle.placed_shards.specs.Filling.{FillsWith};
 ghost use Rattle.shard_bytes.specs.declared.export.Export.{Export};
 ghost use Rattle.shard_bytes.specs.Exporting.{ExportsBytes, RefusesExport};
 ghost use Rattle.shard_bytes.specs.Sizes.{IsRewriteSize};
@@ -9,51 +10,37 @@ ghost use Rattle.xet_c.specs.Arguments.{AsksFor};
 ghost use Rattle.xet_c.specs.Output.{Outcome};
 ghost use Rattle.xet_c.specs.Versions.{InNumber, NotInNumber};
 
-use crate::output::deliver;
-use shard_bytes::export::{Export, ExportParts, export_bytes};
+use crate::output::answer;
+use crate::version::version_of;
+use bumpalo::Bump;
+use shard_bytes::export::{Export, ExportParts, exported};
 use std::alloc::Global;
 use xet_core_structures::error::{CoreError, Result};
 use xet_core_structures::merklehash::HMACKey;
-use xet_core_structures::record_reader::FormatVersion;
 
-/// The key of an export, its times in seconds, and which parts it has.
+/// The key of an export, its times in seconds, and which parts it is without.
 #[repr(C)]
 #[derive(Clone, Copy, Drop)]
-pub struct XetExport {
+pub struct XetExportOptions {
     pub key: [u64; 4],
     pub now: u64,
     pub valid_seconds: u64,
-    pub files: bool,
-    pub aux_rows: bool,
-    pub xorb_table: bool,
-    pub chunk_table: bool,
+    pub without_files: bool,
+    pub without_aux_rows: bool,
+    pub without_xorb_table: bool,
+    pub without_chunk_table: bool,
 }
 
-/// The shard with its chunk hashes under a key, to the front of `out`.
+/// The shard with its chunk hashes under a key, in a version of the format, to the front of `out`,
+/// to which it is written at once.
+///
+/// `InvalidArguments` if the number is that of no version, or the version is 2, which has no
+/// auxiliary rows, and a file has one. Else the errors are those of [`exported`].
 #[unsafe(no_mangle)]
 pub extern "C" fn xet_export(
     alloc: Global,
     shard: &[u8],
-    options: &XetExport,
-    out: &mut [u8],
-    written: &mut usize,
-) -> u32
-    ensures exported { (x : Export) × AsksFor options.entry.now x
-        × Outcome (ExportsBytes x shard.now) (RefusesExport x shard.now) out.old out.new
-        written.new result }
-    ensures size { IsRewriteSize shard.now written.new }
-{
-    let export = asked_for(options);
-    let exported = export_bytes(alloc, shard, &export, FormatVersion::V3);
-    deliver(exported, out, written)
-}
-
-/// The same in a version of the format, by its number.
-#[unsafe(no_mangle)]
-pub extern "C" fn xet_export_in(
-    alloc: Global,
-    shard: &[u8],
-    options: &XetExport,
+    options: &XetExportOptions,
     version: u64,
     out: &mut [u8],
     written: &mut usize,
@@ -65,27 +52,24 @@ pub extern "C" fn xet_export_in(
         out.new written.new result }
     ensures size { IsRewriteSize shard.now written.new }
 {
-    let export = asked_for(options);
-    let exported = export_in(alloc, shard, &export, version);
-    deliver(exported, out, written)
+    let filled = fill(alloc, shard, &asked_for(options), version, out);
+    answer(filled, out.len(), written)
 }
 
-fn export_in(alloc: Global, shard: &[u8], export: &Export, version: u64) -> Result<Vec<u8>>
-    ensures exported { MatchResult result
-        (λ bytes. InNumber version (λ v. LaidOutIn v (ExportsBytes export.entry.now shard.now))
-        bytes.items)
+fn fill(alloc: Global, shard: &[u8], export: &Export, version: u64, out: &mut [u8]) -> Result<usize>
+    ensures exported { FillsWith
+        (InNumber version (λ v. LaidOutIn v (ExportsBytes export.entry.now shard.now)))
         (NotInNumber version
         (λ v. NotLaidOutIn v (ExportsBytes export.entry.now shard.now)
-        (RefusesExport export.entry.now shard.now))) }
-    ensures size { IfOk result (λ bytes. IsRewriteSize shard.now (length bytes.items)) }
+        (RefusesExport export.entry.now shard.now))) out.old out.new result }
+    ensures size { IfOk result (IsRewriteSize shard.now) }
 {
-    match FormatVersion::of_number(version) {
-        Some(version) => export_bytes(alloc, shard, export, version),
-        None => Err(CoreError::InvalidArguments),
-    }
+    let version = version_of(version)?;
+    let arena = Bump::new(alloc);
+    exported(alloc, &arena, shard, export)?.write_into(alloc, version, out)
 }
 
-fn asked_for(options: &XetExport) -> Export
+fn asked_for(options: &XetExportOptions) -> Export
     ensures { AsksFor options.entry.now result }
 {
     Export {
@@ -93,10 +77,10 @@ fn asked_for(options: &XetExport) -> Export
         now: options.now,
         valid_seconds: options.valid_seconds,
         parts: ExportParts {
-            files: options.files,
-            aux_ext: options.aux_rows,
-            xorb_table: options.xorb_table,
-            chunk_table: options.chunk_table,
+            files: !options.without_files,
+            aux_ext: !options.without_aux_rows,
+            xorb_table: !options.without_xorb_table,
+            chunk_table: !options.without_chunk_table,
         },
     }
 }

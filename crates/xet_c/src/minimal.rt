@@ -1,92 +1,89 @@
 //! Minimal shards.
 
-ghost use Rattle.std.specs.Prelude.{length, IfOk, MatchResult};
+ghost use Rattle.std.specs.Prelude.{◌≡◌, IfOk};
+ghost use Rattle.placed_shards.specs.Filling.{FillsWith};
 ghost use Rattle.shard_bytes.specs.Minimal.{MinimalBytes, RefusesMinimalBytes};
 ghost use Rattle.shard_bytes.specs.Sizes.{IsMinimalSize};
 ghost use Rattle.shard_bytes.specs.Versions.{LaidOutIn, NotLaidOutIn};
+ghost use Rattle.xet_c.specs.Arguments.{kept_parts};
 ghost use Rattle.xet_c.specs.Output.{Outcome};
 ghost use Rattle.xet_c.specs.Versions.{InNumber, NotInNumber};
 
-use crate::output::deliver;
-use shard_bytes::minimal::minimal_bytes;
+use crate::output::answer;
+use crate::version::version_of;
+use bumpalo::Bump;
+use shard_bytes::minimal::minimal;
 use std::alloc::Global;
 use xet_core_structures::error::{CoreError, Result};
 use xet_core_structures::file_structs::KeptParts;
-use xet_core_structures::record_reader::FormatVersion;
 
-/// The records of a shard without tables, created at `now`, to the front of `out`. Files keep their
-/// verification rows and their auxiliary rows if they are asked for.
+/// The creation of a minimal shard in seconds, and which parts its files have.
+#[repr(C)]
+#[derive(Clone, Copy, Drop)]
+pub struct XetMinimalOptions {
+    pub now: u64,
+    pub verification: bool,
+    pub without_aux_rows: bool,
+}
+
+/// The records of a shard without tables, in a version of the format, to the front of `out`, to
+/// which they are written at once.
+///
+/// `InvalidArguments` if the number is that of no version, or the version is 2, which has no
+/// auxiliary rows, and a file has one. Else the errors are those of [`minimal`].
 #[unsafe(no_mangle)]
 pub extern "C" fn xet_minimal(
     alloc: Global,
     shard: &[u8],
-    now: u64,
-    verification: bool,
-    aux_rows: bool,
-    out: &mut [u8],
-    written: &mut usize,
-) -> u32
-    ensures minimal { Outcome
-        (MinimalBytes (record { verification = verification; aux_ext = aux_rows }) now shard.now)
-        (RefusesMinimalBytes (record { verification = verification; aux_ext = aux_rows }) shard.now)
-        out.old out.new written.new result }
-    ensures size { IsMinimalSize shard.now written.new }
-{
-    let kept = KeptParts {
-        verification,
-        aux_ext: aux_rows,
-    };
-    let minimal = minimal_bytes(alloc, shard, now, kept, FormatVersion::V3);
-    deliver(minimal, out, written)
-}
-
-/// The same in a version of the format, by its number.
-#[unsafe(no_mangle)]
-pub extern "C" fn xet_minimal_in(
-    alloc: Global,
-    shard: &[u8],
-    now: u64,
-    verification: bool,
-    aux_rows: bool,
+    options: &XetMinimalOptions,
     version: u64,
     out: &mut [u8],
     written: &mut usize,
 ) -> u32
     ensures minimal { Outcome
         (InNumber version
-        (λ v. LaidOutIn v (MinimalBytes (record { verification = verification; aux_ext = aux_rows })
-        now shard.now)))
+        (λ v. LaidOutIn v
+        (MinimalBytes (kept_parts options.entry.now) options.entry.now.now shard.now)))
         (NotInNumber version
         (λ v. NotLaidOutIn v
-        (MinimalBytes (record { verification = verification; aux_ext = aux_rows }) now shard.now)
-        (RefusesMinimalBytes (record { verification = verification; aux_ext = aux_rows })
-        shard.now))) out.old out.new written.new result }
+        (MinimalBytes (kept_parts options.entry.now) options.entry.now.now shard.now)
+        (RefusesMinimalBytes (kept_parts options.entry.now) shard.now))) out.old out.new
+        written.new result }
     ensures size { IsMinimalSize shard.now written.new }
 {
-    let kept = KeptParts {
-        verification,
-        aux_ext: aux_rows,
-    };
-    let minimal = minimal_in(alloc, shard, now, kept, version);
-    deliver(minimal, out, written)
+    let filled = fill(alloc, shard, options, version, out);
+    answer(filled, out.len(), written)
 }
 
-fn minimal_in(
+fn fill(
     alloc: Global,
     shard: &[u8],
-    now: u64,
-    kept: KeptParts,
+    options: &XetMinimalOptions,
     version: u64,
-) -> Result<Vec<u8>>
-    ensures minimal { MatchResult result
-        (λ bytes. InNumber version (λ v. LaidOutIn v (MinimalBytes kept now shard.now)) bytes.items)
+    out: &mut [u8],
+) -> Result<usize>
+    ensures minimal { FillsWith
+        (InNumber version
+        (λ v. LaidOutIn v
+        (MinimalBytes (kept_parts options.entry.now) options.entry.now.now shard.now)))
         (NotInNumber version
-        (λ v. NotLaidOutIn v (MinimalBytes kept now shard.now)
-        (RefusesMinimalBytes kept shard.now))) }
-    ensures size { IfOk result (λ bytes. IsMinimalSize shard.now (length bytes.items)) }
+        (λ v. NotLaidOutIn v
+        (MinimalBytes (kept_parts options.entry.now) options.entry.now.now shard.now)
+        (RefusesMinimalBytes (kept_parts options.entry.now) shard.now))) out.old out.new result }
+    ensures size { IfOk result (IsMinimalSize shard.now) }
 {
-    match FormatVersion::of_number(version) {
-        Some(version) => minimal_bytes(alloc, shard, now, kept, version),
-        None => Err(CoreError::InvalidArguments),
+    let version = version_of(version)?;
+    let arena = Bump::new(alloc);
+    let kept = kept_of(options);
+    minimal(alloc, &arena, shard, options.now, kept)?.write_into(alloc, version, out)
+}
+
+// The parts that files keep.
+fn kept_of(options: &XetMinimalOptions) -> KeptParts
+    ensures { result ≡ kept_parts options.entry.now }
+{
+    KeptParts {
+        verification: options.verification,
+        aux_ext: !options.without_aux_rows,
     }
 }

@@ -1,27 +1,18 @@
-//! The same shard in version 2 of the format.
+//! The number of a version of the format.
 
-ghost use Rattle.shard_bytes.specs.Sizes.{IsRewriteSize};
-ghost use Rattle.shard_bytes.specs.Versions.{IsInVersion, RefusesVersion};
-ghost use Rattle.xet_core_structures.specs.declared.record_reader.FormatVersion.{FormatVersion};
-ghost use Rattle.xet_c.specs.Output.{Outcome};
+ghost use Rattle.std.specs.Prelude.{◌≡◌, MatchResult};
+ghost use Rattle.xet_core_structures.specs.Version.{IsVersion, number_of};
 
-use crate::output::deliver;
-use shard_bytes::version::{FormatVersion, bytes_in_version};
-use std::alloc::Global;
-use xet_core_structures::error::CoreError;
+use xet_core_structures::error::{CoreError, Result};
+use xet_core_structures::record_reader::FormatVersion;
 
-/// The same shard in version 2, to the front of `out`. A shard with an auxiliary row is refused.
-#[unsafe(no_mangle)]
-pub extern "C" fn xet_write_v2(
-    alloc: Global,
-    shard: &[u8],
-    out: &mut [u8],
-    written: &mut usize,
-) -> u32
-    ensures written { Outcome (IsInVersion FormatVersion.V2 shard.now) (RefusesVersion FormatVersion.V2 shard.now) out.old out.new
-        written.new result }
-    ensures size { IsRewriteSize shard.now written.new }
+/// The version of the format with this number. `InvalidArguments` if there is none.
+pub fn version_of(number: u64) -> Result<FormatVersion>
+    ensures { MatchResult result (λ version. number ≡ number_of version)
+        (λ e. (e ≡ CoreError.InvalidArguments) × (¬ IsVersion number)) }
 {
-    let bytes = bytes_in_version(alloc, shard, FormatVersion::V2);
-    deliver(bytes, out, written)
+    match FormatVersion::of_number(number) {
+        Some(version) => Ok(version),
+        None => Err(CoreError::InvalidArguments),
+    }
 }

@@ -1,10 +1,10 @@
 //! A shard of records in lists.
 
 ghost use Rattle.std.specs.Prelude.{◌≡◌, ◌⊎◌, ◌≤◌, [], ◌∷◌, All, length, map, take, drop, IfOk, IfErr, MatchResult, option_to_list};
+ghost use Rattle.placed_shards.specs.Filling.{FillsWith};
 ghost use Rattle.xet_core_structures.specs.FileRecord.{has_metadata_ext, has_aux_ext};
 ghost use Rattle.xet_c.specs.Arguments.{c_segment};
 ghost use Rattle.xet_c.specs.Walking.{c_chunk};
-ghost use Rattle.xet_core_structures.specs.declared.record_reader.FormatVersion.TheVariants.{V3};
 ghost use Rattle.xet_c.specs.Output.{Outcome};
 ghost use Rattle.xet_c.specs.Recording.{AreHashRows, if_flagged, IsListedFile, IsListedXorb, AreListedFiles, AreListedXorbs, AddUp, WritesListed, RefusesListed};
 ghost use Rattle.xet_c.specs.Versions.{InNumber, NotInNumber};
@@ -13,23 +13,29 @@ use crate::listed::{
     XetListedFile, XetListedXorb, chunk_row_of, entry_of, file_header_of, verification_row_of,
     xorb_header_of,
 };
-use crate::output::deliver;
+use crate::output::answer;
 use crate::segment::XetFileSegment;
+use crate::version::version_of;
 use crate::walk::XetChunk;
-use shard_bytes::records::write_records;
+use bumpalo::Bump;
+use placed_shards::records::of_records;
 use std::alloc::Global;
 use xet_core_structures::error::{CoreError, Result};
 use xet_core_structures::file_structs::{
     FileAuxExt, FileDataSequenceEntry, FileMetadataExt, FileVerificationEntry, MDBFileInfo,
 };
 use xet_core_structures::merklehash::MerkleHash;
-use xet_core_structures::record_reader::FormatVersion;
 use xet_core_structures::rows::Rows;
+use xet_core_structures::shard_writer::LayoutOptions;
 use xet_core_structures::xorb_structs::{MDBXorbInfo, XorbChunkSequenceEntry};
 
-/// The shard that has these files and xorbs, to the front of `out`. The first file has the first
-/// segments of the list, as many as it says, the second the segments behind them, and so on; xorbs
-/// have their chunks in the same way. An expiry of 2^64 - 1 means none.
+/// The shard that has these files and xorbs, in a version of the format, to the front of `out`, to
+/// which it is written at once. The first file has the first segments of the list, as many as it
+/// says, the second the segments behind them, and so on; xorbs have their chunks in the same way.
+/// An expiry of 2^64 - 1 means none.
+///
+/// `InvalidArguments` if the number is that of no version, if counts do not add up, or if no shard
+/// has these records, or none of this version. `OutOfMemory` if an allocation fails.
 #[unsafe(no_mangle)]
 pub extern "C" fn xet_write(
     alloc: Global,
@@ -38,35 +44,7 @@ pub extern "C" fn xet_write(
     xorbs: &[XetListedXorb],
     chunks: &[XetChunk],
     expiry: u64,
-    out: &mut [u8],
-    written: &mut usize,
-) -> u32
-    ensures { Outcome (WritesListed files.now segments.now xorbs.now chunks.now expiry V3)
-        (RefusesListed files.now segments.now xorbs.now chunks.now V3) out.old out.new
-        written.new result }
-{
-    let bytes = layout_of_lists(
-        alloc,
-        files,
-        segments,
-        xorbs,
-        chunks,
-        FormatVersion::V3,
-        expiry,
-    );
-    deliver(bytes, out, written)
-}
-
-/// The same in a version of the format, by its number.
-#[unsafe(no_mangle)]
-pub extern "C" fn xet_write_in(
-    alloc: Global,
-    files: &[XetListedFile],
-    segments: &[XetFileSegment],
-    xorbs: &[XetListedXorb],
-    chunks: &[XetChunk],
     version: u64,
-    expiry: u64,
     out: &mut [u8],
     written: &mut usize,
 ) -> u32
@@ -75,47 +53,32 @@ pub extern "C" fn xet_write_in(
         (NotInNumber version (RefusesListed files.now segments.now xorbs.now chunks.now))
         out.old out.new written.new result }
 {
-    let bytes = bytes_in(alloc, files, segments, xorbs, chunks, version, expiry);
-    deliver(bytes, out, written)
+    let filled = fill(alloc, files, segments, xorbs, chunks, expiry, version, out);
+    answer(filled, out.len(), written)
 }
 
-fn bytes_in(
+fn fill(
     alloc: Global,
     files: &[XetListedFile],
     segments: &[XetFileSegment],
     xorbs: &[XetListedXorb],
     chunks: &[XetChunk],
+    expiry: u64,
     version: u64,
-    expiry: u64,
-) -> Result<Vec<u8>>
-    ensures { MatchResult result
-        (λ bytes. InNumber version
-        (WritesListed files.now segments.now xorbs.now chunks.now expiry) bytes.items)
-        (NotInNumber version (RefusesListed files.now segments.now xorbs.now chunks.now)) }
+    out: &mut [u8],
+) -> Result<usize>
+    ensures { FillsWith
+        (InNumber version (WritesListed files.now segments.now xorbs.now chunks.now expiry))
+        (NotInNumber version (RefusesListed files.now segments.now xorbs.now chunks.now))
+        out.old out.new result }
 {
-    match FormatVersion::of_number(version) {
-        Some(version) => layout_of_lists(alloc, files, segments, xorbs, chunks, version, expiry),
-        None => Err(CoreError::InvalidArguments),
-    }
-}
-
-fn layout_of_lists(
-    alloc: Global,
-    files: &[XetListedFile],
-    segments: &[XetFileSegment],
-    xorbs: &[XetListedXorb],
-    chunks: &[XetChunk],
-    version: FormatVersion,
-    expiry: u64,
-) -> Result<Vec<u8>>
-    ensures { MatchResult result
-        (λ bytes. WritesListed files.now segments.now xorbs.now chunks.now expiry version
-        bytes.items)
-        (RefusesListed files.now segments.now xorbs.now chunks.now version) }
-{
+    let version = version_of(version)?;
     let files = files_of(alloc, files, segments)?;
     let xorbs = xorbs_of(alloc, xorbs, chunks)?;
-    write_records(alloc, files, xorbs, version, Some(expiry))
+    let arena = Bump::new(alloc);
+    let shard = of_records(alloc, &arena, files, xorbs)?;
+    let shard = shard.with_options(LayoutOptions::plain(Some(expiry)));
+    shard.write_into(alloc, version, out)
 }
 
 // The files of a list, with the segments of another. `InvalidArguments` if the counts of segments

@@ -1,14 +1,14 @@
 //! Exports under a key.
 
 use super::set_operations::read_whole;
-use super::shard_format::{current_timestamp, set_version_2};
+use super::shard_format::current_timestamp;
 use super::streaming_shard::MDBMinimalShard;
 use super::MDBShardInfo;
 use crate::error::Result;
 use crate::merklehash::HMACKey;
 use std::io::{Read, Seek, Write};
 use std::time::Duration;
-use xet_shards::Export;
+use xet_shards::{Export, Version};
 
 impl MDBShardInfo {
     /// Writes the shard with each chunk hash replaced by its hash under a key, and with the parts that are asked for,
@@ -65,12 +65,18 @@ impl MDBShardInfo {
 
 /// An export under this key that is created now.
 fn since_now(key: HMACKey, valid_for: Duration) -> Export {
-    Export { aux_rows: false, ..Export::new(key.into(), current_timestamp(), valid_for.as_secs()) }
+    Export {
+        key: key.into(),
+        now: current_timestamp(),
+        valid_seconds: valid_for.as_secs(),
+        aux_rows: false,
+        version: Version::V2,
+        ..Export::default()
+    }
 }
 
 fn write_export<W: Write>(shard: &[u8], parts: &Export, writer: &mut W) -> Result<usize> {
-    let mut bytes = xet_shards::export(shard, parts)?;
-    set_version_2(&mut bytes);
+    let bytes = xet_shards::export(shard, parts)?;
     writer.write_all(&bytes)?;
     Ok(bytes.len())
 }

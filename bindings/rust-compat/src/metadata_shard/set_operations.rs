@@ -1,9 +1,9 @@
 //! The union and the difference of two shards as bytes.
 
-use super::shard_format::set_version_2;
 use super::MDBShardInfo;
 use crate::error::Result;
 use std::io::{Read, Seek, Write};
+use xet_shards::Version;
 
 /// Writes the records of both shards, in version 2, without times and under the key of both, and returns what the ends
 /// of the result say. Both are read whole.
@@ -49,18 +49,12 @@ pub fn shard_set_difference<R: Read + Seek, W: Write>(
 
 /// Writes what an operation makes of two shards. Their ends are read with them.
 fn write_made<R: Read + Seek, W: Write>(
-    operation: fn(&[u8], &[u8]) -> xet_shards::Result<Vec<u8>>,
+    operation: impl Fn(&[u8], &[u8], Version) -> xet_shards::Result<Vec<u8>>,
     [r1, r2]: [&mut R; 2],
     out: &mut W,
 ) -> Result<MDBShardInfo> {
     let shards = [read_whole(r1)?, read_whole(r2)?];
-    let mut made = operation(&shards[0], &shards[1])?;
-    // Shards of version 2 have no auxiliary rows.
-    if shards.iter().all(|it| xet_shards::load(it).map(|info| info.version) == Ok(2)) {
-        set_version_2(&mut made);
-    } else {
-        made = xet_shards::write_v2(&made)?;
-    }
+    let made = operation(&shards[0], &shards[1], Version::V2)?;
     out.write_all(&made)?;
     MDBShardInfo::of_bytes(&made)
 }

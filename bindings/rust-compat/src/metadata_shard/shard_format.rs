@@ -8,7 +8,7 @@ use crate::rows::SIZE;
 use crate::serialization_utils::{read_u64, write_hash, write_u64, write_u64s};
 use std::io::{Read, Seek, SeekFrom, Write};
 use std::time::{Duration, SystemTime, UNIX_EPOCH};
-use xet_shards::Info;
+use xet_shards::{Info, Version};
 
 /// The bytes of a row of a section.
 pub const MDB_FILE_INFO_ENTRY_SIZE: usize = SIZE;
@@ -225,8 +225,7 @@ impl MDBShardInfo {
         let files: Option<Vec<_>> = mdb.file_content.values().map(|it| it.as_listed()).collect();
         let xorbs: Option<Vec<_>> = mdb.xorb_content.values().map(|it| it.as_listed()).collect();
         let (files, xorbs) = files.zip(xorbs).ok_or(CoreError::InvalidArguments)?;
-        let mut bytes = xet_shards::write_records(&files, &xorbs, expiry.map(shard_expiry_time))?;
-        set_version_2(&mut bytes);
+        let bytes = xet_shards::write_records(&files, &xorbs, expiry.map(shard_expiry_time), Version::V2)?;
         writer.write_all(&bytes)?;
         Self::of_bytes(&bytes)
     }
@@ -339,10 +338,4 @@ impl MDBShardInfo {
             eprintln!("{part}: {} bytes, from {start} to {end}", end.wrapping_sub(start));
         }
     }
-}
-
-/// Makes the bytes of a shard of version 3 those of version 2. They differ in this number alone where no file has an
-/// auxiliary row.
-pub(crate) fn set_version_2(shard: &mut [u8]) {
-    shard[TAG.len()..][..8].copy_from_slice(&VERSION.to_le_bytes());
 }

@@ -1,7 +1,7 @@
 //! Sections that are read in one pass, and minimal shards.
 
 use super::file_structs::{FileDataSequenceHeader, MDBFileInfoView};
-use super::shard_format::{current_timestamp, set_version_2, MDBShardInfo};
+use super::shard_format::{current_timestamp, MDBShardInfo};
 use super::xorb_structs::{MDBXorbInfoView, XorbChunkSequenceHeader};
 use super::{MDBShardFileFooter, MDBShardFileHeader};
 use crate::error::{CoreError, Result};
@@ -9,7 +9,7 @@ use crate::merklehash::MerkleHash;
 use crate::rows::read_record;
 use std::io::{self, Read, Write};
 use std::time::{SystemTime, UNIX_EPOCH};
-use xet_shards::{Minimal, Subset, Xorbs};
+use xet_shards::{Minimal, Subset, Version, Xorbs};
 
 /// Calls a function with each file of a section, whose start the reader is at, without its auxiliary row. The reader is
 /// then at the end of the section.
@@ -154,7 +154,12 @@ impl MDBMinimalShard {
             return Err(io::Error::new(io::ErrorKind::Other, "a file has no verification rows").into());
         }
         let sections = self.sections(self.xorb_info_views.iter())?;
-        let options = Minimal { now: current_timestamp(), verification: with_verification, aux_rows: false };
+        let options = Minimal {
+            now: current_timestamp(),
+            verification: with_verification,
+            aux_rows: false,
+            version: Version::V2,
+        };
         write_made(xet_shards::minimal(&sections, &options)?, writer)
     }
 
@@ -185,7 +190,7 @@ impl MDBMinimalShard {
     ) -> Result<usize> {
         let sections = self.sections(self.xorb_info_views.iter().filter(|it| xorb_filter_fn(it)))?;
         let expiry = expiry.map(|it| it.duration_since(UNIX_EPOCH).unwrap_or_default().as_secs());
-        let options = Subset { now: current_timestamp(), expiry, xorbs: Xorbs::All };
+        let options = Subset { now: current_timestamp(), expiry, xorbs: Xorbs::All, version: Version::V2 };
         write_made(xet_shards::subset(&sections, &options)?, writer)
     }
 
@@ -203,9 +208,7 @@ impl MDBMinimalShard {
     }
 }
 
-/// Writes a shard without auxiliary rows, in version 2.
-fn write_made<W: Write>(mut made: Vec<u8>, writer: &mut W) -> Result<usize> {
-    set_version_2(&mut made);
+fn write_made<W: Write>(made: Vec<u8>, writer: &mut W) -> Result<usize> {
     writer.write_all(&made)?;
     Ok(made.len())
 }

@@ -1,26 +1,35 @@
 -- How a merge of byte strings whose shards have to agree is shown.
-use Rattle.std.specs.Prelude.{◌≡◌, ⊤, ℕ, List, Ok, Err}
+use Rattle.std.specs.Prelude.{◌≡◌, ⊤, ℕ, List, Ok, Err, MatchResult}
 use Rattle.placed_shards.specs.declared.strict.Agreed.{Agreed}
 use Rattle.placed_shards.specs.declared.strict.Agreed.TheVariants.{Made, Disagreements, Malformed}
+use Rattle.placed_shards.specs.declared.selection.Selection.{Selection}
 use Rattle.placed_shards.specs.Filling.{Fills}
-use Rattle.placed_shards.specs.Ranges.{all_hashes}
 use Rattle.placed_shards.specs.Sizes.{IsResultSize}
 use Rattle.placed_shards.specs.Strict.{IsAgreedOr}
-use Rattle.xet_core_structures.specs.declared.record_reader.FormatVersion.{FormatVersion}
 use Rattle.xet_core_structures.specs.Errors.{CoreResult, variant_number}
 use Rattle.xet_c.specs.declared.agree.XetDisagreement.{XetDisagreement}
-use Rattle.xet_c.specs.Agreeing.{AreMerged, ShowsFirst, c_malformed}
+use Rattle.xet_c.specs.Agreeing.{AreMerged, RefusesAgreed, ShowsFirst, c_malformed}
 use Rattle.xet_c.specs.Output.{Answers}
+use Rattle.xet_c.specs.Versions.{InNumber, NotInNumber}
 
--- what a merge of byte strings that have to agree puts to the front of a slice, if there is a merge; else
--- the slice stays
-abbrev pub FillsAgreed : FormatVersion → List (List ℕ) → (old new : List ℕ) → Agreed ℕ → Type 0
-FillsAgreed version inputs old new (Made size) =
-    (bytes : List ℕ) × AreMerged version inputs bytes × Fills bytes old new size
-FillsAgreed version inputs old new (Disagreements found) =
-    IsAgreedOr {T = ℕ} all_hashes inputs (λ size. ⊥) (Disagreements found) × (new ≡ old)
-FillsAgreed version inputs old new (Malformed m) =
-    IsAgreedOr {T = ℕ} all_hashes inputs (λ size. ⊥) (Malformed m) × (new ≡ old)
+-- what a merge of byte strings that have to agree puts to the front of a slice, in the version with
+-- a number, if there is a merge; else the slice stays
+abbrev pub FillsAgreed : Selection → (number : ℕ) → List (List ℕ) → (old new : List ℕ) → Agreed ℕ
+    → Type 0
+FillsAgreed selection number inputs old new (Made size) =
+    (bytes : List ℕ) × InNumber number (λ v. AreMerged selection v inputs) bytes
+    × Fills bytes old new size
+FillsAgreed selection number inputs old new (Disagreements found) =
+    IsAgreedOr {T = ℕ} selection inputs (λ size. ⊥) (Disagreements found) × (new ≡ old)
+FillsAgreed selection number inputs old new (Malformed m) =
+    IsAgreedOr {T = ℕ} selection inputs (λ size. ⊥) (Malformed m) × (new ≡ old)
+
+-- the same, or why there is none of these: then the slice stays
+abbrev pub FillsIfAgreeing : Selection → (number : ℕ) → List (List ℕ) → (old new : List ℕ)
+    → CoreResult (Agreed ℕ) → Type 0
+FillsIfAgreeing selection number inputs old new result =
+    MatchResult result (FillsAgreed selection number inputs old new)
+    (λ e. NotInNumber number (λ v. RefusesAgreed selection v inputs) e × (new ≡ old))
 
 -- it has at most so many bytes as a merge of any shards
 abbrev pub HasFillSize : List (List ℕ) → Agreed ℕ → Type 0

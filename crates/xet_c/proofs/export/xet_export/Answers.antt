@@ -1,12 +1,12 @@
 use Rattle.std.proofs.Common.{arith}
 use Rattle.shard_bytes.specs.Sizes.{IsRewriteSize}
-use Rattle.xet_c.proofs.Outcomes.{outcome, count_given}
+use Rattle.xet_c.proofs.Outcomes.{outcome_of_fill, size_given}
 use Rattle.xet_c.proofs.export.xet_export.Goals as goal
 
 pub returns-clause-exported : goal.returns-clause-exported
-returns-clause-exported c = (c.asked_for-export.result, c.asked_for-export.ensures, outcome _ _ _ _ _ _ _ c.export_bytes-exported.ensures.exported c.deliver.ensures)
+returns-clause-exported c = (c.asked_for.result, c.asked_for.ensures, outcome_of_fill _ _ _ _ _ _ _ _ (omega arith) c.fill-filled.ensures.exported c.answer.ensures)
 
 pub returns-clause-size : goal.returns-clause-size
 returns-clause-size c =
     let none : IsRewriteSize c.args.shard.now 0 = omega arith in
-    count_given (IsRewriteSize c.args.shard.now) _ _ _ _ _ c.export_bytes-exported.ensures.size none c.deliver.ensures
+    size_given (IsRewriteSize c.args.shard.now) _ _ _ c.fill-filled.result c.fill-filled.ensures.size none c.answer.ensures

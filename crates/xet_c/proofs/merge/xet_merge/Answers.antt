@@ -1,15 +1,17 @@
-use Rattle.std.proofs.Common.{Bor, ℕ, List, map, arith}
-use Rattle.placed_shards.specs.Sizes.{IsResultSize}
-use Rattle.xet_c.proofs.Outcomes.{outcome_of_fill, size_given}
+use Rattle.std.proofs.Common.{arith}
+use Rattle.xet_c.proofs.Merges.{merge_shown}
+use Rattle.xet_c.proofs.Outcomes.{outcome_of_fill}
 use Rattle.xet_c.proofs.merge.xet_merge.Goals as goal
 
+pub returns-then-options-clause-agreed : goal.returns-then-options-clause-agreed
+returns-then-options-clause-agreed c = λ strict. (c.selection_of-asked.result, c.selection_of-asked.ensures, merge_shown _ _ _ _ _ _ _ _ _ _ _ c.fill_if_agreeing-filled.result (omega arith) c.fill_if_agreeing-filled.ensures.merged c.show.ensures)
+
 pub returns-clause-merged : goal.returns-clause-merged
-returns-clause-merged c = outcome_of_fill _ _ _ _ _ _ _ _ (omega arith) c.merge_into-filled.ensures.merged c.answer.ensures
+returns-clause-merged c = λ plain. (c.selection_of-asked.result, c.selection_of-asked.ensures, outcome_of_fill _ _ _ _ _ _ _ _ (omega arith) c.fill-filled.ensures.merged c.answer.ensures)
 
 pub returns-clause-one_byte_string : goal.returns-clause-one_byte_string
-returns-clause-one_byte_string c = λ key all join have. outcome_of_fill _ _ _ _ _ _ _ _ (omega arith) (c.merge_into-filled.ensures.one_byte_string key all join have) c.answer.ensures
-
-pub returns-clause-size : goal.returns-clause-size
-returns-clause-size c =
-    let none : IsResultSize (map (λ (x : Bor (List ℕ)). x.now) c.args.shards.now) 0 = omega arith in
-    size_given (IsResultSize (map (λ (x : Bor (List ℕ)). x.now) c.args.shards.now)) _ _ _ c.merge_into-filled.result c.merge_into-filled.ensures.size none c.answer.ensures
+returns-clause-one_byte_string c = λ plain. (
+  c.selection_of-asked.result,
+  c.selection_of-asked.ensures,
+  λ key parts join list. outcome_of_fill _ _ _ _ _ _ _ _ (omega arith) (c.fill-filled.ensures.one_byte_string key parts join list) c.answer.ensures,
+)

@@ -1,9 +1,12 @@
 use Rattle.std.proofs.Common.{arith}
 use Rattle.shard_bytes.specs.Sizes.{IsMinimalSize}
-use Rattle.xet_c.proofs.Outcomes.{count_given}
+use Rattle.xet_c.proofs.Outcomes.{outcome_of_fill, size_given}
 use Rattle.xet_c.proofs.subset.xet_subset.Goals as goal
+
+pub returns-clause-subset : goal.returns-clause-subset
+returns-clause-subset c = outcome_of_fill _ _ _ _ _ _ _ _ (omega arith) c.fill-filled.ensures.subset c.answer.ensures
 
 pub returns-clause-size : goal.returns-clause-size
 returns-clause-size c =
     let none : IsMinimalSize c.args.shard.now 0 = omega arith in
-    count_given (IsMinimalSize c.args.shard.now) _ _ _ _ _ c.subset-subset.ensures.size none c.deliver.ensures
+    size_given (IsMinimalSize c.args.shard.now) _ _ _ c.fill-filled.result c.fill-filled.ensures.size none c.answer.ensures

@@ -1,9 +1,0 @@
-use Rattle.std.proofs.Common.{arith}
-use Rattle.shard_bytes.specs.Sizes.{IsMinimalSize}
-use Rattle.xet_c.proofs.Outcomes.{count_given}
-use Rattle.xet_c.proofs.subset.xet_subset_in.Goals as goal
-
-pub returns-clause-size : goal.returns-clause-size
-returns-clause-size c =
-    let none : IsMinimalSize c.args.shard.now 0 = omega arith in
-    count_given (IsMinimalSize c.args.shard.now) _ _ _ _ _ c.subset_in-subset.ensures.size none c.deliver.ensures
