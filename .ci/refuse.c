@@ -1,4 +1,4 @@
-/* Preloaded into shardprobe by .ci/refusals: counts its allocations and refuses one of them.
+/* Preloaded into test_probe by .ci/refusals: counts its allocations and refuses one of them.
 
    Descriptor 98 is a file of 64-bit words, which .ci/refusals shares:
      0  how many allocations there are up to the one that is refused, itself included; 0 if none is

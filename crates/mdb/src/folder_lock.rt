@@ -5,9 +5,9 @@
 //! that name is not written to: a link, or a file that has another name or more than a number.
 
 use mdb_base::outputs::path_in;
-use record_report::shown::ShownText;
-use shard_files::beside::folder_and_name;
-use shard_files::stamp::FileId;
+use mdb_files::beside::folder_and_name;
+use mdb_files::stamp::FileId;
+use mdb_records::shown::ShownText;
 use std::alloc::{AllocError, AllocFailed};
 use std::fs::{File, Metadata, OpenFile, OpenOptions, TryLockError};
 use std::io::{ErrorKind, Read, Write};

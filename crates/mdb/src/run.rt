@@ -18,9 +18,9 @@ use mdb_inquiries::ordering::inputs_in_order;
 use mdb_inquiries::report::report;
 use mdb_making::make::make;
 use mdb_merging::merge::merge_files;
+use mdb_records::line::Style;
+use mdb_records::moment::seconds_now;
 use mdb_report::fault::Fault;
-use record_report::line::Style;
-use record_report::moment::seconds_now;
 use std::alloc::AllocError;
 use std::rt::Env;
 

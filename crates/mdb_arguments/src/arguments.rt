@@ -7,14 +7,14 @@ use mdb_base::request::{
     OverviewOptions, PrintOptions, Removal, Request, Sort, Sources, Strictness, Target,
 };
 use mdb_command_line::{command_line, command_named, id};
+use mdb_files::files::STANDARD_STREAM;
+use mdb_records::line::Style;
+use mdb_records::moment::seconds_of;
+use mdb_records::size::parse_size;
 use mdb_report::inquiry::{Checks, Inquiry};
-use record_report::line::Style;
-use record_report::moment::seconds_of;
-use record_report::size::parse_size;
 use shard_bytes::combine::Operation;
 use shard_bytes::export::{Export, ExportParts};
 use shard_bytes::minimal::{KeptXorbs, Subset};
-use shard_files::files::STANDARD_STREAM;
 use std::alloc::{AllocError, AllocFailed, Global};
 use xet_core_structures::file_structs::KeptParts;
 use xet_core_structures::merklehash::MerkleHash;

@@ -2,10 +2,10 @@
 
 ghost use Rattle.std.specs.Prelude.{◌≡◌};
 
+use mdb_files::files::STANDARD_STREAM;
+use mdb_records::shown::ShownText;
 use mdb_report::fault::Fault;
-use record_report::shown::ShownText;
 use serde::{Described, Serialize, Serializer};
-use shard_files::files::STANDARD_STREAM;
 use std::fmt;
 use std::io::ErrorKind;
 

@@ -8,13 +8,13 @@ ghost use Rattle.mdb_base.specs.Merging.{SaysDisagree, SaysCause};
 
 use crate::failure::{Failure, Subject};
 use crate::request::Target;
+use mdb_files::files::read_shard;
 use mdb_report::fault::{Fault, first_blocking_finding, has_wrong_footer};
 use placed_shards::findings::{Disagreement, MalformedRecord, find_disagreements};
 use placed_shards::selection::Selection;
 use shard_bytes::check::{Finding, Part};
 use shard_bytes::combine::{Operation, combine_bytes};
 use shard_bytes::load::load_bytes;
-use shard_files::files::read_shard;
 use std::alloc::Global;
 use std::rt::Files;
 use xet_core_structures::error::CoreError;

@@ -1,6 +1,6 @@
 //! Messages on standard error, in the style of what is printed.
 
-use record_report::line::{Style, json_of};
+use mdb_records::line::{Style, json_of};
 use serde::Serialize;
 use std::fmt::Display;
 

@@ -2,10 +2,10 @@
 
 use crate::failure::Failure;
 use crate::host::Host;
+use mdb_files::beside::leftovers;
+use mdb_files::files::{Contents, STANDARD_STREAM, read_sections, read_shard, write};
+use mdb_records::shown::ShownText;
 use mdb_report::fault::Fault;
-use record_report::shown::ShownText;
-use shard_files::beside::leftovers;
-use shard_files::files::{Contents, STANDARD_STREAM, read_sections, read_shard, write};
 use std::alloc::{AllocError, Global};
 use std::fs;
 use std::rt::Files;

@@ -1,11 +1,11 @@
 //! Requests: the commands as values, with all that their arguments say.
 
+use mdb_files::files::STANDARD_STREAM;
+use mdb_records::line::Style;
 use mdb_report::inquiry::Inquiry;
-use record_report::line::Style;
 use shard_bytes::combine::Operation;
 use shard_bytes::export::Export;
 use shard_bytes::minimal::Subset;
-use shard_files::files::STANDARD_STREAM;
 use xet_core_structures::file_structs::KeptParts;
 use xet_core_structures::merklehash::{HMACKey, MerkleHash};
 use xet_core_structures::record_reader::FormatVersion;

@@ -3,12 +3,12 @@
 ghost use Rattle.std.specs.Prelude.{◌≡◌};
 
 use crate::failure::Failure;
+use mdb_assembly::block::{Block, Mark};
+use mdb_files::files::{STANDARD_STREAM, read_ends};
+use mdb_files::stamp::Stamp;
 use mdb_report::fault::{Fault, fault_of};
-use shard_assembly::block::{Block, Mark};
 use shard_bytes::check::Section;
 use shard_bytes::load::load_bytes;
-use shard_files::files::{STANDARD_STREAM, read_ends};
-use shard_files::stamp::Stamp;
 use std::alloc::{AllocError, AllocFailed};
 use std::fs::OpenFile;
 use std::io::{ErrorKind, Read, Seek, SeekFrom};

@@ -5,7 +5,7 @@ ghost use Rattle.mdb_base.specs.Status.{number_of, after_finding, after_leaving_
 
 use crate::failure::Failure;
 use crate::messages::say;
-use record_report::line::Style;
+use mdb_records::line::Style;
 
 /// The exit status of a run.
 #[derive(Clone, Copy)]

@@ -3,10 +3,10 @@
 use mdb_base::failure::{Failure, Subject};
 use mdb_base::request::{HashList, MakeCommand, Request};
 use mdb_base::words::is_among;
+use mdb_files::files::read;
 use mdb_report::fault::Fault;
 use mdb_report::inquiry::Inquiry;
 use shard_bytes::minimal::KeptXorbs;
-use shard_files::files::read;
 use std::rt::Files;
 use xet_core_structures::merklehash::MerkleHash;
 

@@ -1,10 +1,10 @@
 //! The first of some shards that has the record of a finding.
 
 use crate::sections::{TakesFiles, TakesXorbs};
-use shard_garbage::finding::{GarbageFinding, Misfit};
-use shard_garbage::misfit::{start_misfit, total_misfit};
-use shard_garbage::range::HashRange;
-use shard_garbage::segments::Segments;
+use mdb_garbage::finding::{GarbageFinding, Misfit};
+use mdb_garbage::misfit::{start_misfit, total_misfit};
+use mdb_garbage::range::HashRange;
+use mdb_garbage::segments::Segments;
 use std::alloc::{AllocError, Global};
 use xet_core_structures::file_structs::MDBFileInfo;
 use xet_core_structures::merklehash::MerkleHash;

@@ -2,10 +2,10 @@
 
 use mdb_base::failure::Failure;
 use mdb_base::request::Target;
+use mdb_files::files::read;
+use mdb_records::record_line::{LineFault, Record, record_of};
 use mdb_report::fault::Fault;
-use record_report::record_line::{LineFault, Record, record_of};
 use shard_bytes::records::{Records, write_records};
-use shard_files::files::read;
 use std::alloc::Global;
 use std::rt::Files;
 use xet_core_structures::error::CoreError;

@@ -1,5 +1,6 @@
 //! The command that takes records out of a shard.
 
+use mdb_assembly::block::{put_bookend, put_footer};
 use mdb_base::expiry::{new_expiry, with_expiry_if_any};
 use mdb_base::failure::Failure;
 use mdb_base::input_failure::{combine_failure, combine_failure_in};
@@ -7,7 +8,6 @@ use mdb_base::outputs::bytes_in_file;
 use mdb_base::request::{Removal, Target};
 use mdb_report::fault::{Fault, fault_of};
 use mdb_report::section::SectionReader;
-use shard_assembly::block::{put_bookend, put_footer};
 use shard_bytes::combine::{Operation, combine_bytes};
 use shard_bytes::load::load_bytes;
 use std::alloc::Global;

@@ -1,7 +1,7 @@
 -- Which inputs of merges may be removed.
 use Rattle.std.specs.Prelude.{◌≡◌, List, Contains}
 use Rattle.mdb_merging.specs.declared.input_removal.HashedFile.{HashedFile}
-use Rattle.shard_files.specs.declared.stamp.FileId.{FileId}
+use Rattle.mdb_files.specs.declared.stamp.FileId.{FileId}
 
 -- an input may be removed: file, size, time and hash are those that were read, and no result is in
 -- this file

@@ -4,9 +4,9 @@ ghost use Rattle.std.specs.Prelude.{◌≡◌, ◌↔◌, IsTrue};
 ghost use Rattle.mdb_merging.specs.Removal.{MayRemove};
 
 use mdb_base::failure::Failure;
+use mdb_files::files::read_to_end;
+use mdb_files::stamp::{FileId, Stamp};
 use mdb_report::fault::Fault;
-use shard_files::files::read_to_end;
-use shard_files::stamp::{FileId, Stamp};
 use std::fs::OpenFile;
 use std::io::ErrorKind;
 use std::rt::Files;

@@ -5,7 +5,7 @@ ghost use Rattle.std.specs.List.{flat_map};
 ghost use Rattle.std.specs.Str.{chars};
 ghost use Rattle.mdb_overview.specs.Escapes.{escape};
 
-use record_report::shown::ShownText;
+use mdb_records::shown::ShownText;
 use std::alloc::{AllocError, Global};
 
 /// A text with each character that means something in HTML replaced by what stands for it. It fails

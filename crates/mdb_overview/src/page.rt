@@ -7,8 +7,8 @@ use crate::overview::{Overview, total_of};
 use crate::plots::{print_expiries, print_sharing, print_sizes};
 use crate::style::{HEAD, STYLE};
 use crate::table::print_table;
-use record_report::moment::Moment;
-use record_report::size::Size;
+use mdb_records::moment::Moment;
+use mdb_records::size::Size;
 use std::alloc::{AllocError, Global};
 
 /// The most sources that are named.

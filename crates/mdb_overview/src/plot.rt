@@ -1,7 +1,7 @@
 //! Plots of bars, as SVG.
 
 use crate::numbers::GroupedNumber;
-use record_report::size::Size;
+use mdb_records::size::Size;
 use std::alloc::{AllocError, Global};
 
 /// Widths and heights, in pixels of the plot: of all, of the names, of a row, of the column heads, and

@@ -6,7 +6,7 @@ use crate::numbers::GroupedNumber;
 use crate::overview::Overview;
 use crate::plot::{Column, PlotRow, print_plot};
 use crate::sizes::{classes_in, label_of, sizes_of};
-use record_report::moment::Moment;
+use mdb_records::moment::Moment;
 use std::alloc::{AllocError, Global};
 
 /// The most spans of days and of numbers that have a row each.

@@ -4,8 +4,8 @@ use crate::escape::escaped_name;
 use crate::expiries::has_expired;
 use crate::numbers::{GroupedNumber, grouped_length};
 use crate::overview::{Overview, total_of};
+use mdb_records::size::Size;
 use mdb_report::brief::{Brief, Total};
-use record_report::size::Size;
 use std::alloc::{AllocError, Global};
 
 /// The most shards that have a row each.

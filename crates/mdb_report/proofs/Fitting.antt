@@ -1,7 +1,7 @@
 -- Records in which nothing is found fit together.
 use Rattle.std.proofs.Common.{arith, ◌≡◌, ℕ, List, length}
 use Rattle.std.specs.Prelude.{Contains}
-use Rattle.shard_garbage.specs.declared.finding.GarbageFinding.{GarbageFinding}
+use Rattle.mdb_garbage.specs.declared.finding.GarbageFinding.{GarbageFinding}
 use Rattle.mdb_report.specs.Garbage.{HoldsGarbage, IsFit}
 
 none_found : (found : List GarbageFinding) (f : GarbageFinding) → length found ≡ 0 → ¬ Contains found f

@@ -5,9 +5,9 @@ use Rattle.xet_core_structures.specs.declared.xorb_structs.MDBXorbInfo.{MDBXorbI
 use Rattle.xet_core_structures.specs.SectionReading.{ReadsSection}
 use Rattle.xet_core_structures.specs.XorbRecord.{xorb_records}
 use Rattle.shard_bytes.specs.Outcomes.{HasOutcome}
-use Rattle.shard_garbage.specs.declared.finding.GarbageFinding.{GarbageFinding}
-use Rattle.shard_garbage.specs.Garbage.{IsGarbage}
-use Rattle.shard_garbage.specs.Reports.{ReportsAll}
+use Rattle.mdb_garbage.specs.declared.finding.GarbageFinding.{GarbageFinding}
+use Rattle.mdb_garbage.specs.Garbage.{IsGarbage}
+use Rattle.mdb_garbage.specs.Reports.{ReportsAll}
 use Rattle.mdb_report.specs.FileReports.{HoldsFiles}
 
 -- these are the xorbs of the shard with these bytes

@@ -3,7 +3,7 @@ use Rattle.std.specs.Prelude.{◌≡◌, ℕ, List, string_bytes, Option, None, 
 use Rattle.xet_core_structures.specs.declared.shard_format.MDBShardInfo.{MDBShardInfo}
 use Rattle.xet_core_structures.specs.Hash.{hash_eq}
 use Rattle.xet_core_structures.specs.KeyedHash.{no_key}
-use Rattle.record_report.specs.declared.hex.Hex.{Hex}
+use Rattle.mdb_records.specs.declared.hex.Hex.{Hex}
 use Rattle.mdb_report.specs.declared.parts.Parts.{Parts}
 use Rattle.mdb_report.specs.declared.summary.Summary.{Summary}
 use Rattle.mdb_report.specs.Parts.{columns}

@@ -9,10 +9,10 @@ ghost use Rattle.mdb_report.specs.Brief.{SaysBriefly, IsCount, AddsTo, sum_if_kn
 
 use crate::parts::Parts;
 use crate::summary::key_of;
-use record_report::hex::Hex;
-use record_report::moment::Moment;
-use record_report::shown::ShownText;
-use record_report::size::Size;
+use mdb_records::hex::Hex;
+use mdb_records::moment::Moment;
+use mdb_records::shown::ShownText;
+use mdb_records::size::Size;
 use serde::Serialize;
 use shard_bytes::load::load_bytes;
 use std::alloc::{AllocError, Global};

@@ -8,8 +8,8 @@ ghost use Rattle.mdb_report.specs.Faults.{IsFaultOf, IsFaultOfRecord, MayBeCause
 
 use crate::file_finding::InWords;
 use crate::tables::Table;
+use mdb_records::record_line::LineFault;
 use placed_shards::findings::RecordHash;
-use record_report::record_line::LineFault;
 use shard_bytes::check::{Finding, Part, Section, check_bytes};
 use shard_bytes::export::Export;
 use shard_bytes::load::load_bytes;

@@ -8,7 +8,7 @@ ghost use Rattle.mdb_report.specs.declared.file_finding.FileFinding.{FileFinding
 ghost use Rattle.xet_core_structures.specs.declared.shard_format.MDBShardInfo.{MDBShardInfo};
 ghost use Rattle.mdb_report.specs.FileFindings.{IsFileFinding, IsFileNote, IsFileName, AreFindings, start_in};
 
-use record_report::shown::ShownText;
+use mdb_records::shown::ShownText;
 use serde::{Described, Serialize, Serializer};
 use shard_bytes::check::{Finding, Part, Section, check_bytes};
 use shard_bytes::format::Format;

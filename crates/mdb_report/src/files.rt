@@ -4,7 +4,7 @@ ghost use Rattle.std.specs.Prelude.{All, IfOk, MatchResult};
 ghost use Rattle.xet_core_structures.specs.FileRecord.{FitsItsHeader};
 ghost use Rattle.mdb_report.specs.FileReports.{ReportsFiles, HoldsFiles, FilesNotRead};
 
-use record_report::records::FileReport;
+use mdb_records::records::FileReport;
 use std::alloc::Global;
 use xet_core_structures::error::CoreError;
 use xet_core_structures::file_structs::MDBFileInfo;

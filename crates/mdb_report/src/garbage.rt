@@ -8,12 +8,12 @@ ghost use Rattle.mdb_report.specs.Garbage.{HoldsXorbs, HoldsGarbage, IsFit};
 
 use crate::files::read_files;
 use crate::inquiry::InquiryFault;
-use record_report::hex::Hex;
-use record_report::line::{Layout, Style, print};
-use record_report::shown::ShownText;
+use mdb_garbage::finding::{GarbageFinding, Misfit, Segment};
+use mdb_garbage::garbage::find_garbage;
+use mdb_records::hex::Hex;
+use mdb_records::line::{Layout, Style, print};
+use mdb_records::shown::ShownText;
 use serde::{Described, Serialize, Serializer};
-use shard_garbage::finding::{GarbageFinding, Misfit, Segment};
-use shard_garbage::garbage::find_garbage;
 use std::alloc::Global;
 use std::io::Write;
 use std::{fmt, io};

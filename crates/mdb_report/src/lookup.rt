@@ -8,8 +8,8 @@ ghost use Rattle.shard_bytes.specs.Query.{RefusesQuery};
 ghost use Rattle.mdb_report.specs.Lookups.{FindsIn, FindFileFails, ReportsLookup, ReportsFinding, ReportsQuery, ReportsRun, LookupFails, run_of};
 
 use crate::counting::CountingSource;
-use record_report::hex::Hex;
-use record_report::records::{FileReport, SegmentReport};
+use mdb_records::hex::Hex;
+use mdb_records::records::{FileReport, SegmentReport};
 use serde::Serialize;
 use shard_bytes::query::query_chunks;
 use std::alloc::Global;

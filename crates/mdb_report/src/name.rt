@@ -1,7 +1,7 @@
 //! The name that a shard's file should have, by the hash of its bytes under a key.
 
 use crate::inquiry::InquiryFault;
-use record_report::line::{Layout, print};
+use mdb_records::line::{Layout, print};
 use serde::Serialize;
 use std::alloc::Global;
 use std::fmt;

@@ -8,10 +8,10 @@ ghost use Rattle.xet_core_structures.specs.TwoShards.ByteResults.{LoadRefusal};
 ghost use Rattle.mdb_report.specs.Summary.{Summarizes, key_in};
 
 use crate::parts::{LEGEND, Parts, bar_of};
-use record_report::hex::Hex;
-use record_report::moment::Moment;
-use record_report::shown::ShownText;
-use record_report::size::Size;
+use mdb_records::hex::Hex;
+use mdb_records::moment::Moment;
+use mdb_records::shown::ShownText;
+use mdb_records::size::Size;
 use serde::Serialize;
 use shard_bytes::load::load_bytes;
 use std::alloc::{AllocError, Global};

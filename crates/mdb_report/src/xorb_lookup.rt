@@ -2,8 +2,8 @@
 
 ghost use Rattle.std.specs.Prelude.{◌≡◌, IfOk, IfSome, IsNone};
 
-use record_report::hex::Hex;
-use record_report::records::XorbReport;
+use mdb_records::hex::Hex;
+use mdb_records::records::XorbReport;
 use serde::Serialize;
 use std::alloc::Global;
 use std::fmt;

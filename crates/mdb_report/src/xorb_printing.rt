@@ -6,7 +6,7 @@ use crate::inquiry::{Answer, InquiryFault};
 use crate::tables::Table;
 use crate::tally::Tally;
 use crate::xorb_lookup::{FoundXorb, lacks_xorb_table};
-use record_report::line::{Layout, print};
+use mdb_records::line::{Layout, print};
 use std::alloc::Global;
 use std::io;
 use std::io::Write;

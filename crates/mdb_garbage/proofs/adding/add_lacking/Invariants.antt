@@ -1,0 +1,10 @@
+use Rattle.std.proofs.Common.{length, ◌-◌}
+use Rattle.mdb_garbage.specs.Steps.{Adds, IsLacking}
+use Rattle.mdb_garbage.proofs.Additions.{IsUpTo}
+use Rattle.mdb_garbage.proofs.adding.add_lacking.Given as goal
+
+abbrev pub invariant-loop-index : goal.invariant-loop-index
+invariant-loop-index l = Adds (IsUpTo (λ s. s.xorb) (IsLacking l.hashes.items.items) l.items l.index) l.fn.found.items l.found.items
+
+abbrev pub decreases-loop-index : goal.decreases-loop-index
+decreases-loop-index l = length l.items - l.index

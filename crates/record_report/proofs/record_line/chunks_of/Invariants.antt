@@ -1,6 +1,0 @@
-use Rattle.std.proofs.Common.{◌≡◌, take, map}
-use Rattle.record_report.specs.Records.{chunk_row_of}
-use Rattle.record_report.proofs.record_line.chunks_of.Given as goal
-
-abbrev pub invariant-loop-row : goal.invariant-loop-row
-invariant-loop-row l = map chunk_row_of l.made ≡ take l.row-index l.rows

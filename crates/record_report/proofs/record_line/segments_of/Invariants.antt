@@ -1,6 +1,0 @@
-use Rattle.std.proofs.Common.{◌≡◌, take, map}
-use Rattle.record_report.specs.Records.{segment_report}
-use Rattle.record_report.proofs.record_line.segments_of.Given as goal
-
-abbrev pub invariant-loop-row : goal.invariant-loop-row
-invariant-loop-row l = map segment_report l.made ≡ take l.row-index l.rows

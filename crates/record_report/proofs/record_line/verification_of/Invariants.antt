@@ -1,5 +1,0 @@
-use Rattle.std.proofs.Common.{◌≡◌, take, map}
-use Rattle.record_report.proofs.record_line.verification_of.Given as goal
-
-abbrev pub invariant-loop-hash : goal.invariant-loop-hash
-invariant-loop-hash l = map (λ row. record { 0 = row.hash }) l.made ≡ take l.hash-index l.hashes

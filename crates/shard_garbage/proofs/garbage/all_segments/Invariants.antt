@@ -1,9 +1,0 @@
-use Rattle.std.proofs.Common.{◌≡◌, None, take}
-use Rattle.shard_garbage.specs.Ranges.{HoldsSegments}
-use Rattle.shard_garbage.proofs.garbage.all_segments.Given as goal
-
-abbrev pub invariant-loop-file : goal.invariant-loop-file
-invariant-loop-file l = record {
-  all : l.segments.range ≡ record { from = None; to = None };
-  holds : HoldsSegments (take l.file-index l.files) l.segments.range l.segments.items.items;
-}

@@ -1,6 +1,0 @@
-use Rattle.std.proofs.Common.{rules}
-use Rattle.shard_garbage.proofs.Filtered.{retains_range}
-use Rattle.shard_garbage.proofs.segments.keep_in_range.Goals as goal
-
-pub returns : goal.returns
-returns c = retains_range _ c.args.range (λ s. s.xorb) _ (λ x b f' k. search rules) _ _ c.retain.ensures.filtered
