@@ -8,6 +8,8 @@ from .crates import used_by
 
 # The pages that quote contracts.
 QUOTING = ("README.md", "docs/HEADLINE.md", "crates/xet_core_structures/CALLING.md")
+# The pages that name definitions with their files.
+DEFINING = ("docs/HEADLINE.md", "docs/DEFINITIONS.md")
 # The crates each of whose modules the tree in docs/ARCHITECTURE.md names.
 IN_TREE = ("xet_base", "xet_records", "xet_shards", "xet_core_structures", "placed_shards", "shard_concatenation",
            "shard_bytes", "xet_c")
@@ -61,6 +63,36 @@ def check_trusted():
     libraries = {it for names in crates.values() for it in names} - set(crates)
     lacking = sorted(it for it in libraries if f"`{it}`" not in page)
     return f"docs/PROVED.md does not name as trusted: {', '.join(lacking)}" if lacking else None
+
+
+def check_definitions():
+    """Each definition that a page names with its file stands there, and each word of the headline has such names."""
+    wrong = []
+    for page in DEFINING:
+        text = read(f"{TOP}/{page}")
+        named = re.findall(r"((?:`\w+`,?\s+)+)of\s+\[\w+\]\(\.\./(\S+\.antt)\)", text)
+        listed = re.findall(r"^\d+\. \[\w+\]\(\.\./(\S+\.antt)\)(.*(?:\n .*)*)", text, re.M)
+        for names, file in named + [(names, file) for file, names in listed]:
+            found = re.findall(r"^ *(?:\w+ pub|pub record|pub data) (\w+)", read(f"{TOP}/{file}"), re.M)
+            wrong += [f"{page}: {it} of {file}" for it in re.findall(r"`(\w+)`", names) if it not in found]
+    words = read(f"{TOP}/{DEFINING[0]}").partition("## Word by word")[2].partition("\n\nThe theorem")[0]
+    for entry in re.split(r"\n- ", words)[1:]:
+        if not re.search(r"`\s+of\s+\[\w+\]\(\S+\.antt\)\.$", entry):
+            wrong.append(f"{DEFINING[0]}: {entry[:30]}")
+    return f"these definitions stand elsewhere, or none is named: {', '.join(wrong)}" if wrong else None
+
+
+def check_order():
+    """Each file of definitions that docs/DEFINITIONS.md lists uses only those that it lists above."""
+    above, wrong = set(), []
+    page = read(f"{TOP}/docs/DEFINITIONS.md")
+    for file in re.findall(r"^\d+\. \[\w+\]\(\.\./crates/(\S+)\.antt\)", page, re.M):
+        # The types of the Rust code and the toolchain's definitions are not listed.
+        use = r"use Rattle\.((?!std\.)\w+\.specs\.(?!declared\.|contracts\.)[\w.]+?)(?:\.\{| as )"
+        used = {it.replace(".", "/") for it in re.findall(use, read(f"{TOP}/crates/{file}.antt"))}
+        wrong += [f"{it} above {file}" for it in sorted(used - above)]
+        above.add(file)
+    return f"docs/DEFINITIONS.md does not list {', '.join(wrong)}" if wrong or not above else None
 
 
 def anchors(text):
