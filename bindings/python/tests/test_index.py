@@ -212,6 +212,139 @@ def test_in_place():
     assert empty.query([hash_text("21")]) is None and empty.remove(0) == ONE_FILE
 
 
+def first_file(shards, text):
+    """Returns the number of the first shard that has a file with a hash, and the file, by `find_file` of each."""
+    found = ((number, xet_shards.find_file(it, text)) for number, it in enumerate(shards))
+    return next(((number, file) for number, file in found if file), None)
+
+
+def test_files():
+    shards = [shard_of(f"file {it} 200:0:5:{it}", f"file {it + 1} s=365 200:0:5:{it} 201:1:2:7", f"xorb {it} 21:5")
+              for it in range(100, 300)]
+    shards[7], shards[9] = keyed(shards[7]), xet_shards.convert(shards[9], 2)
+    wanted = [hash_text(str(it)) for it in range(98, 303)]
+    found = [first_file(shards, it) for it in wanted]
+    assert [it and it[0] for it in found] == [None] * 2 + [0, *range(200)] + [None] * 2
+    for index in (xet_shards.Index(), index_of(*shards), index_of(*shards, in_place=True)):
+        for it in shards if not len(index) else ():
+            index.add(it, in_place=len(index) % 2 == 0)
+        assert [index.find_file(it) for it in wanted] == found and index.find_file(wanted[5].upper()) == found[5]
+        # Of what is removed nothing is found, but the next shard that has it.
+        assert index.remove(1) == shards[1]
+        assert [index.find_file(it)[0] for it in wanted[3:5]] == [0, 2]
+        assert index.find_file(wanted[4])[1] == xet_shards.find_file(shards[2], wanted[4])
+        with saved(index) as path:
+            mapped = xet_shards.Index.open(path)
+            assert len(mapped) == 2 and [mapped.find_file(it) is None for it in wanted] == [not it for it in found]
+            for text in wanted[2:-2]:
+                assert any(mapped.find_file(text)[1] == xet_shards.find_file(it, text) for it in shards)
+        for number in list(index):
+            index.remove(number)
+        assert [index.find_file(it) for it in wanted] == [None] * len(wanted)
+        assert not (index._files.rows.count or index._files.in_place)
+    raises(ValueError, index.find_file, "5")
+
+
+def test_files_with_one_first_word():
+    one, two = (shard_of(f"file {sharing(it)} 200:0:5:{it}", "file 7") for it in (1, 2))
+    both = shard_of(*(f"file {sharing(it)} 200:0:5:{it + 30}" for it in (2, 3)))
+    high = shard_of(*(f"file {sharing(1, word)} 200:0:5:9" for word in (5, 2**32 + 5, 2**33, 2**63 + 5)))
+    for in_place in (False, True):
+        index = index_of(one, two, both, high, in_place=in_place)
+        sizes = [it and (it[0], it[1].segments[0].bytes) for it in map(index.find_file, map(sharing, range(5)))]
+        assert sizes == [None, (0, 1), (1, 2), (2, 33), None]
+        for word, number in ((5, 0), (2**32 + 5, 3), (2**33, 3), (2**63 + 5, 3), (2**33 + 5, None), (2**63, None)):
+            assert (index.find_file(sharing(1, word)) or [None])[0] == number
+        # As many in one shard as `find_file` refuses.
+        many = shard_of(*(f"file {sharing(it)} 200:0:5:{it}" for it in range(4, 30)))
+        refused("TruncatedHashCollision", xet_shards.find_file, many, sharing(9))
+        index.add(many, in_place=in_place)
+        assert [index.find_file(sharing(it))[0] for it in (1, 2, 3, 4, 9, 29)] == [0, 1, 2, 4, 4, 4]
+        with saved(index) as path:
+            assert len(list(map(xet_shards.Index.open(path).find_file, map(sharing, range(1, 30))))) == 29
+
+
+def test_files_without_tables():
+    whole = shard_of("file 100 200:0:5:5 201:1:2:7", "file 101", "file 102 s=365 200:0:5:9", "xorb 10 21:5")
+    for shard in (xet_shards.minimal(whole, 9), xet_shards.minimal(whole, 9, version=2)):
+        assert xet_shards.find_file(shard, hash_text("100")) is None
+        for in_place in (False, True):
+            index = index_of(shard, in_place=in_place)
+            for text in map(hash_text, ("100", "101", "102", "103")):
+                wanted = xet_shards.find_file(whole, text)
+                assert index.find_file(text) == (wanted and (0, wanted))
+            assert index.remove(0) == shard and index.find_file(hash_text("100")) is None
+    without_files = xet_shards.export(whole, KEY, 1000, 60, files=False)
+    assert index_of(without_files).find_file(hash_text("100")) is None
+    # A section that ends too early is read in place of a table.
+    refused("Io", xet_shards.Index().add, whole[:96] + xet_shards.minimal(whole, 9)[-200:])
+
+
+def test_wrong_file_tables():
+    shard = shard_of("file 100 200:0:5:5", "file 101 200:0:5:7", "file 102")
+    info = xet_shards.load(shard)
+
+    def with_rows(*rows):
+        table = b"".join(struct.pack("<QI", *it) for it in rows)
+        return shard[: info.file_table] + table + shard[info.file_table + len(table) :]
+
+    assert with_rows((100, 0), (101, 2), (102, 4)) == shard
+    for in_place in (False, True):
+        # The row of another file, of a segment, of the end, and behind it.
+        for row, name in ((2, None), (1, None), (5, "InternalError"), (2**32 - 1, "Io")):
+            wrong = with_rows((100, row), (101, 2), (102, 4))
+            index = index_of(wrong, in_place=in_place)
+            if name:
+                for call in (index.find_file, lambda it: xet_shards.find_file(wrong, it)):
+                    refused(name, call, hash_text("100"))
+            else:
+                assert index.find_file(hash_text("100")) is xet_shards.find_file(wrong, hash_text("100")) is None
+                # A later shard is still found.
+                assert index.add(shard, in_place=in_place) == index.find_file(hash_text("100"))[0]
+            assert index.find_file(hash_text("101")) == (0, xet_shards.find_file(shard, hash_text("101")))
+            assert index.find_file(hash_text("103")) is None and index.remove(0) == wrong
+        # Without the row no table leads to the file.
+        index = index_of(with_rows((99, 0)), in_place=in_place)
+        assert index.find_file(hash_text("100")) is None and index.find_file(hash_text("102"))[0] == 0
+        # A table that is not all there.
+        at = info.file_table
+        for start, rows in ((at, 1000), (at, 2**64 - 1), (2**64 - 1, 3), (len(shard) - 35, 3)):
+            cut = bytearray(shard)
+            cut[-176:-160] = struct.pack("<QQ", start, rows)
+            assert (xet_shards.load(cut).file_table, xet_shards.load(cut).files) == (start, rows)
+            refused("Io", xet_shards.Index().add, cut, in_place=in_place)
+    # A table in another order is sorted, if it is not used in place.
+    words = range(1000, 3000)
+    many = bytearray(shard_of(*(f"file {it} 200:0:5:5" for it in words)))
+    rows = slice(xet_shards.load(many).file_table, xet_shards.load(many).xorb_table)
+    many[rows] = b"".join(struct.pack("<QI", *it) for it in reversed(list(struct.iter_unpack("<QI", many[rows]))))
+    index = index_of(shard_of(*(f"file {it}" for it in words[::2])), many)
+    assert all(index.find_file(hash_text(str(it)))[0] == it % 2 for it in words)
+
+
+def test_files_that_expire():
+    index = index_of(expiring(ONE_FILE, 500), keyed(ONE_FILE), xet_shards.minimal(ONE_FILE, 9))
+    for now, number in ((None, 0), (499, 0), (500, 1), (1060, 2), (2**64 - 1, 2)):
+        assert index.find_file(hash_text("100"), now) == (number, xet_shards.find_file(ONE_FILE, hash_text("100")))
+        with saved(index, now=now) as path:
+            assert xet_shards.Index.open(path).find_file(hash_text("100"), now=1060)
+    assert index.remove_expired(1060) == [0, 1] and index.find_file(hash_text("100"))[0] == 2
+
+
+def test_bytes_of_any_kind():
+    """A shard of an index is whatever other calls take."""
+    words = memoryview(b"".join(bytes([it, 0]) for it in XORB_AND_FILE))[::2]
+    with tempfile.TemporaryDirectory() as folder:
+        path = pathlib.Path(folder, "one.mdb")
+        path.write_bytes(XORB_AND_FILE)
+        with xet_shards.open(path) as mapped:
+            for it in (XORB_AND_FILE, bytearray(XORB_AND_FILE), memoryview(XORB_AND_FILE), words, mapped):
+                for in_place in (False, True) if it is not words else (False,):
+                    index = index_of(it, in_place=in_place)
+                    assert index.find_file(hash_text("100"))[1] == mapped.find_file(hash_text("100"))
+                    assert index.query([hash_text("21")])[0] == 0 and index.remove(0) is it
+
+
 @contextlib.contextmanager
 def saved(index, **named):
     """Gives the path of a file that an index is saved to."""
@@ -222,10 +355,10 @@ def saved(index, **named):
         yield path
 
 
-def index_of(*shards):
+def index_of(*shards, **named):
     index = xet_shards.Index()
     for it in shards:
-        index.add(it)
+        index.add(it, **named)
     return index
 
 
@@ -244,8 +377,8 @@ def test_saved():
     with saved(index) as path:
         # It is what the library exports of the merges.
         wanted = [
-            xet_shards.export(xet_shards.merge([shards[0], shards[2]]), xet_shards.NO_KEY, 0, 2**64 - 1, files=False),
-            xet_shards.export(under_key, KEY, 0, 1060, files=False),
+            xet_shards.export(xet_shards.merge([shards[0], shards[2]]), xet_shards.NO_KEY, 0, 2**64 - 1),
+            xet_shards.export(under_key, KEY, 0, 1060),
         ]
         assert path.read_bytes() == b"".join(wanted) and [xet_shards.check(it) for it in wanted] == [[], []]
         assert xet_shards.load(plain).chunks == xet_shards.load(wanted[0]).chunks
@@ -256,12 +389,15 @@ def test_saved():
             answers[text] = [it and it[1].count for it in (index.query([text]), again.query([text]))]
         assert list(answers.values()) == [[1, 1]] * 4 + [[None] * 2] + [[1, 1]] * 2 + [[None] * 2]
         assert again.query([hash_text("22"), sharing(7, 21), hash_text("23")])[1].segment.xorb == hash_text("11")
+        for text in map(hash_text, ("100", "101", "103")):
+            assert again.find_file(text) == (0, index.find_file(text)[1])
         # A shard can be added, and the index be saved to the file that it has mapped.
-        again.add(shard_of("xorb 14 30:1"))
-        assert again.query([hash_text("30")])[0] == 2
+        again.add(shard_of("xorb 14 30:1", "file 104"))
+        assert again.query([hash_text("30")])[0] == again.find_file(hash_text("104"))[0] == 2
         again.save(path)
         assert again.query([hash_text("24")]) and len(xet_shards.Index.open(path)) == 2
         assert xet_shards.Index.open(path).query([hash_text("30")])[0] == 0
+        assert [xet_shards.Index.open(path).find_file(hash_text(it))[0] for it in ("100", "104")] == [0, 0]
     with saved(xet_shards.Index()) as path:
         assert path.read_bytes() == b"" and len(xet_shards.Index.open(path)) == 0
 
@@ -390,9 +526,7 @@ def spread_shard(number, chunks=20_000):
 def memory_of(shards, **named):
     """Returns an index of shards, and the bytes that it takes."""
     tracemalloc.start()
-    index = xet_shards.Index()
-    for it in shards:
-        index.add(it, **named)
+    index = index_of(*shards, **named)
     size = tracemalloc.get_traced_memory()[0]
     tracemalloc.stop()
     return index, size
@@ -425,7 +559,7 @@ def test_memory():
 def test_index_in_threads():
     words, shard = spread_shard(0, 2000)
     _, other = spread_shard(1, 2000)
-    index, wrong, ended = index_of(shard), [], threading.Event()
+    index, wrong, ended = index_of(shard, ONE_FILE), [], threading.Event()
 
     def ask(start):
         try:
@@ -433,6 +567,8 @@ def test_index_in_threads():
                 for text in words[start::50]:
                     if index.query([text])[0] != 0:
                         wrong.append(text)
+                if index.find_file(hash_text("100"))[0] != 1:
+                    wrong.append("100")
         except Exception as error:
             wrong.append(error)
 
@@ -440,12 +576,13 @@ def test_index_in_threads():
     for it in threads:
         it.start()
     for _ in range(20):
-        index.remove(index.add(other))
-        index.remove(index.add(other, in_place=True))
+        for it in (other, ONE_FILE):
+            index.remove(index.add(it))
+            index.remove(index.add(it, in_place=True))
     ended.set()
     for it in threads:
         it.join()
-    assert not wrong and list(index) == [0]
+    assert not wrong and list(index) == [0, 1]
 
 
 def in_threads(count, call):
@@ -531,13 +668,15 @@ def test_index_beside_a_search():
     chance = random.Random(seed)
     # Few hashes, some with one first word.
     hashes = [sharing(it, chance.randrange(6)) for it in range(12)]
-    index, shards, hits = xet_shards.Index(), {}, 0
+    index, shards, hits, files = xet_shards.Index(), {}, 0, 0
     for turn in range(300):
         if chance.random() < 0.4:
-            shard = shard_of(*(
+            xorbs = [
                 " ".join([f"xorb {it}", *(f"{chance.choice(hashes)}:1" for _ in range(chance.randrange(9)))])
                 for it in chance.sample(range(100), chance.randrange(4))
-            ))
+            ]
+            listed = [f"file {it} 200:0:5:{turn}" for it in chance.sample(hashes, chance.randrange(5))]
+            shard = shard_of(*xorbs, *listed)
             kind = chance.randrange(4)
             if kind:
                 shard = xet_shards.minimal(shard, 9) if kind == 1 else keyed(shard, chunk_table=kind == 2)
@@ -552,15 +691,21 @@ def test_index_beside_a_search():
         if found:
             hits += 1
             assert (found[0], found[1].segment.xorb, found[1].segment.start) in places, f"seed {seed}, turn {turn}"
+        having = [(number, it.file) for number, (_, shard) in shards.items() for it in xet_shards.files(shard)
+                  if it.hash == wanted[0]]
+        assert index.find_file(wanted[0]) == (having[0] if having else None), f"seed {seed}, turn {turn}"
+        files += bool(having)
         if turn % 30 == 29:
             # A merge has the runs that its inputs have, but a xorb once.
             with saved(index) as path:
-                found = xet_shards.Index.open(path).query(wanted)
+                mapped = xet_shards.Index.open(path)
+                found = mapped.query(wanted)
                 assert (found[1].count if found else 0) <= best, f"seed {seed}, turn {turn}"
-    assert hits and len(index) == len(shards)
+                assert (mapped.find_file(wanted[0]) is None) == (not having), f"seed {seed}, turn {turn}"
+    assert hits and files and len(index) == len(shards)
     for number in list(index):
         index.remove(number)
-    assert not index._keys and words_of(hashes[0])[0] < 6
+    assert not index._keys and not index._files.rows.count and words_of(hashes[0])[0] < 6
 
 
 if __name__ == "__main__":

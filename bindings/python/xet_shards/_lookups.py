@@ -2,16 +2,22 @@
 from __future__ import annotations
 
 import ctypes
-from ctypes import POINTER, byref, c_size_t, c_uint32
+import struct
+from ctypes import POINTER, byref, c_size_t, c_uint32, c_uint64
 from dataclasses import dataclass
 from typing import Any, Dict, List, Optional, Sequence, Tuple
 
 from ._arguments import _hashes, _number, _text, _words
 from ._calls import _library
-from ._errors import _NO_WHOLE_ROWS, _SHORT, _check
+from ._errors import _INTERNAL_ERROR, _IO, _NO_WHOLE_ROWS, _SHORT, XetError, _check
 from ._memory import Buffer, _Addresses, _array, _filled, _made
-from ._records import File, Segment, _segment, _shown_file
+from ._records import File, Segment, _file_step, _segment, _shown_file, _walked_rows
 from ._structs import _ROW, _ChunkPlace, _ChunkRow, _File, _FileSegment, _Hash, _Info, _Segment
+
+# A row of a table of files: the first word of a hash, and the row of the section at which the file starts.
+_FILE_ROW = struct.Struct("<QI")
+# Most files have no more segments, so that the first call has room for them, which for more would take time to make.
+_FEW_SEGMENTS = 8
 
 
 @dataclass(frozen=True)
@@ -71,6 +77,28 @@ def find_file(shard: Buffer, file_hash: str) -> Optional[File]:
             number = _library.xet_find_file(*data, byref(wanted), byref(file), segments, room)
     _check(number)
     return _shown_file(file, segments[: file.segments]) if file.found else None
+
+
+def _found_at(shard: Buffer, wanted: ctypes.Array[c_uint64], row: int) -> Optional[File]:
+    """Returns the file at a row to which a table of files leads, or None if its hash is not of these words."""
+    step = _file_step(_FEW_SEGMENTS)
+    with _Addresses(shard) as [data]:
+        segments = step(_library.xet_file_at, *data, row)
+    if segments is None:
+        raise XetError(_INTERNAL_ERROR)
+    return _shown_file(step.record, segments) if bytes(step.place.hash) == bytes(wanted) else None
+
+
+def _file_rows(shard: Buffer) -> List[Tuple[int, int]]:
+    """Returns the rows of the table of files, or those that it would have, in the order of the section."""
+    info = load(shard)
+    if not info.files:
+        return list(_walked_rows(shard))
+    start, size = info.file_table, _FILE_ROW.size * info.files
+    with _Addresses(shard) as [(address, length)]:
+        if start + size > length:
+            raise XetError(_IO)
+        return [(word, row) for word, row in _FILE_ROW.iter_unpack(ctypes.string_at(address + start, size))]
 
 
 def find_rows(table: Buffer, wanted: str) -> List[int]:

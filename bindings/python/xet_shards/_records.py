@@ -96,9 +96,9 @@ def _shown_file(file: _File, segments: Sequence[_FileSegment]) -> File:
 class _Step:
     """Makes the call of a record, and again if its items do not fit. The next call uses the same room."""
 
-    def __init__(self, record: Any, item: Any, counted: str) -> None:
+    def __init__(self, record: Any, item: Any, counted: str, room: int = 64) -> None:
         self.place, self.record, self._item, self._counted = _Place(), record, item, counted
-        self._items, self._room = _array(item, 64), 64
+        self._items, self._room = _array(item, room), room
 
     def __call__(self, call: Callable[..., Any], *arguments: Any) -> Any:
         """Returns the items of the record, or None if there is none."""
@@ -112,8 +112,8 @@ class _Step:
         return self._items[: getattr(self.record, self._counted)] if self.record.found else None
 
 
-def _file_step() -> _Step:
-    return _Step(_File(), _FileSegment, "segments")
+def _file_step(room: int = 64) -> _Step:
+    return _Step(_File(), _FileSegment, "segments", room)
 
 
 def _xorb_step() -> _Step:
@@ -151,6 +151,14 @@ def files(shard: Buffer) -> Iterator[ListedFile]:
     step = _file_step()
     for segments in _walked(_library.xet_file_at, shard, step):
         yield _listed_file(step, segments)
+
+
+def _walked_rows(shard: Buffer) -> Iterator[Tuple[int, int]]:
+    """Gives the first word of the hash of each file of a shard, and the row of its section at which the file starts."""
+    step, row = _file_step(), 0
+    for _ in _walked(_library.xet_file_at, shard, step):
+        yield step.place.hash[0], row
+        row = step.place.next
 
 
 def xorbs(shard: Buffer) -> Iterator[Xorb]:

@@ -1,4 +1,4 @@
-"""An index of the chunks of many shards."""
+"""An index of the files and the chunks of many shards."""
 from __future__ import annotations
 
 import builtins
@@ -19,24 +19,26 @@ from typing import Dict, Iterable, Iterator, List, NamedTuple, Optional, Sequenc
 from ._arguments import NO_EXPIRY, NO_KEY, _hashes, _seconds, _words
 from ._calls import _library
 from ._errors import _INVALID_SHARD, _IO, XetError
-from ._lookups import Run, _run_at, chunk_rows, load
+from ._lookups import _FILE_ROW, Info, Run, _file_rows, _found_at, _run_at, chunk_rows, load
 from ._memory import Buffer, _Mapped
 from ._merging import merge
-from ._structs import _ROW, _Hash
+from ._records import File
+from ._structs import _Hash
 from .shard import Path
 
 # A block has so many rows at most: a row comes to its place by moving those behind it.
 _BLOCK = 512
-# The bytes of a row of a chunk table, of a row of a section, of a header, and of a footer.
-_TABLE_ROW, _ROW, _HEADER, _FOOTER = 16, 48, 48, 200
+# The bytes of a row of a chunk table, and of a footer. The expiry is so many bytes behind the start of the footer.
+_CHUNK_ROW, _FOOTER, _EXPIRY = 16, 200, 112
 
-# The numbers of shards, and the places of chunks in them, one by one. A place is the second half of a row of a chunk
-# table as one number: its lowest 32 bits are the row of the xorb, and those above the index of the chunk.
+# The numbers of shards, and places in them, one by one. The place of a chunk is the second half of a row of a chunk
+# table as one number: its lowest 32 bits are the row of the xorb, and those above the index of the chunk. The place of
+# a file is its row.
 Places = Iterable[Tuple[int, int]]
 
 
 class _Rows:
-    """Rows of many chunk tables, ascending by word: of each the word, the place, and the number of the shard.
+    """Rows of many tables of one kind, ascending by word: of each the word, the place, and the number of the shard.
 
     They are in blocks, each of three columns.
     """
@@ -111,15 +113,75 @@ class _Rows:
         return found
 
 
-class _Keyed:
-    """The chunks of the shards of one key: rows in memory, and the tables of shards that are used in place."""
+class _ChunkTable(NamedTuple):
+    """A chunk table that is used in place."""
+
+    words: memoryview
+    places: memoryview
+
+    def of(self, word: int) -> Sequence[int]:
+        """Returns the places with a word."""
+        low, high = _range_of(self.words, word)
+        return self.places[low:high] if low < high else ()
+
+
+class _FileTable(NamedTuple):
+    """A file table that is used in place. The words are in halves, since a row has 12 bytes."""
+
+    high: memoryview
+    low: memoryview
+    places: memoryview
+
+    def of(self, word: int) -> Sequence[int]:
+        """Returns the places with a word."""
+        start, end = _range_of(self.high, word >> 32)
+        if start == end:
+            return ()
+        low, high = _range_of(self.low[start:end], word & 0xFFFFFFFF)
+        return self.places[start + low : start + high]
+
+
+# The table of a shard, or the words and the places that it would have, ascending by word.
+_Table = Union[_ChunkTable, _FileTable, List[Tuple[int, int]]]
+
+
+class _Tables:
+    """Tables of one kind of many shards: rows in memory, and the tables of shards that are used in place."""
+
+    def __init__(self) -> None:
+        self.rows = _Rows()
+        # By the number of the shard.
+        self.in_place: Dict[int, Union[_ChunkTable, _FileTable]] = {}
+
+    def add(self, number: int, table: _Table) -> None:
+        """Adds the table of a shard with this number."""
+        if isinstance(table, list):
+            self.rows.add(number, table)
+        else:
+            self.in_place[number] = table
+
+    def remove(self, number: int, words: Iterable[int]) -> None:
+        """Removes the table of the shard with this number, or its rows, which are under these words, in order."""
+        self.in_place.pop(number, None)
+        self.rows.remove(number, words)
+
+    def of(self, word: int) -> Places:
+        """Returns where there are records with a word, as it is now."""
+        found = self.rows.of(word) if self.rows.count else []
+        for number, table in self.in_place.items():
+            places = table.of(word)
+            if places:
+                found.append(zip(repeat(number), places))
+        return chain.from_iterable(found)
+
+
+class _Keyed(_Tables):
+    """The chunk tables of the shards of one key."""
 
     def __init__(self, key: str) -> None:
+        super().__init__()
         self._key = None if key == NO_KEY else _Hash(_words(key))
         self.shards = 0
-        self.rows = _Rows()
-        # Words and places, by the number of the shard.
-        self.tables: Dict[int, Tuple[memoryview, memoryview]] = {}
 
     def word(self, chunk_hash: _Hash) -> int:
         """Returns the first word of a hash under the key."""
@@ -129,15 +191,6 @@ class _Keyed:
             _library.xet_hmac(byref(self._key), byref(chunk_hash), byref(keyed))
         word: int = keyed.words[0]
         return word
-
-    def of(self, word: int) -> Places:
-        """Returns where there are chunks with a word, as it is now."""
-        found = self.rows.of(word) if self.rows.count else []
-        for number, (words, places) in self.tables.items():
-            low, high = _range_of(words, word)
-            if low < high:
-                found.append(zip(repeat(number), places[low:high]))
-        return chain.from_iterable(found)
 
 
 class _Entry(NamedTuple):
@@ -152,13 +205,15 @@ class _Entry(NamedTuple):
 
 
 class Index:
-    """Finds runs of chunks among many shards, whose chunk hashes may be under several keys.
+    """Finds files, and runs of chunks, among many shards, whose chunk hashes may be under several keys.
 
     A shard is anything with a buffer, as a map of a file, and is to stay as it is. The index has some 29 bytes of its
-    own for each chunk of its shards, and none for those of shards that are used in place. To add or to remove a shard
-    takes time in proportion to its chunks. A query takes one keyed hash and a binary search for each key, and for each
-    shard that is used in place a binary search, and then, for each place that the first chunk has, the reading of one
-    run, until it finds one with all the chunks that are asked for. Any number of threads may use it at once.
+    own for each file and each chunk of its shards, and none for those of shards that are used in place. To add or to
+    remove a shard takes time in proportion to its files and chunks. A query takes one keyed hash and a binary search
+    for each key, and for each shard that is used in place a binary search, and then, for each place that the first
+    chunk has, the reading of one run, until it finds one with all the chunks that are asked for. To find a file takes a
+    binary search, and another for each shard that is used in place, and the reading of one record. Any number of
+    threads may use it at once.
 
     `save` and `open` keep it in a file, so that a service which starts again need not read its shards:
 
@@ -170,7 +225,7 @@ class Index:
     Shards expire by the caller's clock, in seconds: one whose expiry has come by `now` is not answered, or left out. If
     `now` is not given none has expired; an expiry of 0 or `NO_EXPIRY` never comes.
 
-    It is no part of the library that is proved, but what it returns is read from a shard by `query_at`.
+    It is no part of the library that is proved, but what it returns is read from a shard by `query_at` or `file_at`.
     """
 
     def __init__(self) -> None:
@@ -178,6 +233,8 @@ class Index:
         self._next = 0
         # In the order in which the keys came.
         self._keys: Dict[str, _Keyed] = {}
+        # No key changes the hashes of files.
+        self._files = _Tables()
         # Whoever has it reads or changes rows.
         self._lock = threading.Lock()
 
@@ -205,9 +262,9 @@ class Index:
         `OSError` if what is there is no regular file.
 
         The file has a shard for each key and expiry, one after another: the merge of the shards of the index that have
-        them, as `export` gives it without files. So of shards without a key and without expiry it is one shard, which
-        can be read by itself. Expiries are rounded down to a multiple of `resolution`, in seconds, so that shards which
-        expire at about the same time are merged.
+        them, with this expiry. So of shards without a key and without expiry it is one shard, which can be read by
+        itself. Expiries are rounded down to a multiple of `resolution`, in seconds, so that shards which expire at
+        about the same time are merged. A file that several of them have is there as the merge has it.
 
         It takes as much memory as `merge`, which returns the shard. The errors are those of writing a file, and those
         of `merge`, where `index` is the number of the shard.
@@ -218,7 +275,7 @@ class Index:
         with builtins.open(new, "xb", opener=_open_private if replaced else None) as file:
             try:
                 for expiry, shards in self._groups(now, resolution):
-                    for part in _without_files(_merged(shards), expiry):
+                    for part in _with_expiry(_merged(shards), expiry):
                         file.write(part)
                 file.flush()
                 if replaced:
@@ -242,24 +299,26 @@ class Index:
         return [(expiry, shards) for (_, expiry), shards in groups.items()]
 
     def add(self, shard: Buffer, in_place: bool = False) -> int:
-        """Adds the chunks of a shard, and returns its number, which no other shard of the index gets.
+        """Adds the files and the chunks of a shard, and returns its number, which no other shard of the index gets.
 
-        With `in_place` the chunk table of the shard is used where it lies, as for a large merge in a file that is
-        mapped: it takes no time and no memory, but each query searches it. The table of a shard that this library wrote
-        ascends by word; in another one chunks may not be found. A shard without a table is added as without `in_place`.
+        With `in_place` the tables of files and of chunks are used where they lie in the shard, as for a large merge in
+        a file that is mapped: this takes no time and no memory, but each lookup searches them. The tables of a shard
+        that this library wrote ascend by word; in other ones files and chunks may not be found. In place of a table
+        that a shard lacks its section is read, and the rows are kept as without `in_place`. So files are found also in
+        a minimal shard, in which `find_file` finds none.
+
+        The errors are those of `load`, `chunk_rows` and `files`, and `Io` if a table is not all there.
         """
         info = load(shard)
-        table = _table(shard, info.chunk_table, info.chunks) if in_place and info.chunks else None
-        rows = [] if table else sorted(zip(*_columns(memoryview(chunk_rows(shard)))))
+        files: _Table = _file_table(shard, info) if in_place and info.files else sorted(_file_rows(shard))
+        chunks: _Table = _chunk_table(shard, info) if in_place and info.chunks else sorted(_chunk_rows(shard))
         with self._lock:
             number = self._next
             self._next += 1
+            self._files.add(number, files)
             keyed = self._keys.setdefault(info.key, _Keyed(info.key))
             keyed.shards += 1
-            if table:
-                keyed.tables[number] = table
-            else:
-                keyed.rows.add(number, rows)
+            keyed.add(number, chunks)
             self._shards[number] = _Entry(info.key, info.expiry, shard)
         return number
 
@@ -267,11 +326,12 @@ class Index:
         """Removes a shard by its number, and returns it. It is a `KeyError` if there is none."""
         key, _, shard = self._shards[number]
         keyed = self._keys[key]
-        words = [] if number in keyed.tables else sorted(set(_columns(memoryview(chunk_rows(shard)))[0]))
+        files = [] if number in self._files.in_place else _words_in(_file_rows(shard))
+        chunks = [] if number in keyed.in_place else _words_in(_chunk_rows(shard))
         with self._lock:
             del self._shards[number]
-            keyed.tables.pop(number, None)
-            keyed.rows.remove(number, words)
+            self._files.remove(number, files)
+            keyed.remove(number, chunks)
             keyed.shards -= 1
             if not keyed.shards:
                 del self._keys[key]
@@ -287,6 +347,27 @@ class Index:
                     self.remove(number)
                     removed.append(number)
         return removed
+
+    def find_file(self, file_hash: str, now: Optional[int] = None) -> Optional[Tuple[int, File]]:
+        """Returns the number of a shard and the file with this hash in it, or None if no shard has it.
+
+        Of several shards that have it, it is the one that was added first. The file is what `find_file` returns of this
+        shard, which refuses eight or more files with one first word: here they are found. A row of a wrong table that
+        leads to a file with another hash is passed over. The errors are those of `find_file`, as `InternalError` of a
+        row that leads to the end of the section.
+        """
+        wanted = _words(file_hash)
+        with self._lock:
+            places = sorted(self._files.of(wanted[0]))
+        for number, row in places:
+            # It may have been removed since.
+            it = self._shards.get(number)
+            if it is None or it.has_expired(now):
+                continue
+            file = _found_at(it.shard, wanted, row)
+            if file is not None:
+                return number, file
+        return None
 
     def query(self, hashes: Sequence[str], now: Optional[int] = None) -> Optional[Tuple[int, Run]]:
         """Returns the number of a shard and the longest run in it of chunks with these hashes, which are not keyed.
@@ -370,20 +451,38 @@ def _range_of(words: Union[array[int], memoryview], word: int) -> Tuple[int, int
     return low, bisect_right(words, word, low, min(low + step, count))
 
 
-def _columns(rows: memoryview) -> Tuple[memoryview, memoryview]:
+# The library is built for machines of this byte order.
+def _columns(rows: memoryview) -> _ChunkTable:
     """Returns the words and the places of rows of a chunk table."""
-    # The library is built for machines of this byte order.
     numbers = rows.cast("Q")
-    return numbers[::2], numbers[1::2]
+    return _ChunkTable(numbers[::2], numbers[1::2])
 
 
-def _table(shard: Buffer, start: int, count: int) -> Tuple[memoryview, memoryview]:
-    """Returns the words and the places of a chunk table of so many rows, where it lies in a shard."""
-    whole = memoryview(shard.buffer if isinstance(shard, _Mapped) else shard).cast("B")
-    rows = whole[start : start + _TABLE_ROW * count]
-    if len(rows) < _TABLE_ROW * count:
+def _chunk_rows(shard: Buffer) -> Iterator[Tuple[int, int]]:
+    """Gives the words and the places of the chunks of a shard."""
+    return zip(*_columns(memoryview(chunk_rows(shard))))
+
+
+def _chunk_table(shard: Buffer, info: Info) -> _ChunkTable:
+    return _columns(_bytes_at(shard, info.chunk_table, _CHUNK_ROW * info.chunks))
+
+
+def _file_table(shard: Buffer, info: Info) -> _FileTable:
+    numbers = _bytes_at(shard, info.file_table, _FILE_ROW.size * info.files).cast("I")
+    return _FileTable(numbers[1::3], numbers[::3], numbers[2::3])
+
+
+def _bytes_at(shard: Buffer, start: int, size: int) -> memoryview:
+    """Returns so many bytes of a shard, where they lie."""
+    found = memoryview(shard.buffer if isinstance(shard, _Mapped) else shard).cast("B")[start : start + size]
+    if len(found) < size:
         raise XetError(_IO)
-    return _columns(rows)
+    return found
+
+
+def _words_in(rows: Iterable[Tuple[int, int]]) -> List[int]:
+    """Returns the words in rows, each once and in ascending order."""
+    return sorted({word for word, _ in rows})
 
 
 def _shards_of(whole: memoryview) -> List[memoryview]:
@@ -398,19 +497,7 @@ def _shards_of(whole: memoryview) -> List[memoryview]:
     return shards[::-1]
 
 
-def _without_files(shard: bytes, expiry: int) -> List[Union[bytes, memoryview]]:
-    """Returns the parts of a merge without its files, and with an expiry, by the footer of docs/FORMAT.md."""
-    info, view = load(shard), memoryview(shard)
-    # The section keeps its last row.
-    rows, table = info.xorb_section - _HEADER - _ROW, info.xorb_table - info.file_table
-    footer = list(struct.unpack("<25Q", view[info.footer :]))
-    footer[2] -= rows
-    footer[3:5] = footer[3] - rows, 0
-    for at in (5, 7, 24):
-        footer[at] -= rows + table
-    # The expiry, and the bytes of all files.
-    footer[14], footer[22] = expiry, 0
-    return [
-        view[:_HEADER], view[info.xorb_section - _ROW : info.file_table], view[info.xorb_table : info.footer],
-        struct.pack("<25Q", *footer),
-    ]
+def _with_expiry(shard: bytes, expiry: int) -> List[Union[bytes, memoryview]]:
+    """Returns the parts of a shard with another expiry, by the footer of docs/FORMAT.md."""
+    view, at = memoryview(shard), len(shard) - _FOOTER + _EXPIRY
+    return [view[:at], struct.pack("<Q", expiry), view[at + 8 :]]

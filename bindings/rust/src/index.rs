@@ -1,24 +1,28 @@
-//! An index of the chunks of many shards.
+//! An index of the files and the chunks of many shards.
 
-use crate::{chunk_rows, hmac, load, query_at, ChunkPlace, Hash, Result, Run, NO_KEY};
+use crate::{chunk_rows, file_at, hmac, load, query_at, ChunkPlace, Error, File, Hash, Result, Run, NO_KEY};
 use std::collections::hash_map::{Entry, HashMap};
 
-/// A place in one of the shards of an index.
+/// The bytes of a row of a table of files.
+const TABLE_ROW: usize = 12;
+
+/// A place in one of the shards of an index: that of a chunk, or the row of a file.
 #[derive(Clone, Copy, Debug)]
-struct Place {
+struct Place<P> {
     shard: u32,
-    chunk: ChunkPlace,
+    at: P,
 }
 
-/// Where chunks are, by the first word of their hash under one key. Nearly all words have one place.
+/// Where chunks are, by the first word of their hash under one key, or where files are. Nearly all words have one
+/// place. The others have them in the order in which they were added.
 #[derive(Clone, Debug, Default)]
-struct Places {
-    first: HashMap<u64, Place>,
-    more: HashMap<u64, Vec<Place>>,
+struct Places<P> {
+    first: HashMap<u64, Place<P>>,
+    more: HashMap<u64, Vec<Place<P>>>,
 }
 
-impl Places {
-    fn add(&mut self, word: u64, place: Place) {
+impl<P: Copy> Places<P> {
+    fn add(&mut self, word: u64, place: Place<P>) {
         match self.first.entry(word) {
             Entry::Vacant(none) => {
                 none.insert(place);
@@ -40,19 +44,21 @@ impl Places {
         }
     }
 
-    fn of(&self, word: u64) -> impl Iterator<Item = Place> + '_ {
+    fn of(&self, word: u64) -> impl Iterator<Item = Place<P>> + '_ {
         self.first.get(&word).into_iter().chain(self.more.get(&word).into_iter().flatten()).copied()
     }
 }
 
-/// Finds runs of chunks among many shards, whose chunk hashes may be under several keys.
+/// Finds files, and runs of chunks, among many shards, whose chunk hashes may be under several keys.
 ///
 /// A shard is anything that lends its bytes, as a `Vec<u8>`, an `Arc<[u8]>` or a map of a file, and is to stay as it
-/// is. The index has 30 to 60 bytes of its own for each chunk of its shards. To add or to remove a shard takes time in
-/// proportion to its chunks. A query takes one keyed hash and one access to a map for each key, and then, for each
-/// place that the first chunk has, the reading of one run, until it finds one with all the chunks that are asked for.
+/// is. The index has 30 to 60 bytes of its own for each file and each chunk of its shards. To add or to remove a shard
+/// takes time in proportion to its files and chunks. A query takes one keyed hash and one access to a map for each key,
+/// and then, for each place that the first chunk has, the reading of one run, until it finds one with all the chunks
+/// that are asked for. To find a file takes one access to a map, and the reading of one record.
 ///
-/// It is no part of the library that is proved, but what it returns is read from a shard by [`query_at`].
+/// It is no part of the library that is proved, but what it returns is read from a shard by [`query_at`] or
+/// [`file_at`].
 ///
 /// ```
 /// # fn main() -> Result<(), Box<dyn std::error::Error>> {
@@ -65,6 +71,8 @@ impl Places {
 /// assert_eq!(index.query(&chunks)?, None);
 /// let (shard, _) = index.query(&[[21, 1, 0, 0].into()])?.expect("a has it");
 /// assert_eq!(shard, a);
+/// let (shard, file) = index.find_file([100, 1, 0, 0].into())?.expect("a has the file");
+/// assert_eq!((shard, file.segments[0].bytes), (a, 5));
 /// # Ok(())
 /// # }
 /// ```
@@ -74,32 +82,43 @@ pub struct Index<S> {
     /// The number of the next shard.
     next: u32,
     /// The keys of the shards, in the order in which they came, and the places of chunks under each.
-    keys: Vec<(Hash, Places)>,
+    keys: Vec<(Hash, Places<ChunkPlace>)>,
+    /// The rows of files, whose hashes no key changes.
+    files: Places<u32>,
 }
 
 impl<S: AsRef<[u8]>> Index<S> {
     /// An index of no shards.
     #[must_use]
     pub fn new() -> Index<S> {
-        Index { shards: HashMap::new(), next: 0, keys: Vec::new() }
+        Index { shards: HashMap::new(), next: 0, keys: Vec::new(), files: Places::default() }
     }
 
-    /// Adds the chunks of a shard, and returns its number, which no other shard of the index gets.
+    /// Adds the files and the chunks of a shard, and returns its number, which no other shard of the index gets.
+    ///
+    /// In place of a table that the shard lacks its section is read. So files are found also in a minimal shard, in
+    /// which [`find_file`](crate::find_file) finds none.
     ///
     /// # Errors
     ///
-    /// Those of [`chunk_rows`]. Then the index is as it was.
+    /// Those of [`chunk_rows`], `Io` if the table of files is not all there, and those of [`files`](crate::files) if
+    /// there is none. Then the index is as it was.
     ///
     /// # Panics
     ///
     /// If more than 4294967295 shards were added.
     pub fn add(&mut self, shard: S) -> Result<u32> {
-        let (key, rows) = (load(shard.as_ref())?.key, chunk_rows(shard.as_ref())?);
+        let bytes = shard.as_ref();
+        let (key, files, chunks) = (load(bytes)?.key, file_rows(bytes)?, chunk_rows(bytes)?);
         let number = self.next;
+        self.files.first.reserve(files.len());
+        for (word, row) in files {
+            self.files.add(word, Place { shard: number, at: row });
+        }
         let places = self.places(key);
-        places.first.reserve(rows.len());
-        for it in rows {
-            places.add(it.word, Place { shard: number, chunk: ChunkPlace { row: it.row, index: it.index } });
+        places.first.reserve(chunks.len());
+        for it in chunks {
+            places.add(it.word, Place { shard: number, at: ChunkPlace { row: it.row, index: it.index } });
         }
         self.next = number.checked_add(1).expect("an index numbers its shards by 32 bits");
         self.shards.insert(number, (key, shard));
@@ -110,20 +129,43 @@ impl<S: AsRef<[u8]>> Index<S> {
     ///
     /// # Errors
     ///
-    /// Those of [`chunk_rows`], if the shard is no longer what it was. Then the index is as it was.
+    /// Those of [`add`](Index::add), if the shard is no longer what it was. Then the index is as it was.
     pub fn remove(&mut self, number: u32) -> Result<Option<S>> {
-        let (key, rows) = match self.shards.get(&number) {
-            Some((key, shard)) => (*key, chunk_rows(shard.as_ref())?),
+        let (key, files, chunks) = match self.shards.get(&number) {
+            Some((key, shard)) => (*key, file_rows(shard.as_ref())?, chunk_rows(shard.as_ref())?),
             None => return Ok(None),
         };
+        for (word, _) in files {
+            self.files.remove(word, number);
+        }
         let places = self.places(key);
-        for it in rows {
+        for it in chunks {
             places.remove(it.word, number);
         }
         if places.first.is_empty() {
             self.keys.retain(|(it, _)| *it != key);
         }
         Ok(self.shards.remove(&number).map(|(_, shard)| shard))
+    }
+
+    /// The number of a shard, and the file with this hash in it, or `None` if no shard has it.
+    ///
+    /// Of several shards that have it, it is the one that was added first. The file is what
+    /// [`find_file`](crate::find_file) returns of this shard, which refuses eight or more files with one first word:
+    /// here they are found. A row of a wrong table that leads to a file with another hash is passed over.
+    ///
+    /// # Errors
+    ///
+    /// Of a shard that has the first word of the hash, those of [`file_at`], and `InternalError` if the row of its
+    /// table leads to the end of the section.
+    pub fn find_file(&self, hash: Hash) -> Result<Option<(u32, File)>> {
+        for Place { shard, at } in self.files.of(hash.0[0]) {
+            let (listed, _) = file_at(self.shards[&shard].1.as_ref(), at)?.ok_or(Error::InternalError)?;
+            if listed.hash == hash {
+                return Ok(Some((shard, listed.file)));
+            }
+        }
+        Ok(None)
     }
 
     /// The longest run of chunks with these hashes, which are not keyed, in one of the shards, and the number of that
@@ -134,8 +176,8 @@ impl<S: AsRef<[u8]>> Index<S> {
     /// Those of [`query_at`], of a shard that has the first word of the first hash.
     pub fn query(&self, hashes: &[Hash]) -> Result<Option<(u32, Run)>> {
         let mut longest: Option<(u32, Run)> = None;
-        for Place { shard, chunk } in hashes.first().into_iter().flat_map(|first| self.places_of(*first)) {
-            let run = query_at(self.shards[&shard].1.as_ref(), hashes, chunk.row, chunk.index)?;
+        for Place { shard, at } in hashes.first().into_iter().flat_map(|first| self.places_of(*first)) {
+            let run = query_at(self.shards[&shard].1.as_ref(), hashes, at.row, at.index)?;
             if let Some(run) = run.filter(|it| it.count > longest.map_or(0, |(_, it)| it.count)) {
                 longest = Some((shard, run));
                 if run.count == hashes.len() {
@@ -165,7 +207,7 @@ impl<S: AsRef<[u8]>> Index<S> {
     }
 
     /// The places of the first word of a hash, under each key.
-    fn places_of(&self, hash: Hash) -> impl Iterator<Item = Place> + '_ {
+    fn places_of(&self, hash: Hash) -> impl Iterator<Item = Place<ChunkPlace>> + '_ {
         self.keys.iter().flat_map(move |(key, places)| {
             let keyed = if *key == NO_KEY { hash } else { hmac(*key, hash) };
             places.of(keyed.0[0])
@@ -173,13 +215,42 @@ impl<S: AsRef<[u8]>> Index<S> {
     }
 
     /// The places of chunks under a key, which is added if it is not there.
-    fn places(&mut self, key: Hash) -> &mut Places {
+    fn places(&mut self, key: Hash) -> &mut Places<ChunkPlace> {
         let at = self.keys.iter().position(|(it, _)| *it == key).unwrap_or_else(|| {
             self.keys.push((key, Places::default()));
             self.keys.len() - 1
         });
         &mut self.keys[at].1
     }
+}
+
+/// The first words of the hashes of files, and the rows at which they start: the rows of the table of files, or, if
+/// there is none, the rows that it would have.
+fn file_rows(shard: &[u8]) -> Result<Vec<(u64, u32)>> {
+    let info = load(shard)?;
+    if info.files > 0 {
+        let table = table_at(shard, info.file_table, info.files).ok_or(Error::Io)?;
+        return Ok(table.chunks_exact(TABLE_ROW).map(table_row).collect());
+    }
+    let (mut rows, mut row) = (Vec::new(), 0);
+    while let Some((file, next)) = file_at(shard, row)? {
+        rows.push((file.hash.0[0], row));
+        // A row past 32 bits is none of a section.
+        row = next.try_into().map_err(|_| Error::InvalidShard)?;
+    }
+    Ok(rows)
+}
+
+/// The bytes of a table of so many rows, if they are all there.
+fn table_at(shard: &[u8], start: u64, rows: u64) -> Option<&[u8]> {
+    let start: usize = start.try_into().ok()?;
+    let size = usize::checked_mul(rows.try_into().ok()?, TABLE_ROW)?;
+    shard.get(start..start.checked_add(size)?)
+}
+
+fn table_row(row: &[u8]) -> (u64, u32) {
+    let (word, start) = row.split_at(8);
+    (u64::from_le_bytes(word.try_into().expect("eight bytes")), u32::from_le_bytes(start.try_into().expect("four")))
 }
 
 impl<S: AsRef<[u8]>> Default for Index<S> {

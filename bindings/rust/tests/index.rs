@@ -6,19 +6,27 @@ use common::{hash, Shard};
 use std::collections::hash_map::{HashMap, RandomState};
 use std::hash::{BuildHasher, Hasher};
 use std::iter::zip;
-use xet_shards::{ChunkPlace, ChunkRow, Error, Export, Hash, Index, Minimal, NO_EXPIRY, NO_KEY};
+use xet_shards::{ChunkPlace, ChunkRow, Error, Export, File, Hash, Index, Minimal, NO_EXPIRY, NO_KEY};
 
-fn shard_of(xorbs: &[Vec<String>]) -> Vec<u8> {
+fn shard_of(xorbs: &[Vec<String>], files: &[Vec<String>]) -> Vec<u8> {
     let mut shard = Shard::default();
     for words in xorbs {
         shard.add_xorb(&words.iter().map(String::as_str).collect::<Vec<_>>());
     }
+    for words in files {
+        shard.add_file(&words.iter().map(String::as_str).collect::<Vec<_>>());
+    }
     shard.written(NO_EXPIRY, 3)
+}
+
+/// The words of each line.
+fn words(lines: &[&str]) -> Vec<Vec<String>> {
+    lines.iter().map(|it| it.split(' ').map(String::from).collect()).collect()
 }
 
 /// The bytes of a shard of xorbs, each of a hash and chunks as a script has them.
 fn xorbs(lines: &[&str]) -> Vec<u8> {
-    shard_of(&lines.iter().map(|it| it.split(' ').map(String::from).collect()).collect::<Vec<_>>())
+    shard_of(&words(lines), &[])
 }
 
 fn keyed(shard: &[u8], chunk_table: bool) -> Vec<u8> {
@@ -97,6 +105,110 @@ fn an_index_of_three_shards() {
     assert_eq!(ask(&index, &["21", "22", "23", "24"]), Some((a, 2)));
 }
 
+/// The bytes of a shard of files, each of a hash and segments as a script has them.
+fn files(lines: &[&str]) -> Vec<u8> {
+    shard_of(&[], &words(lines))
+}
+
+/// The first of some shards that has a file with a hash, and the file, by a lookup in each.
+fn first_file(shards: &[Vec<u8>], wanted: Hash) -> Option<(u32, File)> {
+    let found = |shard| xet_shards::find_file(shard, wanted).expect("an answer");
+    zip(0.., shards).find_map(|(number, shard)| found(shard).map(|file| (number, file)))
+}
+
+fn index_of(shards: &[Vec<u8>]) -> Index<Vec<u8>> {
+    let mut index = Index::new();
+    for (shard, number) in zip(shards, 0..) {
+        assert_eq!(index.add(shard.clone()), Ok(number));
+    }
+    index
+}
+
+#[test]
+fn files_of_many_shards() {
+    let two = |it: u32| files(&[&format!("{it} 200:0:5:{it}"), &format!("{} 200:0:5:{it} 201:1:2:7", it + 1)]);
+    let mut shards: Vec<_> = (100..300).map(two).collect();
+    shards[7] = keyed(&shards[7], true);
+    let mut index = index_of(&shards);
+    let mut numbers = Vec::new();
+    for it in 99..303 {
+        let wanted = hash(&it.to_string());
+        let found = index.find_file(wanted).expect("an answer");
+        assert_eq!(found, first_file(&shards, wanted));
+        numbers.push(found.map(|(number, _)| number));
+    }
+    let all = std::iter::once(0).chain(0..200).map(Some);
+    assert_eq!(numbers, std::iter::once(None).chain(all).chain([None; 2]).collect::<Vec<_>>());
+    // Of what is removed nothing is found, but the next shard that has it.
+    assert_eq!(index.remove(1), Ok(Some(shards[1].clone())));
+    let found = index.find_file(hash("102")).expect("an answer").expect("the next shard has it");
+    assert_eq!((found.0, Ok(Some(found.1))), (2, xet_shards::find_file(&shards[2], hash("102"))));
+    for number in (0..200).filter(|it| *it != 1) {
+        assert_eq!(index.remove(number), Ok(Some(shards[number as usize].clone())));
+    }
+    assert!((99..303).all(|it| index.find_file(hash(&it.to_string())) == Ok(None)));
+}
+
+#[test]
+fn files_with_one_first_word() {
+    let sharing = |it: u64| Hash([5, it, 0, 0]);
+    let line = |it: u64| format!("{} 200:0:5:{it}", sharing(it));
+    let many: Vec<_> = (3..30).map(line).collect();
+    let many = files(&many.iter().map(String::as_str).collect::<Vec<_>>());
+    let mut index = index_of(&[files(&[&line(1)]), files(&[&line(1), &line(2)]), many.clone()]);
+    let ask = |index: &Index<Vec<u8>>, it| {
+        let found = index.find_file(sharing(it)).expect("an answer");
+        found.map(|(shard, file)| (shard, file.segments[0].bytes))
+    };
+    assert_eq!(
+        [0, 1, 2, 3, 29, 30].map(|it| ask(&index, it)),
+        [None, Some((0, 1)), Some((1, 2)), Some((2, 3)), Some((2, 29)), None]
+    );
+    assert_eq!(xet_shards::find_file(&many, sharing(9)), Err(Error::TruncatedHashCollision));
+    assert!(index.remove(0).expect("it is as it was").is_some());
+    assert_eq!([1, 2, 3].map(|it| ask(&index, it)), [Some((1, 1)), Some((1, 2)), Some((2, 3))]);
+}
+
+#[test]
+fn files_by_wrong_tables_and_none() {
+    let shard = files(&["100 200:0:5:5", "101 200:0:5:7", "102"]);
+    let table = xet_shards::load(&shard).expect("a shard").file_table as usize;
+    // Without a table, by the section.
+    let index = index_of(&[minimal(&shard)]);
+    for it in ["99", "100", "101", "102", "103"] {
+        let wanted = xet_shards::find_file(&shard, hash(it)).expect("an answer");
+        assert_eq!(index.find_file(hash(it)), Ok(wanted.map(|file| (0, file))));
+    }
+    assert_eq!(xet_shards::find_file(&minimal(&shard), hash("100")), Ok(None));
+    let cut = [&shard[..96], &minimal(&shard)[shard.len() - 36 - 200..]].concat();
+    assert_eq!(Index::new().add(cut), Err(Error::Io));
+    // The row of another file, of a segment, of the end, and behind it.
+    let none = Ok(None);
+    for (row, wanted) in [(2u32, none.clone()), (1, none), (5, Err(Error::InternalError)), (u32::MAX, Err(Error::Io))] {
+        let mut wrong = shard.clone();
+        wrong[table + 8..table + 12].copy_from_slice(&row.to_le_bytes());
+        assert_eq!(xet_shards::find_file(&wrong, hash("100")), wanted);
+        let mut index = index_of(&[wrong.clone()]);
+        assert_eq!(index.find_file(hash("100")).map(|it| it.map(|(_, file)| file)), wanted);
+        assert_eq!(index.find_file(hash("101")), Ok(first_file(std::slice::from_ref(&shard), hash("101"))));
+        assert_eq!(index.add(shard.clone()), Ok(1));
+        if wanted.is_ok() {
+            assert_eq!(index.find_file(hash("100")).map(|it| it.map(|(number, _)| number)), Ok(Some(1)));
+        }
+        assert_eq!(index.remove(0), Ok(Some(wrong)));
+    }
+    // A table that is not all there.
+    let end = shard.len();
+    for (start, rows) in [(table as u64, 1000), (table as u64, u64::MAX), (u64::MAX, 3), (end as u64 - 35, 3)] {
+        let mut cut = shard.clone();
+        cut[end - 176..end - 168].copy_from_slice(&start.to_le_bytes());
+        cut[end - 168..end - 160].copy_from_slice(&rows.to_le_bytes());
+        assert_eq!(xet_shards::load(&cut).map(|it| (it.file_table, it.files)), Ok((start, rows)));
+        let mut index = Index::new();
+        assert_eq!((index.add(cut), index.is_empty()), (Err(Error::Io), true));
+    }
+}
+
 /// The length of the longest run of hashes in some shards, by a walk through all records.
 fn longest(shards: &HashMap<u32, (Hash, Vec<u8>)>, wanted: &[Hash]) -> usize {
     let mut best = 0;
@@ -113,6 +225,17 @@ fn longest(shards: &HashMap<u32, (Hash, Vec<u8>)>, wanted: &[Hash]) -> usize {
     best
 }
 
+/// The first shard that has a file with a hash, and the file, by a walk through all records.
+fn listed(shards: &HashMap<u32, (Hash, Vec<u8>)>, wanted: Hash) -> Option<(u32, File)> {
+    let of_shard = |number: &u32| {
+        let mut files = xet_shards::files(&shards[number].1).map(|it| it.expect("a file"));
+        files.find(|it| it.hash == wanted).map(|it| (*number, it.file))
+    };
+    let mut numbers: Vec<_> = shards.keys().collect();
+    numbers.sort_unstable();
+    numbers.into_iter().find_map(of_shard)
+}
+
 #[test]
 fn an_index_beside_a_search() {
     let seed = RandomState::new().build_hasher().finish();
@@ -123,7 +246,7 @@ fn an_index_beside_a_search() {
     };
     // Few hashes, some with one first word.
     let hashes: Vec<_> = (0..12).map(|it| Hash([below(6), it, 0, 0])).collect();
-    let (mut index, mut shards, mut hits) = (Index::new(), HashMap::new(), 0);
+    let (mut index, mut shards, mut hits, mut files) = (Index::new(), HashMap::new(), 0, 0);
     for turn in 0..300 {
         if below(5) < 2 {
             let mut listed = Vec::new();
@@ -131,7 +254,9 @@ fn an_index_beside_a_search() {
                 let chunks = (0..below(9)).map(|_| format!("{}:1", hashes[below(12) as usize])).collect::<Vec<_>>();
                 listed.push([vec![(10 * turn + name).to_string()], chunks].concat());
             }
-            let plain = shard_of(&listed);
+            let named = |hash: &Hash| vec![hash.to_string(), format!("200:0:5:{turn}")];
+            let having: Vec<_> = hashes.iter().filter(|_| below(4) == 0).map(named).collect();
+            let plain = shard_of(&listed, &having);
             let shard = match below(4) {
                 0 => minimal(&plain),
                 1 => keyed(&plain, true),
@@ -155,6 +280,10 @@ fn an_index_beside_a_search() {
             assert_eq!(longest(&alone, &wanted), run.count, "seed {seed}, turn {turn}");
             assert_eq!(run.segment.end - run.segment.start, run.count as u32);
         }
+        let found = index.find_file(wanted[0]).expect("an answer");
+        assert_eq!(found, listed(&shards, wanted[0]), "seed {seed}, turn {turn}");
+        files += u32::from(found.is_some());
     }
-    assert!(hits > 0 && index.len() == shards.len() && index.is_empty() == shards.is_empty());
+    assert!(hits > 0 && files > 0);
+    assert!(index.len() == shards.len() && index.is_empty() == shards.is_empty());
 }
