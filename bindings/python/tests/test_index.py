@@ -345,6 +345,24 @@ def test_bytes_of_any_kind():
                     assert index.query([hash_text("21")])[0] == 0 and index.remove(0) is it
 
 
+def test_segments_at_once():
+    """A file with few segments takes one call of the library, and one with more a second."""
+    library, rooms = xet_shards._calls._library, []
+    call = library.xet_find_file
+    library.xet_find_file = lambda *arguments: rooms.append(arguments[-1]) or call(*arguments)
+    try:
+        for count in (0, 1, 7, 8, 9, 64, 65, 300):
+            segments = " ".join(f"200:{it}:{it + 1}:{it}" for it in range(count))
+            shard = shard_of("file 99 200:0:1:1", f"file 100 {segments}")
+            found = xet_shards.find_file(shard, hash_text("100"))
+            assert [it.bytes for it in found.segments] == list(range(count))
+            assert rooms == ([8] if count <= 8 else [8, count]), count
+            assert index_of(shard).find_file(hash_text("100")) == (0, found)
+            rooms.clear()
+    finally:
+        library.xet_find_file = call
+
+
 @contextlib.contextmanager
 def saved(index, **named):
     """Gives the path of a file that an index is saved to."""

@@ -67,7 +67,7 @@ def find_file(shard: Buffer, file_hash: str) -> Optional[File]:
 
     In a shard without a table of files, as a minimal one, none is found.
     """
-    wanted, file, room = _Hash(_words(file_hash)), _File(), 64
+    wanted, file, room = _Hash(_words(file_hash)), _File(), _FEW_SEGMENTS
     segments = _array(_FileSegment, room)
     with _Addresses(shard) as [data]:
         number = _library.xet_find_file(*data, byref(wanted), byref(file), segments, room)
