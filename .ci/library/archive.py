@@ -66,7 +66,7 @@ def build():
 
 def compiled():
     """Builds the archive over the libraries that are there. Returns what is wrong, or None."""
-    words = [*rattle("build", CRATE), "--crate-type", "staticlib", "--toolchain", f"{kit()}/toolchain", "-o", ARCHIVE]
+    words = [*rattle("build", CRATE), "--toolchain", f"{kit()}/toolchain", "-o", ARCHIVE]
     os.makedirs(os.path.dirname(ARCHIVE), exist_ok=True)
     return ran(*words, cwd=f"{TOP}/crates/{CRATE}")[1]
 

@@ -12,6 +12,11 @@ def used_by():
     return {name: used.split() for name, used in rows}
 
 
+def is_static(crate):
+    """Whether a crate is a static library, of which no check leaves a library for other crates."""
+    return bool(re.search(rf"^{crate} staticlib:", read(f"{TOP}/crates.txt"), re.M))
+
+
 def below(crate, uses):
     """Returns all crates below a crate."""
     return {it for used in uses[crate] if used in uses for it in {used} | below(used, uses)}
@@ -55,4 +60,5 @@ def rattle(verb, crate):
     for it in sorted(below(crate, uses)):
         words += ["-L", f"dependency={os.path.dirname(library(it))}"]
     words += ["--antt-project", f"{kit()}/rattle/logic/antt-project.json", "--logic-built", f"{kit()}/logic_built"]
-    return [*words, "--links", f"{crate}="]
+    kind = ["--crate-type", "staticlib"] if is_static(crate) else []
+    return [*words, *kind, "--links", f"{crate}="]
