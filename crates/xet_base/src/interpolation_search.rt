@@ -1,18 +1,8 @@
 //! Search for the rows of a key in a table that is sorted by its keys.
 //!
-//! A search has a window of rows that may still have the key, with the keys at both ends, and
-//! probes the row where the key would be if keys rose evenly between them; if that is no more than
-//! 256 rows from the row just probed, it steps 256 rows instead. From a probed row with the key it
-//! reads on while rows have the key, and then probes four rows further down. Once fewer than 256
-//! rows are left, it seeks to the first of them and reads on to the first greater key.
-//!
-//! The loops' invariant is in `xet_base/proofs/Search/Progress.antt`. Two guesses in a row are at most
-//! about a quarter of the window apart (`Quarter.antt`), and a step is 256 rows, so any two turns
-//! take 256 rows, which bounds the seeks without a logarithm; once a row with the key was probed,
-//! each further turn but one passes four such rows (`Course.antt`). The bytes of a turn are those
-//! of one key and of the rows with the key that it passes (`Turns.antt`). On an even table the
-//! first guess is at most one row below the key (`Even.antt`), which `Window::after` says in a
-//! clause of its own.
+//! A search probes the row of its window where the key would be if keys rose evenly, or the row 256
+//! further if that is nearer, so that any two probes pass 256 rows. Once fewer than 256 rows are
+//! left, it reads them in turn.
 
 ghost use Rattle.std.specs.Prelude.{◌≡◌, ◌+◌, ◌<◌, ◌≤◌, length, min, MatchResult, IfOk, OnOk, IfErr};
 ghost use Rattle.xet_base.specs.Source.{FillFails, next_bytes, NoFailure};

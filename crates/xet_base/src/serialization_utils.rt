@@ -1,9 +1,8 @@
 //! Little-endian codecs of numbers and hashes over readers and writers.
 //!
-//! Reading fails with `UnexpectedEof` only if fewer bytes are left than the call reads, and writing
-//! never does; a reader's or a writer's own `UnexpectedEof` becomes `Other`. A read that is
-//! interrupted is tried again; after 2^64 - 1 reads for one value or slice the error is `TimedOut`.
-//! Any other error is the reader's.
+//! Reading fails with `UnexpectedEof` only if the bytes end, and writing never does; a reader's or
+//! writer's own `UnexpectedEof` becomes `Other`. A read that is interrupted is tried again; after
+//! 2^64 - 1 reads for one value or slice the error is `TimedOut`.
 
 ghost use Rattle.std.specs.Prelude.{◌≡◌, ◌*◌, ◌∷◌, [], length, take, flat_map, OnOk, IfOk, IfErr, ◌≢◌};
 ghost use Rattle.std.specs.Io.KnownBytes.{Appends, Consumes};

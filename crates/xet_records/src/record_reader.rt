@@ -1,18 +1,7 @@
 //! Reading headers, records and sections from any input, reader or source.
 //!
-//! The version is a value, `FormatVersion`, beside the input that is read, and no part of the
-//! input. What records are in a version is a function of the kind, `in_version` of
-//! `specs/RecordKind.antt`, which changes only which headers a reader refuses and which records may
-//! be stored, so one set of definitions and lemmas serves both versions. `read_header` refuses a
-//! header that the version does not have with the same `InvalidShard` as one that announces too
-//! many rows: both are `IsRefused` of `specs/Reading.antt`. Calls of `MDBShardInfo` take the
-//! version from its header (`files_of`); calls that read a header and sections in one pass take it
-//! from the header that they read; xorbs are alike in both versions and are read as of version 3.
-//! Writers write the version of their `LayoutOptions`: that is version 3 but in
-//! `serialize_from_v2`, which refuses a shard with an auxiliary row before it writes, and in
-//! `UnindexedShard::to_bytes` and `write_again`, whose callers say which. Union and difference of
-//! bytes read two inputs, which may have different versions, in one loop, with a version beside
-//! each source (`SectionAt` has it beside a section's offset), and write version 3.
+//! The version is a value, `FormatVersion`, beside the input, since the inputs of a union may have
+//! different versions. Xorbs are alike in both versions and are read as of version 3.
 
 ghost use Rattle.std.specs.Prelude.{◌≡◌, ◌≤◌, ◌<◌, ◌*◌, ◌-◌, ◌^◌, ◌↔◌, IsTrue, MatchResult, MatchOption};
 ghost use Rattle.xet_base.specs.Hash.{all_ones};

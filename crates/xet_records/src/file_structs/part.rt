@@ -1,9 +1,5 @@
-//! The optional parts of a file's record.
-//!
-//! Optional parts are said once. `OptionalPart` has the three, `Parts` is a set of them, and
-//! `rows_of`, `with_parts` and `flags_of` of `specs/Part.antt` are the rows of one, a record of
-//! given parts and the flags that announce some. Definitions and lemmas that merge, join, drop or
-//! copy parts are about any of them, and contracts see the rows of each as `HashRow`s.
+//! The optional parts of a file's record, and sets of them, so that what merges, joins, drops or
+//! copies parts is said once for all three.
 
 ghost use Rattle.std.specs.Prelude.{◌≡◌, ◌^◌, not, true, ◌&&◌, ◌||◌, IsTrue, ◌↔◌};
 ghost use Rattle.xet_records.specs.Part.{bit_of, is_part, announces, flags_of, parts_before, size_of_part};

@@ -1,13 +1,5 @@
-//! A file record as a view of its bytes.
-//!
-//! A view may be written without some rows. `KeptParts` says whether verification rows and the
-//! auxiliary row are kept; `serialize_kept` and the writing of minimal shards take it. Exports
-//! always keep verification rows, and take the choice of auxiliary rows. What is written of a
-//! record is one function, `as_kept`. If all is kept, it computes to the record itself, so the
-//! contracts of calls that leave nothing out mention no choice. An export without auxiliary rows is
-//! the export of the same shard without them (`shard_without_aux`), and agreement and joins of
-//! shards pass to these shards. So the law of exports covers it, and with it that rows can be left
-//! out before a union or after it.
+//! A file record as a view of its bytes, which may be written without verification rows or without
+//! the auxiliary row.
 
 ghost use Rattle.std.specs.Prelude.{◌≡◌, ◌≢◌, ◌⊎◌, ◌+◌, ◌*◌, ◌^◌, ◌<◌, ◌≤◌, nat_eq, slice_get, flat_map, option_map, Some, IsTrue, length, take, MatchResult, OnOk, IfOk, IfErr, IsErrAnd, ℕ, List, ◌++◌, IsOkAnd};
 ghost use Rattle.std.specs.Cmp.{partial_equiv_from_equiv};
