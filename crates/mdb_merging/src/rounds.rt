@@ -1,10 +1,8 @@
 //! Merging shards of which only parts are in memory at once.
 //!
-//! The merge is made in rounds, first of the files and then of the xorbs. A round reads the next
-//! records of each shard, as many as there is room for. The least of their last hashes is a limit:
-//! each shard's records up to it are in memory, so their union is the next part of the merge. Its
-//! rows are written at once. The rows of the tables wait in a second file, which is removed from its
-//! folder as soon as it is made.
+//! A round reads the next records of each shard, as many as there is room for. Those up to the
+//! least of their last hashes are the next part of the merge. Rows of the tables wait in a second
+//! file.
 
 ghost use Rattle.std.specs.Prelude.{◌≡◌, map, IfOk};
 

@@ -1,9 +1,6 @@
 //! Lookups in parts of a shard that were read by themselves: in the bytes of a lookup table, or in
-//! the bytes from the row of a record on.
-//!
-//! The first 48 and the last 200 bytes of a shard, put together, are enough for
-//! [`load_bytes`](crate::load::load_bytes), and the footer says where tables and sections are. So a
-//! file of a remote shard is found by few reads: its two ends, the file table, and the record.
+//! the bytes from the row of a record on. The first 48 and the last 200 bytes, put together, are
+//! enough for [`load_bytes`](crate::load::load_bytes), so a file of a remote shard takes few reads.
 
 ghost use Rattle.std.specs.Prelude.{◌≡◌, ◌≢◌, ◌<◌, ◌≤◌, ◌+◌, ◌*◌, ◌%◌, ◌/◌, ◌^◌, ◌∷◌, ℕ, Contains, List, Option, Some, length, IfOk, IsOkAnd, MatchResult};
 ghost use Rattle.std.specs.FinMap as finite;

@@ -1,10 +1,7 @@
-//! Shards as bytes, for C and whatever calls C. Each function takes the bytes of shards, or a hash
-//! or its text, and writes to memory of the caller: nothing is kept between calls, so there is no
-//! handle and nothing to free. `bindings/c/xet.h` declares them.
-//!
-//! A function returns 0, or the number of an error. 1 to 18 are the variants of `CoreError` in
-//! their order; 19: the output is larger than the memory given; 20: two shards disagree; 21: a
-//! shard is malformed.
+//! Shards as bytes, for C and whatever calls C: `bindings/c/xet.h` declares the functions. Nothing
+//! is kept between calls. A function returns 0, or the number of an error: 1 to 18 are the variants
+//! of `CoreError` in their order; 19: the output is larger than the memory given; 20: two shards
+//! disagree; 21: a shard is malformed.
 #![tactic(auto)]
 
 mod agree;

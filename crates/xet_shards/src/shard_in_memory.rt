@@ -1,16 +1,7 @@
-//! Shards in memory.
+//! Shards in memory: a store of files, a store of xorbs with the chunk lookup, and sums of rows.
 //!
-//! A shard in memory consists of two stores, each proved by itself. `XorbStore` has the chunk
-//! lookup and one loop that enters chunks, `enter_chunks`; `FileStore` has the merging of records;
-//! neither has a limit on rows. `MDBInMemoryShard` has the limits, and keeps both sums of rows
-//! beside the stores. Whatever may fail to allocate comes before the first change:
-//! `XorbStore::append` takes an owner for each chunk and reserves room in the lookup, then makes
-//! the one insertion that can still fail, and enters the chunks, which can't. A replaced xorb, a
-//! difference and a copy are new stores, and a union begins with a copy of the second store, lookup
-//! and all; they are filled by the same call, so nothing else touches a lookup. A union that has
-//! too many rows is refused before anything is built: `union_rows` counts its rows by laying the
-//! records of one map over the other, and `proofs/Content/Overlays.antt` shows that this is the
-//! count of whatever map is the union.
+//! Whatever may fail to allocate comes before the first change, and a union that has too many rows
+//! is refused before anything is built.
 
 ghost use Rattle.std.specs.Prelude.{◌≡◌, ◌<◌, ◌≤◌, ◌↔◌, [], ◌∷◌, Contains, length, sum_by, OnOk, OnErr, IfOk, IfErr, IsTrue, MatchResult, None, IsSome};
 ghost use Rattle.std.specs.FinMap as finite;

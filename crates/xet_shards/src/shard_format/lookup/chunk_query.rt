@@ -1,12 +1,5 @@
-//! Queries for runs of chunks on the bytes of a shard.
-//!
-//! A query at a location (`QueryAt`) reads a xorb's header, `read_header_at`, and then chunks as
-//! long as they have the hashes, `read_run`, whose loop has the invariant `HasReadRun`.
-//! `proofs/Lookup/Runs.antt` has its turns, and that the chunks which were read decide the run
-//! (`DetermineRun`), whatever follows them; `proofs/Lookup/QueriesAt.antt` has the outcome. A query
-//! by the chunk table tries the locations that the search found, `first_run`, each by
-//! `run_at_location`, which the direct query also calls; they differ in the error for a location
-//! that is not there. Its turns are in `proofs/Lookup/Tries.antt`.
+//! Queries for runs of chunks on the bytes of a shard: at a location that the caller gives, and at
+//! those that the chunk table has for the first hash.
 
 ghost use Rattle.std.specs.Prelude.{◌≡◌, ◌≢◌, ◌⊎◌, true, ℕ, List, [], All, Option, None, Ok, MatchResult, OnOk, IfOk, IfErr};
 ghost use Rattle.std.specs.FinMap as finite;

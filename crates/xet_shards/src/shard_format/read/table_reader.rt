@@ -1,10 +1,4 @@
 //! Reading the xorb table and the chunk table whole.
-//!
-//! Tables are read whole by `read_table`, one loop over rows of any type that says how many bytes
-//! it has and how they are read (`TableRow`). `proofs/Read/TableReading.antt` has its turns, and
-//! shows that if the rows in the bytes are known, these are read; `proofs/Write/WrittenTables.antt`
-//! says where the xorb table and the chunk table are in a layout with any layout options, and that
-//! their numbers have their widths.
 
 ghost use Rattle.std.specs.Prelude.{◌≡◌, ◌⊎◌, ℕ, List, Option, MatchResult, IfOk, IfErr, ◌<◌};
 ghost use Rattle.std.proofs.Common.{rules};
