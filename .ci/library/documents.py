@@ -48,7 +48,7 @@ def check_crates():
 def check_tree():
     """The tree of modules in docs/ARCHITECTURE.md has a word for each name of a module of the library."""
     page = read(f"{TOP}/docs/ARCHITECTURE.md")
-    tree = page[page.index("## The modules") : page.index("The head of each module")]
+    tree = page[page.index("## The modules") : page.index("## Limits")]
     files = [it for name in IN_TREE for it in glob.glob(f"{TOP}/crates/{name}/src/**/*.rt", recursive=True)]
     names = {os.path.basename(it).removesuffix(".rt") for it in files} - {"lib"}
     lacking = sorted(names - set(re.findall(r"\w+", tree)))
