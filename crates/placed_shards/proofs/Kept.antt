@@ -11,7 +11,7 @@ use Rattle.std.proofs.lemmas.List.Elements.{All-cons, All-nil}
 use Rattle.xet_records.specs.FileRecord.{has_verification, has_aux_ext, file_records, rows_after, FitsItsHeader, IsStored}
 use Rattle.xet_records.specs.declared.file_structs.view.KeptParts.{KeptParts}
 use Rattle.xet_records.specs.View.{IsWholeFile, Shows, with_aux_if, without_verification, as_kept}
-use Rattle.xet_records.specs.Steps.View.{keeps}
+use Rattle.xet_records.specs.Steps.ViewSteps.{keeps}
 use Rattle.xet_records.proofs.KeptParts.{kept-whole, rows-kept, rows_of-kept}
 use Rattle.xet_records.proofs.Parts.{for_parts}
 use Rattle.xet_records.proofs.Record.{rows_whole}

@@ -5,7 +5,7 @@ ghost use Rattle.xet_base.specs.declared.error.CoreError.{CoreError};
 ghost use Rattle.xet_records.specs.declared.file_structs.MDBFileInfo.{MDBFileInfo};
 ghost use Rattle.xet_records.specs.FileRecord.{file_record_bytes};
 ghost use Rattle.xet_records.specs.View.{as_kept};
-ghost use Rattle.xet_records.specs.Steps.View.{keeps};
+ghost use Rattle.xet_records.specs.Steps.ViewSteps.{keeps};
 
 use crate::placed_file::PlacedFile;
 use crate::placed_record::PlacedRecord;

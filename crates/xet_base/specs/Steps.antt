@@ -2,4 +2,4 @@
 
 pub mod Lanes
 pub mod Probes
-pub mod Search
+pub mod SearchSteps

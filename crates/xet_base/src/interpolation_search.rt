@@ -8,7 +8,7 @@ ghost use Rattle.std.specs.Prelude.{◌≡◌, ◌+◌, ◌<◌, ◌≤◌, leng
 ghost use Rattle.xet_base.specs.Source.{FillFails, next_bytes, NoFailure};
 ghost use Rattle.xet_base.specs.Bytes.{u64_from_bytes};
 ghost use Rattle.xet_base.specs.Search.Table.{table_at, row_offset, hits, IsSorted, Finds, FitsTable, SearchRefused, SearchIsBounded, ReadsCount, ActsAsReadFull, Answers, IsEven};
-ghost use Rattle.xet_base.specs.Steps.Search.{TableFailure, table_in, ReadsKey, ReadsValues, StopsWithin, IsRow, KeepsValue, Extends, Counts, ReadsThrough, Runs};
+ghost use Rattle.xet_base.specs.Steps.SearchSteps.{TableFailure, table_in, ReadsKey, ReadsValues, StopsWithin, IsRow, KeepsValue, Extends, Counts, ReadsThrough, Runs};
 
 mod table_range;
 mod window;

@@ -13,7 +13,7 @@ use Rattle.xet_records.specs.FileRow.{header_row, segment_row, hash_row, FitsHas
 use Rattle.xet_records.specs.Part.{parts, with_parts, announces, flags_of, size_of_part, rows_of, optional_rows, all_but, with_flag}
 use Rattle.xet_records.specs.FileRecord.{has_verification, has_aux_ext, file_record_bytes, file_rows_bytes, row_count, FitsItsHeader, FitsRecord, IsStored, IsWellFormed}
 use Rattle.xet_records.specs.View.{KeptParts, with_parts_if, without_verification, without_aux, with_verification_if, with_aux_if, as_kept}
-use Rattle.xet_records.specs.Steps.View.{keeps}
+use Rattle.xet_records.specs.Steps.ViewSteps.{keeps}
 use Rattle.xet_records.proofs.Merging.{bit_if, bit_if_announced, part_absent, announces-flags_of}
 use Rattle.xet_records.proofs.Parts.{for_parts, rows_bytes, length-cond-le, fewer_rows, rows_of-with_parts_if, same_record, All-part, All-parts}
 

@@ -7,7 +7,7 @@ use Rattle.xet_base.specs.declared.error.CoreError.TheVariants.{OutOfMemory}
 use Rattle.xet_records.specs.RecordKind.{RecordKind, KindLaws}
 use Rattle.xet_records.specs.Reading.{CountsHeader, NextRecordNotRead}
 use Rattle.xet_records.specs.Reading.NextRecordNotRead.{no_header, no_rows}
-use Rattle.xet_records.specs.Steps.ViewReading.{LacksMemory}
+use Rattle.xet_records.specs.Steps.ViewReadingSteps.{LacksMemory}
 
 module _ {H R : Type 0} (K : RecordKind H R) (laws : KindLaws K) where
   -- memory that runs out after a header: that of the rows after it, or of the header if it announces none

@@ -1,6 +1,6 @@
 -- Words that only contracts inside the crate and proofs speak of.
 
-pub mod Copying
-pub mod FileRecord
-pub mod View
-pub mod ViewReading
+pub mod CopyingSteps
+pub mod FileRecordSteps
+pub mod ViewReadingSteps
+pub mod ViewSteps

@@ -9,7 +9,7 @@ ghost use Rattle.std.specs.Prelude.{◌≡◌, ℕ, List, Some, ◌++◌, ◌*�
 ghost use Rattle.std.specs.Io.KnownBytes.{Appends, Consumes};
 ghost use Rattle.xet_records.specs.FileRecord.{has_verification, has_metadata_ext, has_aux_ext, rows_after, row_count, file_record_bytes, size_of_file, FitsItsHeader, IsStored, as_read, file_records};
 ghost use Rattle.xet_records.specs.Part.{rows_of};
-ghost use Rattle.xet_records.specs.Steps.FileRecord.{HasAnnounced};
+ghost use Rattle.xet_records.specs.Steps.FileRecordSteps.{HasAnnounced};
 ghost use Rattle.xet_records.specs.Merging.{IsSameFile, has_part, merged_file};
 ghost use Rattle.xet_records.specs.Reading.{ReadsOrEnds, ReadsRowsAfter, IsTruncatedRecord, HasRefusedHeader};
 ghost use Rattle.xet_base.specs.Errors.{IsBareInvalidShard, IsEndOfInput, IsDeviceError, IsWriteError, IsInvalidShard};

@@ -37,7 +37,7 @@ impl From<CoreError> for CopyFailure {
 
 impl From<CopyFailure> for CoreError {
     ghost use Rattle.std.specs.Prelude.{◌≡◌};
-    ghost use Rattle.xet_records.specs.Steps.Copying.{error_of};
+    ghost use Rattle.xet_records.specs.Steps.CopyingSteps.{error_of};
 
     ghost from_gives = { λ failure error. error ≡ error_of failure };
 

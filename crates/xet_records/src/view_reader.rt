@@ -7,7 +7,7 @@ ghost use Rattle.xet_records.specs.Reading.{NextRecordNotRead};
 ghost use Rattle.xet_records.specs.RecordKind.{in_version};
 ghost use Rattle.xet_records.specs.View.{BeginsWithHeaderRow, ShowsRecord};
 ghost use Rattle.xet_records.specs.ViewReading.{ReadsNextView};
-ghost use Rattle.xet_records.specs.Steps.ViewReading.{AddsRows, LacksMemory};
+ghost use Rattle.xet_records.specs.Steps.ViewReadingSteps.{AddsRows, LacksMemory};
 ghost use Rattle.xet_records.specs.Limits.{MAX_ROWS};
 
 use crate::record_reader::{FormatVersion, SectionRecord, read_header, rows_before};

@@ -4,7 +4,7 @@ use Rattle.xet_base.specs.declared.interpolation_search.window.Window.{Window}
 use Rattle.std.specs.declared.io.Error.{Error}
 use Rattle.xet_base.specs.Source.{Source, Fails, after_seek}
 use Rattle.xet_base.specs.Search.Table.{Table, row_offset, IsSorted, hits_below, hits, SearchIsBounded}
-use Rattle.xet_base.specs.Steps.Search.{ReadsKey, StopsWithin, IsRow, Counts, ReadsThrough, Runs}
+use Rattle.xet_base.specs.Steps.SearchSteps.{ReadsKey, StopsWithin, IsRow, Counts, ReadsThrough, Runs}
 use Rattle.xet_base.proofs.Search.Progress.{AllSmaller, Searches}
 use Rattle.xet_base.proofs.Search.Tables.{offset_of_row-add, hits_below-le, hits_below-none}
 use Rattle.xet_base.proofs.Search.Course.{course_end}

@@ -9,7 +9,7 @@ use Rattle.std.proofs.lemmas.Bool.{cases_lt}
 use Rattle.xet_base.specs.Source.{Source, next_bytes}
 use Rattle.xet_base.specs.Bytes.{u64_from_bytes}
 use Rattle.xet_base.specs.Search.Table.{Table, row_offset, key_at, value_at, HasKey, hits_below, Hit, IsHit, OtherRow, Finds, ReadsCount}
-use Rattle.xet_base.specs.Steps.Search.{IsRow, KeepsValue, FindsFrom, Counts, ReadsThrough, Runs}
+use Rattle.xet_base.specs.Steps.SearchSteps.{IsRow, KeepsValue, FindsFrom, Counts, ReadsThrough, Runs}
 use Rattle.xet_base.proofs.Search.Progress.{FindsAround, HasCollected, Keeps}
 use Rattle.xet_base.proofs.Lists.{front_is}
 use Rattle.xet_base.proofs.Search.Tables.{offset_of_row-next, offset_of_row-le, hits_below-hit, hits_below-miss}

@@ -3,7 +3,7 @@ use Rattle.std.specs.Prelude.{◌≡◌, ◌⊎◌, ℕ, ◌+◌, ◌-◌, ◌*�
 use Rattle.xet_base.specs.declared.interpolation_search.window.Window.{Window}
 use Rattle.xet_base.specs.Source.{Source, NoFailure}
 use Rattle.xet_base.specs.Search.Table.{Table, row_offset, key_at, HasKey, IsSorted, hits_below, hits, Finds, IsEven}
-use Rattle.xet_base.specs.Steps.Search.{IsRow, FindsFrom, Counts}
+use Rattle.xet_base.specs.Steps.SearchSteps.{IsRow, FindsFrom, Counts}
 use Rattle.xet_base.specs.Steps.Probes.{guess_of, AroundKey, OnEven}
 
 -- the results are the values of rows from `from` to before `i`, and of rows from `to` on

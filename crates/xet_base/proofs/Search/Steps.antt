@@ -7,7 +7,7 @@ use Rattle.std.specs.declared.io.Error.{Error}
 use Rattle.xet_base.specs.Source.{Source, after_read, after_seek, next_bytes, FillFailure, FillFails, NoFailure}
 use Rattle.xet_base.specs.Bytes.{u64_from_bytes}
 use Rattle.xet_base.specs.Search.Table.{Table, table_at, Answers, Finds, row_offset, key_at, ReadsCount}
-use Rattle.xet_base.specs.Steps.Search.{TableFailure, table_in, ReadsKey, StopsWithin}
+use Rattle.xet_base.specs.Steps.SearchSteps.{TableFailure, table_in, ReadsKey, StopsWithin}
 use Rattle.xet_base.proofs.Search.Tables.{offset_of_row-next, offset_of_row-le}
 
 -- the bytes of a row are within the table

@@ -3,7 +3,7 @@ use Rattle.std.proofs.Common.{◌≡◌, inl, inr, ℕ, ◌+◌, ◌-◌, ◌*�
 use Rattle.xet_base.specs.declared.interpolation_search.window.Window.{Window}
 use Rattle.xet_base.specs.Source.{Source, NoFailure}
 use Rattle.xet_base.specs.Search.Table.{Table, row_offset, key_at, HasKey, IsSorted, hits_below, hits, even_step, IsEven}
-use Rattle.xet_base.specs.Steps.Search.{ReadsKey, IsRow, FindsFrom, Counts, Runs}
+use Rattle.xet_base.specs.Steps.SearchSteps.{ReadsKey, IsRow, FindsFrom, Counts, Runs}
 use Rattle.xet_base.specs.Steps.Probes.{guess_of, IsWhole, NarrowsBelow, NarrowsAbove, NarrowsEqual, OnEven, KeepsEven}
 use Rattle.xet_base.proofs.Search.Progress.{IsMatching, OnSorted, Searches}
 use Rattle.xet_base.proofs.Search.Tables.{offset_of_row-add, offset_of_row-le, hits_below-hit, hits_below-le, keys_ascend, none_after}

@@ -10,7 +10,7 @@ use Rattle.xet_records.specs.declared.xorb_structs.MDBXorbInfo.{MDBXorbInfo}
 use Rattle.xet_records.specs.declared.row_copier.CopyFailure.{CopyFailure}
 use Rattle.xet_records.specs.declared.row_copier.CopyFailure.TheVariants.{Input, Output}
 use Rattle.xet_records.specs.Copying.{IsOutputFailure}
-use Rattle.xet_records.specs.Steps.Copying.{error_of}
+use Rattle.xet_records.specs.Steps.CopyingSteps.{error_of}
 use Rattle.xet_records.specs.declared.record_reader.FormatVersion.{FormatVersion}
 use Rattle.xet_records.specs.declared.record_reader.FormatVersion.TheVariants.{V3}
 use Rattle.xet_records.specs.Version.{version_of}

@@ -11,7 +11,7 @@ ghost use Rattle.xet_records.specs.FileRow.{header_row, hash_row, clear};
 ghost use Rattle.xet_records.specs.Part.{flags_of, rows_of, rows_before};
 ghost use Rattle.xet_records.specs.FileRecord.{has_verification, has_metadata_ext, has_aux_ext, row_count, file_record_bytes, as_read, file_records, rows_after, FitsItsHeader, IsStored};
 ghost use Rattle.xet_records.specs.View.{BeginsWithHeaderRow, BeginsWithFile, NoView, without_verification, with_verification_if, as_kept, LacksVerification, IsIoOther};
-ghost use Rattle.xet_records.specs.Steps.View.{keeps};
+ghost use Rattle.xet_records.specs.Steps.ViewSteps.{keeps};
 ghost use Rattle.xet_records.specs.Limits.{MAX_ROWS};
 
 use super::part::Parts;

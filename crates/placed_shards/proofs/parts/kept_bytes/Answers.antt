@@ -7,7 +7,7 @@ use Rattle.xet_records.specs.declared.file_structs.part.OptionalPart.TheVariants
 use Rattle.xet_records.specs.FileRow.{header_row, segment_row, hash_row, FitsSegment}
 use Rattle.xet_records.specs.Part.{parts, part_rows, rows_of}
 use Rattle.xet_records.specs.View.{as_kept}
-use Rattle.xet_records.specs.Steps.View.{keeps}
+use Rattle.xet_records.specs.Steps.ViewSteps.{keeps}
 use Rattle.xet_records.proofs.KeptParts.{segments_kept, parts_joined}
 use Rattle.xet_records.proofs.RowsWithin.{segment_laws, bytes_of_rows}
 use Rattle.xet_records.proofs.Views.{has_segments}

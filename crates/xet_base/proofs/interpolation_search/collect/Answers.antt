@@ -1,6 +1,6 @@
 use Rattle.std.proofs.Common.{◌+◌, refl, sym, ap, ◌∙◌, arith}
 use Rattle.std.proofs.lemmas.Result.{err_from_is_err_and}
-use Rattle.xet_base.specs.Steps.Search.{table_in}
+use Rattle.xet_base.specs.Steps.SearchSteps.{table_in}
 use Rattle.xet_base.proofs.Search.Tables.{none_after}
 use Rattle.xet_base.proofs.Search.Steps.{read_failure, serves_advanced}
 use Rattle.xet_base.proofs.Search.Collecting.{around_end, key_is, key_there, collected_start, collected_keep, collected_skip, counts_rest, passes_part}

@@ -1,5 +1,5 @@
 use Rattle.xet_base.specs.Search.Table.{Answers}
-use Rattle.xet_base.specs.Steps.Search.{table_in}
+use Rattle.xet_base.specs.Steps.SearchSteps.{table_in}
 use Rattle.xet_base.proofs.Search.Progress.{HasCollected}
 use Rattle.xet_base.proofs.interpolation_search.collect.Given as goal
 

@@ -1,7 +1,7 @@
 use Rattle.std.proofs.Common.{◌≡◌, ◌<◌, ◌≤◌, refl, sym, ap, ◌∙◌, arith}
 use Rattle.std.proofs.lemmas.Result.{err_from_is_err_and}
 use Rattle.xet_base.specs.Search.Table.{key_at}
-use Rattle.xet_base.specs.Steps.Search.{table_in}
+use Rattle.xet_base.specs.Steps.SearchSteps.{table_in}
 use Rattle.xet_base.proofs.Search.Tables.{hits_below-hit, keys_ascend, none_after}
 use Rattle.xet_base.proofs.Search.Steps.{read_failure, serves_still, serves_advanced}
 use Rattle.xet_base.proofs.Search.Collecting.{around_end, key_is, key_there, value_is, collected_first, collected_keep, counts_rest, runs_first, runs_part, runs_row}

@@ -1,6 +1,6 @@
 use Rattle.std.proofs.Common.{refl, ap, ◌∙◌}
 use Rattle.xet_base.specs.Source.{after_seek}
-use Rattle.xet_base.specs.Steps.Search.{table_in}
+use Rattle.xet_base.specs.Steps.SearchSteps.{table_in}
 use Rattle.xet_base.proofs.Search.Steps.{key_read}
 use Rattle.xet_base.proofs.interpolation_search.read_key_of.Goals as goal
 

@@ -4,7 +4,7 @@ use Rattle.std.proofs.lemmas.Bool.{cases_lt}
 use Rattle.std.proofs.lemmas.Result.{IfOk-weaker}
 use Rattle.xet_base.specs.Source.{after_seek}
 use Rattle.xet_base.specs.Search.Table.{IsSorted, Answers}
-use Rattle.xet_base.specs.Steps.Search.{table_in, ReadsKey, StopsWithin, FindsFrom, Counts, ReadsThrough, Runs}
+use Rattle.xet_base.specs.Steps.SearchSteps.{table_in, ReadsKey, StopsWithin, FindsFrom, Counts, ReadsThrough, Runs}
 use Rattle.xet_base.proofs.Search.Turns.{mid_serves, searches_start, searches_below, searches_above, searches_equal}
 use Rattle.xet_base.proofs.Search.Bounds.{bounded_key_not, bounded_runs, bounded_seek_not, bounded_passes, count_at_last}
 use Rattle.xet_base.proofs.interpolation_search.search_rows.Goals as goal

@@ -1,6 +1,6 @@
 use Rattle.std.proofs.Common.{◌-◌}
 use Rattle.xet_base.specs.Search.Table.{Answers}
-use Rattle.xet_base.specs.Steps.Search.{table_in}
+use Rattle.xet_base.specs.Steps.SearchSteps.{table_in}
 use Rattle.xet_base.proofs.Search.Progress.{Searches}
 use Rattle.xet_base.proofs.interpolation_search.search_rows.Given as goal
 

@@ -1,5 +1,5 @@
 use Rattle.std.proofs.Common.{◌-◌, ◌≤◌}
-use Rattle.xet_records.specs.Steps.ViewReading.{AddsRows}
+use Rattle.xet_records.specs.Steps.ViewReadingSteps.{AddsRows}
 use Rattle.xet_records.proofs.view_reader.read_row_bytes.Given as goal
 
 abbrev pub invariant-loop-done : goal.invariant-loop-done

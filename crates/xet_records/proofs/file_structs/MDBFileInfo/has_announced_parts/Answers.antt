@@ -3,7 +3,7 @@ use Rattle.std.proofs.lemmas.Iterator.{cases_from_all, YieldsList-from_slice}
 use borrow.Author.Tests.{tests}
 use Rattle.xet_records.specs.declared.file_structs.part.OptionalPart.{OptionalPart}
 use Rattle.xet_records.specs.Part.{parts}
-use Rattle.xet_records.specs.Steps.FileRecord.{HasAnnounced}
+use Rattle.xet_records.specs.Steps.FileRecordSteps.{HasAnnounced}
 use Rattle.xet_records.proofs.Parts.{every_part}
 use Rattle.xet_records.proofs.file_structs.MDBFileInfo.has_announced_parts.Goals as goal
 

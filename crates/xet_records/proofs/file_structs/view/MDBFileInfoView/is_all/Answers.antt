@@ -3,7 +3,7 @@ use Rattle.xet_records.specs.declared.file_structs.header.FileDataSequenceHeader
 use Rattle.xet_records.specs.Part.{announces}
 use Rattle.xet_records.specs.FileRecord.{file_records}
 use Rattle.xet_records.specs.View.{IsWholeFile}
-use Rattle.xet_records.specs.Steps.View.{keeps}
+use Rattle.xet_records.specs.Steps.ViewSteps.{keeps}
 use Rattle.xet_records.proofs.Views.{shown_as}
 use Rattle.xet_records.proofs.KeptParts.{all_kept}
 use Rattle.xet_records.proofs.PartSets.{in_set}
