@@ -5,7 +5,7 @@ use Rattle.std.specs.Borrow.{Bor}
 use Rattle.std.specs.List.{AllZip}
 use Rattle.xet_core_structures.specs.declared.shard_format.MDBShardInfo.{MDBShardInfo}
 use Rattle.xet_core_structures.specs.Ends.{HasHeaderAndFooter}
-use Rattle.mdb_report.specs.Expiries.{expiry_in}
+use Rattle.mdb_report.specs.ExpiryReport.{expiry_in}
 use Rattle.mdb_base.specs.Keys.{NoInfos}
 use Rattle.mdb_base.specs.declared.failure.Failure.{Failure}
 use Rattle.mdb_base.specs.declared.request.NewExpiry.{NewExpiry}

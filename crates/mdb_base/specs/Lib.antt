@@ -1,5 +1,5 @@
 pub mod Expiries
 pub mod Keys
-pub mod Merging
+pub mod MergeOutcomes
 pub mod Status
 pub mod Writing

@@ -4,7 +4,7 @@ ghost use Rattle.std.specs.Prelude.{◌≡◌, ⊤, List, [], map, slice_get, Is
 ghost use Rattle.placed_shards.specs.Content.{Content};
 ghost use Rattle.placed_shards.specs.Findings.{AreOpened, FirstRefusal, HasAllDisagreements};
 ghost use Rattle.placed_shards.specs.Selections.{all_records};
-ghost use Rattle.mdb_base.specs.Merging.{SaysDisagree, SaysCause};
+ghost use Rattle.mdb_base.specs.MergeOutcomes.{SaysDisagree, SaysCause};
 
 use crate::failure::{Failure, Subject};
 use crate::request::Target;

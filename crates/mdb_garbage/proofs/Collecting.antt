@@ -8,7 +8,7 @@ use Rattle.xet_records.specs.declared.file_structs.MDBFileInfo.{MDBFileInfo}
 use Rattle.mdb_garbage.specs.declared.finding.Segment.{Segment}
 use Rattle.mdb_garbage.specs.declared.range.HashRange.{HashRange}
 use Rattle.mdb_garbage.specs.Garbage.{IsAmong, IsSegment}
-use Rattle.mdb_garbage.specs.Ranges.{InRange, Collects, HoldsSegments}
+use Rattle.mdb_garbage.specs.CollectedRanges.{InRange, Collects, HoldsSegments}
 use Rattle.mdb_garbage.specs.Steps.{AddsFile, KeepsInRange}
 
 module _ {X : Type 0} (hash_of : X → DataHash) (P : X → Type 0) where

@@ -9,7 +9,7 @@ use Rattle.xet_records.specs.declared.file_structs.MDBFileInfo.{MDBFileInfo}
 use Rattle.mdb_garbage.specs.declared.finding.Segment.{Segment}
 use Rattle.mdb_garbage.specs.declared.range.HashRange.{HashRange}
 use Rattle.mdb_garbage.specs.Garbage.{segment_at, IsAmong}
-use Rattle.mdb_garbage.specs.Ranges.{InRange}
+use Rattle.mdb_garbage.specs.CollectedRanges.{InRange}
 use Rattle.mdb_garbage.specs.Steps.{PushesSegment, AddsFile}
 
 pub below_or_at : (i n : ℕ) → i < n + 1 → (i < n) ⊎ (i ≡ n)

@@ -8,7 +8,7 @@ use Rattle.std.proofs.lemmas.Fn.{filter_same}
 use Rattle.std.proofs.lemmas.List.Elements.{All-filter, All-cons, All-nil, All-contains, All-contains_itself}
 use Rattle.xet_base.specs.declared.merklehash.DataHash.{DataHash}
 use Rattle.mdb_garbage.specs.declared.range.HashRange.{HashRange}
-use Rattle.mdb_garbage.specs.Ranges.{in_range}
+use Rattle.mdb_garbage.specs.CollectedRanges.{in_range}
 use Rattle.mdb_garbage.specs.Steps.{KeepsInRange}
 
 module _ {X : Type 0} where

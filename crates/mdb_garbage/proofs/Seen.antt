@@ -12,7 +12,7 @@ use Rattle.mdb_garbage.specs.declared.finding.GarbageFinding.{GarbageFinding}
 use Rattle.mdb_garbage.specs.declared.finding.Segment.{Segment}
 use Rattle.mdb_garbage.specs.declared.range.HashRange.{HashRange}
 use Rattle.mdb_garbage.specs.Garbage.{HasXorb, IsOfXorb, IsOfXorbs, IsOfHash, IsGarbage}
-use Rattle.mdb_garbage.specs.Ranges.{InRange, Collects, HoldsSegments}
+use Rattle.mdb_garbage.specs.CollectedRanges.{InRange, Collects, HoldsSegments}
 use Rattle.mdb_garbage.specs.Reports.{Reports, ReportsAll}
 use Rattle.mdb_garbage.specs.Steps.{Adds, IsOneOf, IsOfXorbAmong, IsUnnamed, IsLacking, IsInOrder}
 

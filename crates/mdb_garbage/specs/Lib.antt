@@ -1,5 +1,5 @@
+pub mod CollectedRanges
 pub mod Garbage
 pub mod Order
-pub mod Ranges
 pub mod Reports
 pub mod Steps

@@ -7,7 +7,7 @@ use Rattle.mdb_garbage.specs.declared.garbage.Garbage.{Garbage}
 use Rattle.mdb_garbage.specs.declared.range.HashRange.{HashRange}
 use Rattle.mdb_garbage.specs.Garbage.{HasXorb, IsGarbage, IsOfXorbs}
 use Rattle.mdb_garbage.specs.Order.{Ascend}
-use Rattle.mdb_garbage.specs.Ranges.{Collects, HoldsSegments, InRange}
+use Rattle.mdb_garbage.specs.CollectedRanges.{Collects, HoldsSegments, InRange}
 
 -- the findings about hashes in a range, each once, in ascending order
 pub record Reports (range : HashRange) (files : List MDBFileInfo) (xorbs : List MDBXorbInfo)

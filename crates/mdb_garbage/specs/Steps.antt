@@ -10,7 +10,7 @@ use Rattle.mdb_garbage.specs.declared.finding.Segment.{Segment}
 use Rattle.mdb_garbage.specs.declared.range.HashRange.{HashRange}
 use Rattle.mdb_garbage.specs.Garbage.{IsAmong, IsTotal, IsStart, IsOfSegment}
 use Rattle.mdb_garbage.specs.Order.{Ascend}
-use Rattle.mdb_garbage.specs.Ranges.{InRange}
+use Rattle.mdb_garbage.specs.CollectedRanges.{InRange}
 
 -- a segment is appended if the hash that it names is in a range
 abbrev pub PushesSegment : HashRange → Segment → (old new : List Segment) → Type 0

@@ -10,7 +10,7 @@ ghost use Rattle.std.specs.List.Sorted.{IsStrictlySortedBy};
 ghost use Rattle.xet_records.specs.XorbRecord.{HasItsChunks};
 ghost use Rattle.xet_records.specs.declared.file_structs.MDBFileInfo.{MDBFileInfo as File};
 ghost use Rattle.xet_records.specs.declared.xorb_structs.MDBXorbInfo.{MDBXorbInfo as Xorb};
-ghost use Rattle.mdb_garbage.specs.Ranges.{HoldsSegments, in_range};
+ghost use Rattle.mdb_garbage.specs.CollectedRanges.{HoldsSegments, in_range};
 ghost use Rattle.mdb_garbage.specs.Reports.{HasSeen, Reports, ReportsAll};
 ghost use Rattle.mdb_garbage.specs.Steps.{KeepsInRange, IsInOrder};
 

@@ -2,7 +2,7 @@
 
 ghost use Rattle.std.specs.Prelude.{◌≡◌, None, Some};
 ghost use Rattle.xet_base.specs.declared.merklehash.DataHash.{DataHash};
-ghost use Rattle.mdb_garbage.specs.Ranges.{in_range, InRange};
+ghost use Rattle.mdb_garbage.specs.CollectedRanges.{in_range, InRange};
 
 use xet_base::merklehash::MerkleHash;
 

@@ -3,7 +3,7 @@
 ghost use Rattle.std.specs.Prelude.{◌≡◌, [], ◌∷◌, ◌++◌, List, OnOk};
 ghost use Rattle.xet_records.specs.declared.file_structs.MDBFileInfo.{MDBFileInfo as File};
 ghost use Rattle.mdb_garbage.specs.Garbage.{segment_at};
-ghost use Rattle.mdb_garbage.specs.Ranges.{HoldsSegments, in_range};
+ghost use Rattle.mdb_garbage.specs.CollectedRanges.{HoldsSegments, in_range};
 ghost use Rattle.mdb_garbage.specs.Steps.{PushesSegment, AddsFile, KeepsInRange};
 
 use crate::finding::Segment;

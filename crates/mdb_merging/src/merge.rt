@@ -5,7 +5,7 @@ ghost use Rattle.placed_shards.specs.Merging.{IsMergeOf};
 ghost use Rattle.placed_shards.specs.Selections.{all_records};
 ghost use Rattle.shard_bytes.specs.Versions.{IsWrittenIn};
 ghost use Rattle.mdb_base.specs.Expiries.{IsNewExpiry};
-ghost use Rattle.mdb_base.specs.Merging.{UnitesTo, UnionFails, SaysNotMerged};
+ghost use Rattle.mdb_base.specs.MergeOutcomes.{UnitesTo, UnionFails, SaysNotMerged};
 ghost use Rattle.mdb_base.specs.Writing.{HasExpiry};
 
 use crate::by_key::{distinct_keys, path_under, values_under};

@@ -1,5 +1,5 @@
 pub mod Counts
 pub mod Escapes
-pub mod Expiries
+pub mod OverviewExpiries
 pub mod Sharing
 pub mod Totals

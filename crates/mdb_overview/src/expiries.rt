@@ -1,7 +1,7 @@
 //! The days on which shards expire.
 
 ghost use Rattle.std.specs.Prelude.{◌≡◌, ◌/◌, IfOk, OnOk};
-ghost use Rattle.mdb_overview.specs.Expiries.{has_expired, ExpireAs, AddsExpiry};
+ghost use Rattle.mdb_overview.specs.OverviewExpiries.{has_expired, ExpireAs, AddsExpiry};
 
 use crate::counts::{Counts, count_one};
 use mdb_report::brief::Brief;

@@ -8,7 +8,7 @@ use Rattle.xet_records.specs.Part.{part_rows, rows_of}
 use Rattle.xet_records.specs.declared.file_structs.MDBFileInfo.{MDBFileInfo}
 use Rattle.xet_records.specs.declared.file_structs.part.OptionalPart.{OptionalPart}
 use Rattle.xet_records.specs.declared.file_structs.part.OptionalPart.TheVariants.{Verification, MetadataExt, AuxExt}
-use Rattle.mdb_records.specs.Records.{ReportsRows, segment_report}
+use Rattle.mdb_records.specs.RecordReports.{ReportsRows, segment_report}
 use Rattle.mdb_records.specs.declared.records.FileRows.{FileRows}
 use Rattle.mdb_records.specs.declared.records.SegmentReport.{SegmentReport}
 

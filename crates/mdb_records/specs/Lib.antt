@@ -1,2 +1,2 @@
 pub mod RecordLines
-pub mod Records
+pub mod RecordReports

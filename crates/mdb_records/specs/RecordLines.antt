@@ -4,7 +4,7 @@ use Rattle.xet_records.specs.declared.file_structs.MDBFileInfo.{MDBFileInfo}
 use Rattle.xet_records.specs.declared.xorb_structs.MDBXorbInfo.{MDBXorbInfo}
 use Rattle.xet_records.specs.FileRecord.{FitsItsHeader}
 use Rattle.xet_records.specs.XorbRecord.{HasItsChunks}
-use Rattle.mdb_records.specs.Records.{ReportsFile, ReportsXorb}
+use Rattle.mdb_records.specs.RecordReports.{ReportsFile, ReportsXorb}
 use Rattle.mdb_records.specs.declared.record_line.LineFault.{LineFault}
 use Rattle.mdb_records.specs.declared.record_line.LineFault.TheVariants.{OutOfMemory, NoRows, Mismatch}
 use Rattle.mdb_records.specs.declared.record_line.Record.{Record}

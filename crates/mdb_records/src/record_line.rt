@@ -3,7 +3,7 @@
 ghost use Rattle.std.specs.Prelude.{◌≡◌, true, IfOk, IfErr, OnOk, IsUtf8, MatchResult, map};
 ghost use Rattle.xet_records.specs.FileRecord.{FitsItsHeader};
 ghost use Rattle.xet_records.specs.XorbRecord.{HasItsChunks};
-ghost use Rattle.mdb_records.specs.Records.{ReportsFile, ReportsRows, ReportsXorb, segment_report, chunk_row_of};
+ghost use Rattle.mdb_records.specs.RecordReports.{ReportsFile, ReportsRows, ReportsXorb, segment_report, chunk_row_of};
 ghost use Rattle.mdb_records.specs.RecordLines.{IsWhole, NoFile, NoXorb};
 
 use crate::hex::Hex;

@@ -2,7 +2,7 @@
 
 ghost use Rattle.std.specs.Prelude.{◌≡◌, All, IfOk, MatchResult, map};
 ghost use Rattle.xet_records.specs.FileRecord.{FitsItsHeader};
-ghost use Rattle.mdb_records.specs.Records.{ReportsFile, ReportsRows, ReportsXorb, ReportsChunk, segment_report, chunk_row_of};
+ghost use Rattle.mdb_records.specs.RecordReports.{ReportsFile, ReportsRows, ReportsXorb, ReportsChunk, segment_report, chunk_row_of};
 
 use crate::flags::{ChunkFlags, FileFlags};
 use crate::hex::Hex;

@@ -2,7 +2,7 @@
 use Rattle.std.proofs.Common.{arith, ◌≡◌, ℕ, List, length}
 use Rattle.std.specs.Prelude.{Contains}
 use Rattle.mdb_garbage.specs.declared.finding.GarbageFinding.{GarbageFinding}
-use Rattle.mdb_report.specs.Garbage.{HoldsGarbage, IsFit}
+use Rattle.mdb_report.specs.GarbageReport.{HoldsGarbage, IsFit}
 
 none_found : (found : List GarbageFinding) (f : GarbageFinding) → length found ≡ 0 → ¬ Contains found f
 none_found found f none = λ held. omega (arith, none, held.1)

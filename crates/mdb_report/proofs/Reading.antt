@@ -23,8 +23,8 @@ use Rattle.xet_records.specs.Reading.{ReadsNextRecord}
 use Rattle.xet_records.specs.RecordKind.{RecordKind, in_version}
 use Rattle.shard_bytes.specs.Outcomes.{HasOutcome}
 use Rattle.mdb_report.specs.FileReports.{HoldsFiles, FilesNotRead}
-use Rattle.mdb_report.specs.Tables.{XorbsNotRead}
-use Rattle.mdb_report.specs.Garbage.{HoldsXorbs}
+use Rattle.mdb_report.specs.LookupTables.{XorbsNotRead}
+use Rattle.mdb_report.specs.GarbageReport.{HoldsXorbs}
 use Rattle.xet_records.proofs.RecordKinds.{file_laws, xorb_laws, laws_in, stored_ever}
 use Rattle.xet_core_structures.proofs.Records.RecordsAsRead.{all_handed}
 

@@ -5,7 +5,7 @@ use Rattle.xet_core_structures.specs.declared.shard_format.MDBShardInfo.{MDBShar
 use Rattle.mdb_report.specs.declared.brief.Brief.{Brief}
 use Rattle.mdb_report.specs.declared.brief.Total.{Total}
 use Rattle.mdb_report.specs.declared.parts.Parts.{Parts}
-use Rattle.mdb_report.specs.Parts.{PartsAscend}
+use Rattle.mdb_report.specs.PartsBar.{PartsAscend}
 use Rattle.mdb_report.specs.Summary.{key_in, ArePartsOf}
 
 -- a count is that of the rows of a table; it is not known if there are none, but a section of so many

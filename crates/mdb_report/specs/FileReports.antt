@@ -7,7 +7,7 @@ use Rattle.xet_core_structures.specs.declared.file_structs.MDBFileInfo.{MDBFileI
 use Rattle.xet_core_structures.specs.TwoShards.ByteResults.{LoadRefusal}
 use Rattle.xet_core_structures.specs.SectionReading.{ReadsSection, SectionFails, files_of}
 use Rattle.shard_bytes.specs.Outcomes.{HasOutcome}
-use Rattle.mdb_records.specs.Records.{ReportsFile}
+use Rattle.mdb_records.specs.RecordReports.{ReportsFile}
 use Rattle.mdb_records.specs.declared.records.FileReport.{FileReport}
 
 -- the bytes have these files in their file section, and no others

@@ -18,7 +18,7 @@ use Rattle.mdb_report.specs.declared.lookup.FoundReport.{FoundReport}
 use Rattle.mdb_report.specs.declared.lookup.Run.{Run}
 use Rattle.mdb_report.specs.declared.lookup.RunReport.{RunReport}
 use Rattle.mdb_records.specs.declared.records.FileReport.{FileReport}
-use Rattle.mdb_records.specs.Records.{ReportsFile, segment_report}
+use Rattle.mdb_records.specs.RecordReports.{ReportsFile, segment_report}
 
 -- the seeks made between two states of a source, and the bytes read, as far as they are counted
 pub record AreCosts (before after : Source) (costs : Costs) : Type 0 where

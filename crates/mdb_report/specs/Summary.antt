@@ -6,7 +6,7 @@ use Rattle.xet_core_structures.specs.KeyedHash.{no_key}
 use Rattle.mdb_records.specs.declared.hex.Hex.{Hex}
 use Rattle.mdb_report.specs.declared.parts.Parts.{Parts}
 use Rattle.mdb_report.specs.declared.summary.Summary.{Summary}
-use Rattle.mdb_report.specs.Parts.{columns}
+use Rattle.mdb_report.specs.PartsBar.{columns}
 
 -- the key of the chunk hashes, if they have one
 abbrev pub key_in : MDBShardInfo → Option Hex

@@ -1,7 +1,7 @@
 //! Expiries of shards: what the numbers of their footers say, and whether they have come.
 
 ghost use Rattle.std.specs.Prelude.{◌≡◌};
-ghost use Rattle.mdb_report.specs.Expiries.{expiry_in, has_come};
+ghost use Rattle.mdb_report.specs.ExpiryReport.{expiry_in, has_come};
 
 /// The expiry that a footer's number says, in seconds since the start of 1970. 0 and the greatest
 /// number stand for none.

@@ -3,8 +3,8 @@
 ghost use Rattle.std.specs.Prelude.{◌≡◌, ◌⊎◌, [], All, IfOk, IfErr, IsTrue, MatchResult};
 ghost use Rattle.xet_core_structures.specs.XorbRecord.{HasItsChunks};
 ghost use Rattle.mdb_report.specs.FileReports.{FilesNotRead};
-ghost use Rattle.mdb_report.specs.Tables.{XorbsNotRead};
-ghost use Rattle.mdb_report.specs.Garbage.{HoldsXorbs, HoldsGarbage, IsFit};
+ghost use Rattle.mdb_report.specs.LookupTables.{XorbsNotRead};
+ghost use Rattle.mdb_report.specs.GarbageReport.{HoldsXorbs, HoldsGarbage, IsFit};
 
 use crate::files::read_files;
 use crate::inquiry::InquiryFault;

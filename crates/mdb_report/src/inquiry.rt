@@ -2,9 +2,9 @@
 
 ghost use Rattle.std.specs.Prelude.{◌≡◌, ◌≢◌, ◌↔◌, [], All, is_some, IfOk, IsOk, IsTrue};
 ghost use Rattle.mdb_report.specs.FileFindings.{IsFileNote};
-ghost use Rattle.mdb_report.specs.Parts.{PartsAscend};
-ghost use Rattle.mdb_report.specs.Answers.{IsCheck, LooksUp, IsClean, IsSound, HasAscendingParts, SaysNoMore};
-ghost use Rattle.mdb_report.specs.Garbage.{IsFit};
+ghost use Rattle.mdb_report.specs.PartsBar.{PartsAscend};
+ghost use Rattle.mdb_report.specs.InquiryAnswers.{IsCheck, LooksUp, IsClean, IsSound, HasAscendingParts, SaysNoMore};
+ghost use Rattle.mdb_report.specs.GarbageReport.{IsFit};
 
 use crate::brief::Brief;
 use crate::file_finding::{FileFinding, FindingReport, findings_to_report};

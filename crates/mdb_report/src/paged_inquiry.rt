@@ -1,7 +1,7 @@
 //! Answering about a shard in a regular file, of which only the needed pages are read.
 
 ghost use Rattle.std.specs.Prelude.{◌≡◌, ◌≢◌, IfOk, IfSome};
-ghost use Rattle.mdb_report.specs.Answers.{IsCheck, LooksUp};
+ghost use Rattle.mdb_report.specs.InquiryAnswers.{IsCheck, LooksUp};
 
 use crate::brief::Brief;
 use crate::inquiry::{

@@ -1,7 +1,7 @@
 //! Where the parts of a shard are, and a bar of them.
 
 ghost use Rattle.std.specs.Prelude.{◌≡◌, ◌↔◌, ◌*◌, ◌/◌, ◌<◌, IfOk, IsTrue, string_bytes};
-ghost use Rattle.mdb_report.specs.Parts.{letter_of, columns, PartsAscend};
+ghost use Rattle.mdb_report.specs.PartsBar.{letter_of, columns, PartsAscend};
 ghost use Rattle.mdb_report.specs.Summary.{ArePartsOf};
 
 use serde::Serialize;

@@ -4,7 +4,7 @@ ghost use Rattle.std.specs.Prelude.{◌≡◌, IfOk, IfSome, MatchResult};
 ghost use Rattle.xet_core_structures.specs.FileRecord.{FitsItsHeader, file_records};
 ghost use Rattle.xet_core_structures.specs.XorbRecord.{HasItsChunks, xorb_records};
 ghost use Rattle.xet_records.specs.Limits.{MAX_ROWS};
-ghost use Rattle.mdb_report.specs.Sections.{ReadsNext, NextFails};
+ghost use Rattle.mdb_report.specs.SectionWalks.{ReadsNext, NextFails};
 
 use std::alloc::Global;
 use std::io::Read;

@@ -2,7 +2,7 @@
 
 ghost use Rattle.std.specs.Prelude.{◌≡◌, true, false, All, IfOk, IfErr};
 ghost use Rattle.mdb_report.specs.FileReports.{FilesNotRead};
-ghost use Rattle.mdb_report.specs.Tables.{LacksFileTable, HasFileTable, LacksChunkTable, HasChunkTable, XorbsNotRead, HaveChunks, HasNoChunks};
+ghost use Rattle.mdb_report.specs.LookupTables.{LacksFileTable, HasFileTable, LacksChunkTable, HasChunkTable, XorbsNotRead, HaveChunks, HasNoChunks};
 
 use crate::files::read_files;
 use shard_bytes::load::load_bytes;

@@ -5,7 +5,7 @@ use Rattle.std.proofs.lemmas.List.{append_assoc}
 use Rattle.script_lines.specs.Words.{IsName, IsNameByte}
 use Rattle.script_lines.specs.declared.tree.NameTree.{NameTree}
 use Rattle.script_lines.specs.declared.tree.NameTree.TheVariants.{Name, Both'}
-use Rattle.script_lines.specs.Trees.{words_of_line, IsTree}
+use Rattle.script_lines.specs.TreeWords.{words_of_line, IsTree}
 
 abbrev pub open_parenthesis : List ℕ
 open_parenthesis = 40 ∷ []

@@ -11,7 +11,7 @@ use Rattle.shard_bytes.specs.declared.combine.Operation.TheVariants.{Union, Diff
 use Rattle.shard_bytes.specs.declared.export.ExportParts.{ExportParts}
 use Rattle.shard_bytes.specs.declared.minimal.KeptXorbs.{KeptXorbs}
 use Rattle.shard_bytes.specs.declared.minimal.KeptXorbs.TheVariants.{All as all_xorbs, Listed}
-use Rattle.script_lines.specs.Trees.{words_of_line, IsTree}
+use Rattle.script_lines.specs.TreeWords.{words_of_line, IsTree}
 use Rattle.script_lines.specs.Words.{IsName, IsNumber, SpellsHash}
 use Rattle.script_lines.specs.declared.command.Command.{Command}
 use Rattle.script_lines.specs.declared.command.Command.TheVariants.{Shard, Xorb, File, Write, Combine, Merge, Export, Minimal, Subset, Eligible, Find, Query, Size, Hex}

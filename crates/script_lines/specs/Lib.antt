@@ -1,4 +1,4 @@
-pub mod Printed
-pub mod Words
-pub mod Trees
 pub mod Commands
+pub mod Printed
+pub mod TreeWords
+pub mod Words

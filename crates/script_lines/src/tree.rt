@@ -2,7 +2,7 @@
 
 ghost use Rattle.std.specs.Prelude.{◌≡◌, ◌∷◌, ◌++◌, ℕ, List, [], map, IfOk, IfErr, IsOkAnd, MatchResult};
 ghost use Rattle.script_lines.specs.declared.tree.NameTree.{NameTree as Tree};
-ghost use Rattle.script_lines.specs.Trees.{words_of_line, IsTree};
+ghost use Rattle.script_lines.specs.TreeWords.{words_of_line, IsTree};
 
 use crate::words::{ParseError, parse_name};
 use std::alloc::Global;

@@ -12,7 +12,7 @@ use Rattle.xet_core_structures.specs.Trees.MergeTrees.{TreeWrites, TreeRefusal}
 use Rattle.shardtool.specs.declared.stop.Stop.{Stop}
 use Rattle.script_lines.specs.declared.tree.NameTree.{NameTree}
 use Rattle.script_lines.specs.declared.tree.NameTree.TheVariants.{Name, Both'}
-use Rattle.shardtool.specs.Merging.{Buffers, MergesTo, MergeRefusal, HasUnknown, StopsAtUnknown, MergeStops, IsPlanOf, PlanStops}
+use Rattle.shardtool.specs.NamedTrees.{Buffers, MergesTo, MergeRefusal, HasUnknown, StopsAtUnknown, MergeStops, IsPlanOf, PlanStops}
 
 slice_get_append : {X : Type 0} (xs ys : List X) (i : ℕ) (x : X) → slice_get xs i ≡ Some x → slice_get (xs ++ ys) i ≡ Some x
 slice_get_append [] ys i x is = absurd (none-some x is)

@@ -1,6 +1,6 @@
-pub mod Ends
 pub mod Lines
-pub mod Merging
+pub mod NamedTrees
 pub mod Naming
-pub mod Printed
-pub mod Writing
+pub mod PrintedRuns
+pub mod ScriptEnds
+pub mod WrittenVersions

@@ -1,7 +1,7 @@
 //! Trees of unions over named buffers.
 
 ghost use Rattle.std.specs.Prelude.{map, MatchResult, IsErrAnd};
-ghost use Rattle.shardtool.specs.Merging.{bytes_under, HasUnknown, StopsAtUnknown, MergesTo, MergeStops, AddsInputs, IsPlanOf, PlanStops};
+ghost use Rattle.shardtool.specs.NamedTrees.{bytes_under, HasUnknown, StopsAtUnknown, MergesTo, MergeStops, AddsInputs, IsPlanOf, PlanStops};
 
 use crate::stop::Stop;
 use script_lines::tree::NameTree;

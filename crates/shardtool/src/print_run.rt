@@ -2,7 +2,7 @@
 
 ghost use Rattle.std.specs.Prelude.{OnOk};
 ghost use Rattle.std.specs.Io.KnownBytes.{Appends};
-ghost use Rattle.shardtool.specs.Printed.{run_line};
+ghost use Rattle.shardtool.specs.PrintedRuns.{run_line};
 
 use std::io;
 use std::io::Write;

@@ -1,7 +1,7 @@
 //! Running a script, line by line.
 
 ghost use Rattle.std.specs.Prelude.{◌≡◌, ◌≤◌};
-ghost use Rattle.shardtool.specs.Ends.{EndsAt};
+ghost use Rattle.shardtool.specs.ScriptEnds.{EndsAt};
 
 use crate::stop::Stop;
 use crate::workspace::Workspace;
@@ -34,7 +34,7 @@ enum ScriptEnd {
 }
 
 impl ScriptEnd {
-    ghost use Rattle.shardtool.specs.Ends.{status_of};
+    ghost use Rattle.shardtool.specs.ScriptEnds.{status_of};
 
     fn status(self) -> u8
         ensures { result ≡ status_of self }

@@ -52,7 +52,7 @@ impl<T: Drop> From<AllocFailed<T>> for Stop {
 }
 
 impl From<ParseError> for Stop {
-    ghost use Rattle.shardtool.specs.Ends.{StopsAtLine};
+    ghost use Rattle.shardtool.specs.ScriptEnds.{StopsAtLine};
 
     ghost from_gives = { StopsAtLine };
 
@@ -67,7 +67,7 @@ impl From<ParseError> for Stop {
 // For the input and the output of the script. Their out-of-memory errors count as failed
 // allocations.
 impl From<io::Error> for Stop {
-    ghost use Rattle.shardtool.specs.Ends.{StopsAtFault};
+    ghost use Rattle.shardtool.specs.ScriptEnds.{StopsAtFault};
 
     ghost from_gives = { StopsAtFault };
 

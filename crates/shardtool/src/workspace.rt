@@ -6,7 +6,7 @@ ghost use Rattle.std.specs.BTreeMap.{IsEmpty, IsUnchanged};
 ghost use Rattle.std.specs.Io.BufRead.{DropsThrough};
 ghost use Rattle.std.specs.Str.{IsUtf8};
 ghost use Rattle.script_lines.specs.Words.{IsSkipped};
-ghost use Rattle.shardtool.specs.Ends.{StopsAtFailure};
+ghost use Rattle.shardtool.specs.ScriptEnds.{StopsAtFailure};
 ghost use Rattle.shardtool.specs.Lines.{first_line};
 
 mod buffers;

@@ -3,7 +3,7 @@
 ghost use Rattle.std.specs.Prelude.{◌≡◌, ◌⊎◌, IfOk, IfErr, IsErrOf};
 ghost use Rattle.xet_core_structures.specs.Errors.{IsWriteError};
 ghost use Rattle.xet_core_structures.specs.Layout.{layout_in};
-ghost use Rattle.shardtool.specs.Writing.{HasNoLayout};
+ghost use Rattle.shardtool.specs.WrittenVersions.{HasNoLayout};
 
 use std::alloc::Global;
 use xet_core_structures::error::{CoreError, Result};

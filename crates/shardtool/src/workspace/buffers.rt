@@ -3,9 +3,9 @@
 ghost use Rattle.std.specs.Prelude.{◌≡◌, ◌⊎◌, ◌↔◌, IfOk, OnOk, OnErr, IfErr, IsErrOf, IsErrAnd, Some};
 ghost use Rattle.std.specs.BTreeMap.{get_by_text, IsUnchanged};
 ghost use Rattle.std.specs.Option.{option_map};
-ghost use Rattle.shardtool.specs.Ends.{IsRefused};
+ghost use Rattle.shardtool.specs.ScriptEnds.{IsRefused};
 ghost use Rattle.shardtool.specs.Naming.{IsKnown, IsUnknown};
-ghost use Rattle.shardtool.specs.Merging.{bytes_under, HasUnknown, StopsAtUnknown};
+ghost use Rattle.shardtool.specs.NamedTrees.{bytes_under, HasUnknown, StopsAtUnknown};
 
 use super::Workspace;
 use crate::merge::merge_buffers;

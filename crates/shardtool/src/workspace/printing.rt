@@ -3,9 +3,9 @@
 ghost use Rattle.std.specs.Prelude.{◌≡◌, ◌⊎◌, ◌↔◌, [], ◌∷◌, ◌++◌, IfErr, IsErrOf, IsNone, IsSomeAnd, OnOk};
 ghost use Rattle.std.specs.Io.KnownBytes.{Appends};
 ghost use Rattle.script_lines.specs.Printed.{hex_text};
-ghost use Rattle.shardtool.specs.Ends.{StopsAtFailure};
+ghost use Rattle.shardtool.specs.ScriptEnds.{StopsAtFailure};
 ghost use Rattle.shardtool.specs.Naming.{IsUnknown};
-ghost use Rattle.shardtool.specs.Printed.{part_under};
+ghost use Rattle.shardtool.specs.PrintedRuns.{part_under};
 
 use super::Workspace;
 use crate::print_run::print_run;

@@ -3,7 +3,7 @@
 ghost use Rattle.std.specs.Prelude.{◌≡◌, ◌↔◌, OnOk, OnErr, IfErr, IsErrOf};
 ghost use Rattle.std.specs.BTreeMap.{IsUnchanged};
 ghost use Rattle.shardtool.specs.Naming.{IsKnown, IsUnknown};
-ghost use Rattle.shardtool.specs.Ends.{IsRefused};
+ghost use Rattle.shardtool.specs.ScriptEnds.{IsRefused};
 
 use super::Workspace;
 use crate::stop::Stop;

@@ -1,5 +1,5 @@
 use Rattle.std.proofs.Common.{◌≡◌, None, take}
-use Rattle.mdb_garbage.specs.Ranges.{HoldsSegments}
+use Rattle.mdb_garbage.specs.CollectedRanges.{HoldsSegments}
 use Rattle.mdb_garbage.proofs.garbage.all_segments.Given as goal
 
 abbrev pub invariant-loop-file : goal.invariant-loop-file

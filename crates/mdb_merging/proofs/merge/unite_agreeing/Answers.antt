@@ -7,7 +7,7 @@ use Rattle.placed_shards.specs.Strict.{IsAgreedOr, IsJoinedMerge}
 use Rattle.shard_bytes.specs.Versions.{IsWrittenIn}
 use Rattle.mdb_report.specs.declared.fault.Fault.TheVariants.{Disagree}
 use Rattle.mdb_base.specs.declared.failure.Failure.{Failure}
-use Rattle.mdb_base.specs.Merging.{SaysDisagree}
+use Rattle.mdb_base.specs.MergeOutcomes.{SaysDisagree}
 use Rattle.mdb_merging.proofs.merge.unite_agreeing.Goals as goal
 
 -- the failure counts all that was found, and names the first

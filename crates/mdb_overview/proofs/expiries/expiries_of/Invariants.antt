@@ -1,5 +1,5 @@
 use Rattle.std.proofs.Common.{take}
-use Rattle.mdb_overview.specs.Expiries.{ExpireAs}
+use Rattle.mdb_overview.specs.OverviewExpiries.{ExpireAs}
 use Rattle.mdb_overview.proofs.expiries.expiries_of.Given as goal
 
 abbrev pub invariant-loop-shard : goal.invariant-loop-shard

@@ -1,6 +1,6 @@
 use Rattle.std.proofs.Common.{arith, refl, ◌∙◌}
 use Rattle.std.proofs.lemmas.List.{take_all}
-use Rattle.mdb_records.specs.Records.{chunk_row_of}
+use Rattle.mdb_records.specs.RecordReports.{chunk_row_of}
 use Rattle.mdb_records.proofs.RecordLines.{one_more_row}
 use Rattle.mdb_records.proofs.record_line.chunks_of.Goals as goal
 

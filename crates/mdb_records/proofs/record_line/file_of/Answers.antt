@@ -1,7 +1,7 @@
 use Rattle.std.proofs.Common.{arith, sym, subst, ◌∙◌, ◌≡◌}
 use Rattle.std.specs.Prelude.{IfSome}
 use Rattle.xet_records.specs.FileRecord.{FitsItsHeader, size_of_file}
-use Rattle.mdb_records.specs.Records.{ReportsRows}
+use Rattle.mdb_records.specs.RecordReports.{ReportsRows}
 use Rattle.mdb_records.proofs.RecordLines.{not_none, same_size, fits_too}
 use Rattle.mdb_records.proofs.record_line.file_of.Goals as goal
 use Rattle.mdb_records.proofs.record_line.file_of.Goals.{else-fits_its_header-via-then-fits_its_header+else-file_size-report, else-fits_its_header-via-else-fits_its_header}

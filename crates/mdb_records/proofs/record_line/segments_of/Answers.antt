@@ -1,6 +1,6 @@
 use Rattle.std.proofs.Common.{arith, refl, ◌∙◌}
 use Rattle.std.proofs.lemmas.List.{take_all}
-use Rattle.mdb_records.specs.Records.{segment_report}
+use Rattle.mdb_records.specs.RecordReports.{segment_report}
 use Rattle.mdb_records.proofs.RecordLines.{one_more_row}
 use Rattle.mdb_records.proofs.record_line.segments_of.Goals as goal
 

@@ -1,7 +1,7 @@
 use Rattle.std.proofs.Common.{arith, ◌∙◌, subst}
 use Rattle.std.specs.List.{AllZip}
 use Rattle.std.proofs.lemmas.List.{take_all}
-use Rattle.mdb_records.specs.Records.{ReportsFile}
+use Rattle.mdb_records.specs.RecordReports.{ReportsFile}
 use Rattle.mdb_report.proofs.Reading.{one_more_report}
 use Rattle.mdb_report.proofs.files.file_reports.Goals as goal
 

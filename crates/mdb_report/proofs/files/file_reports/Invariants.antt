@@ -1,6 +1,6 @@
 use Rattle.std.proofs.Common.{take}
 use Rattle.std.specs.List.{AllZip}
-use Rattle.mdb_records.specs.Records.{ReportsFile}
+use Rattle.mdb_records.specs.RecordReports.{ReportsFile}
 use Rattle.mdb_report.proofs.files.file_reports.Given as goal
 
 -- the files so far have their reports

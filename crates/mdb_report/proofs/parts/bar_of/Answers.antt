@@ -1,6 +1,6 @@
 use Rattle.std.proofs.Common.{ℕ, ◌*◌, ◌/◌, [], ◌∷◌, ◌++◌, string_bytes, sym, ap, ◌∙◌, arith}
 use Rattle.std.proofs.lemmas.List.FromFn.{map-range_with_len_more}
-use Rattle.mdb_report.specs.Parts.{letter_of}
+use Rattle.mdb_report.specs.PartsBar.{letter_of}
 use Rattle.mdb_report.proofs.parts.bar_of.Goals as goal
 
 pub loop-column-preserved : goal.loop-column-preserved

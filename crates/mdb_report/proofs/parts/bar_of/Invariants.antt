@@ -1,5 +1,5 @@
 use Rattle.std.proofs.Common.{◌≡◌, string_bytes}
-use Rattle.mdb_report.specs.Parts.{columns}
+use Rattle.mdb_report.specs.PartsBar.{columns}
 use Rattle.mdb_report.proofs.parts.bar_of.Given as goal
 
 -- the columns so far are there

@@ -1,5 +1,5 @@
 use Rattle.std.proofs.Common.{All, take}
-use Rattle.mdb_report.specs.Tables.{HasNoChunks}
+use Rattle.mdb_report.specs.LookupTables.{HasNoChunks}
 use Rattle.mdb_report.proofs.tables.any_has_chunks.Given as goal
 
 -- none of those so far has chunks

@@ -2,7 +2,7 @@ use Rattle.std.proofs.Common.{◌≡◌, inr, All, ap, ◌∙◌, subst}
 use Rattle.std.proofs.lemmas.Result.{err_from_is_err_and}
 use Rattle.xet_core_structures.specs.Ends.{HasHeaderAndFooter}
 use Rattle.xet_core_structures.specs.Source.{Source}
-use Rattle.mdb_report.specs.Tables.{HaveChunks, HasNoChunks}
+use Rattle.mdb_report.specs.LookupTables.{HaveChunks, HasNoChunks}
 use Rattle.mdb_report.proofs.Reading.{outcome_in_memory}
 use Rattle.mdb_report.proofs.tables.lacks_chunk_table.Goals as goal
 

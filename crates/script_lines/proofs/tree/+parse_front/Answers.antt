@@ -1,6 +1,6 @@
 use Rattle.std.proofs.Common.{rules, ◌≡◌, ◌∷◌, ◌++◌, ℕ, List, map, Bor, sym, ap, ◌∙◌, arith}
 use Rattle.std.proofs.lemmas.Result.{err_from_is_err_and}
-use Rattle.script_lines.specs.Trees.{words_of_line}
+use Rattle.script_lines.specs.TreeWords.{words_of_line}
 use Rattle.script_lines.proofs.Trees.{open_parenthesis, close_parenthesis, pair_after, name_before, some_words, pair_found}
 use Rattle.script_lines.proofs.tree.+parse_front.Goals as goal
 

@@ -1,7 +1,7 @@
 use Rattle.std.proofs.Common.{rules, [], sym, ◌∙◌}
 use Rattle.std.proofs.lemmas.List.{append-nil}
 use Rattle.std.proofs.lemmas.Result.{err_from_is_err_and}
-use Rattle.script_lines.specs.Trees.{words_of_line}
+use Rattle.script_lines.specs.TreeWords.{words_of_line}
 use Rattle.script_lines.proofs.Trees.{none_if_no_words}
 use Rattle.script_lines.proofs.tree.parse_tree.Goals as goal
 

@@ -1,6 +1,6 @@
 use Rattle.std.proofs.Common.{rules, map, ℕ, List, Bor, sym, subst}
 use Rattle.xet_core_structures.specs.declared.set_operations.MergePlan.{Both}
-use Rattle.shardtool.specs.Merging.{bytes_under, IsPlanOf}
+use Rattle.shardtool.specs.NamedTrees.{bytes_under, IsPlanOf}
 use Rattle.shardtool.proofs.Merging.{plan_of_name, plan_of_pair}
 use Rattle.shardtool.proofs.merge.+plan_of.Goals as goal
 

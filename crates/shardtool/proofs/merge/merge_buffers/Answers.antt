@@ -1,7 +1,7 @@
 use Rattle.std.proofs.Common.{map, ℕ, List, Bor, subst}
 use Rattle.std.proofs.lemmas.Result.{err_from_is_err_and}
 use Rattle.xet_core_structures.specs.Trees.MergeTrees.{TreeWrites, TreeRefusal}
-use Rattle.shardtool.specs.Merging.{bytes_under}
+use Rattle.shardtool.specs.NamedTrees.{bytes_under}
 use Rattle.shardtool.proofs.Merging.{plan_known, plan_merges, plan_refused, stops_without_plan, stops_at_unknown}
 use Rattle.shardtool.proofs.merge.merge_buffers.Goals as goal
 

@@ -1,6 +1,6 @@
 use Rattle.std.proofs.Common.{◌++◌, ◌∷◌, [], sym, subst, ◌∙◌, true≢false}
 use Rattle.mdb_garbage.specs.Garbage.{HasXorb}
-use Rattle.mdb_garbage.specs.Ranges.{Collects, InRange}
+use Rattle.mdb_garbage.specs.CollectedRanges.{Collects, InRange}
 use Rattle.mdb_garbage.proofs.Seen.{hashes_with, hashes_without, found_with, found_without}
 use Rattle.mdb_garbage.proofs.garbage.Garbage.add_xorb.Goals as goal
 

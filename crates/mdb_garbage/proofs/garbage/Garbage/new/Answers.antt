@@ -1,6 +1,6 @@
 use Rattle.std.proofs.Common.{[], sym, subst}
 use Rattle.mdb_garbage.specs.Garbage.{IsSegment, HasXorb, IsOfXorbs}
-use Rattle.mdb_garbage.specs.Ranges.{Collects}
+use Rattle.mdb_garbage.specs.CollectedRanges.{Collects}
 use Rattle.mdb_garbage.proofs.Collecting.{collects_permuted}
 use Rattle.mdb_garbage.proofs.Seen.{hashes_of_none, found_of_none}
 use Rattle.mdb_garbage.proofs.garbage.Garbage.new.Goals as goal

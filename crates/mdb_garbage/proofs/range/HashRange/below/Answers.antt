@@ -1,5 +1,5 @@
 use Rattle.std.proofs.Common.{rules, subst}
-use Rattle.mdb_garbage.specs.Ranges.{InRange}
+use Rattle.mdb_garbage.specs.CollectedRanges.{InRange}
 use Rattle.mdb_garbage.proofs.Limits.{in_wider_range}
 use Rattle.mdb_garbage.proofs.range.HashRange.below.Goals as goal
 

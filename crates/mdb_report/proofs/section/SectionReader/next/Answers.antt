@@ -3,7 +3,7 @@ use Rattle.std.specs.declared.result.Result.{Result}
 use Rattle.std.specs.Result.{OkIff, result_unwrap_or}
 use Rattle.std.proofs.lemmas.Result.{err_from_is_err_and}
 use Rattle.xet_records.specs.RecordKind.{in_version}
-use Rattle.mdb_report.specs.Sections.{ReadsNext}
+use Rattle.mdb_report.specs.SectionWalks.{ReadsNext}
 use Rattle.mdb_report.proofs.Reading.{no_more_rows}
 use Rattle.mdb_report.proofs.section.SectionReader.next.Goals as goal
 

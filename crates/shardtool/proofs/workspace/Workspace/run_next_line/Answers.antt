@@ -6,7 +6,7 @@ use Rattle.script_lines.specs.declared.words.ParseError.TheVariants.{Unreadable}
 use Rattle.script_lines.specs.Words.{IsSkipped, without_last}
 use Rattle.shardtool.specs.declared.stop.Stop.{Stop}
 use Rattle.shardtool.specs.declared.stop.Stop.TheVariants.{Unreadable as unreadable_stop}
-use Rattle.shardtool.specs.Ends.{StopsAtFailure, StopsAtLine}
+use Rattle.shardtool.specs.ScriptEnds.{StopsAtFailure, StopsAtLine}
 use Rattle.shardtool.specs.Lines.{first_line}
 use Rattle.shardtool.proofs.workspace.Workspace.run_next_line.Goals as goal
 

@@ -1,7 +1,7 @@
 -- When shards expire.
 use Rattle.std.specs.Prelude.{◌≡◌, ℕ, ◌/◌, ◌==◌, Bool, false, List, count_by}
 use Rattle.std.specs.Prelude.{Option, Some, None, is_none, if◌then◌else◌}
-use Rattle.mdb_report.specs.Expiries.{expiry_in, has_come}
+use Rattle.mdb_report.specs.ExpiryReport.{expiry_in, has_come}
 use Rattle.mdb_report.specs.declared.brief.Brief.{Brief}
 use Rattle.mdb_overview.specs.Counts.{up_to_u64, count_in, saturating_count}
 use Rattle.mdb_overview.specs.declared.expiries.Expiries.{Expiries}

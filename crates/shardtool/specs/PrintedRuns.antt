@@ -8,7 +8,7 @@ use Rattle.script_lines.specs.declared.ranges.ByteRange.{ByteRange}
 use Rattle.script_lines.specs.Printed.{printed_line}
 use Rattle.xet_core_structures.specs.declared.file_structs.FileDataSequenceEntry.{FileDataSequenceEntry}
 use Rattle.xet_core_structures.specs.Hex.{hash_hex}
-use Rattle.shardtool.specs.Merging.{bytes_under}
+use Rattle.shardtool.specs.NamedTrees.{bytes_under}
 
 -- the line of a run: how many chunks it has, their xorb, the index of the first of them, that after
 -- the last, and their bytes

@@ -7,9 +7,9 @@ use Rattle.mdb_report.specs.declared.inquiry.Checks.{Checks}
 use Rattle.mdb_report.specs.declared.inquiry.Inquiry.{Inquiry}
 use Rattle.mdb_report.specs.declared.inquiry.Inquiry.TheVariants.{Summary, Brief, Check, Find, FindXorbs, Query}
 use Rattle.mdb_report.specs.declared.parts.Parts.{Parts}
-use Rattle.mdb_report.specs.Parts.{PartsAscend}
+use Rattle.mdb_report.specs.PartsBar.{PartsAscend}
 use Rattle.mdb_report.specs.Summary.{ArePartsOf}
-use Rattle.mdb_report.specs.Garbage.{IsFit}
+use Rattle.mdb_report.specs.GarbageReport.{IsFit}
 
 -- the inquiry may have findings: a summary, also in a line, or a check
 abbrev pub IsCheck : Inquiry → Type 0
