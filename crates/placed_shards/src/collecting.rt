@@ -5,7 +5,7 @@ ghost use Rattle.xet_base.specs.declared.error.CoreError.TheVariants.{OutOfMemor
 ghost use Rattle.xet_records.specs.FileRecord.{file_records};
 ghost use Rattle.xet_records.specs.Limits.{MAX_ROWS};
 ghost use Rattle.xet_records.specs.XorbRecord.{xorb_records};
-ghost use Rattle.xet_shards.specs.Read.StoredSection.{StoresRecord};
+ghost use Rattle.xet_shards.specs.Read.PlacedRecord.{StoresRecord};
 ghost use Rattle.xet_shards.specs.Write.Section.{total_rows};
 ghost use Rattle.xet_shards.specs.Write.Written.{HasWritten, HasWrittenFor};
 ghost use Rattle.placed_shards.specs.Records.{files_as};

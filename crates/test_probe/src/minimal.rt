@@ -23,53 +23,9 @@ impl Run<'_> {
     /// Runs `minimal B1 B2 NOW OPT`, or `dropmin ..` without auxiliary rows, `subset B1 B2 NOW
     /// EXPIRY LIST` or `subset_only B1 B2 NOW LIST` on the minimal shard that is read from the
     /// source of B1, and prints the number that the call returns.
-    ///
-    /// With `copy_` before `minimal`, `dropmin` or `subset` it reads and writes in one call, and
-    /// prints whether a file has no verification rows, or how often the filter was called.
     pub fn write_minimal(&mut self, words: &[&str], out: &mut Vec<u8>) -> Result<(), Stop> {
-        if let [command, arguments @ ..] = words
-            && let Some(command) = command.strip_prefix("copy_")
-        {
-            let mut words = Vec::new(self.alloc);
-            words.push(command)?;
-            words.extend_from_slice(arguments)?;
-            return self.copy(words.as_slice(), out);
-        }
         let shard = minimal_shard(self.alloc, &mut self.first, "fx")?;
         self.write_parts(&shard, words, out)
-    }
-
-    // Writes what words name of the shard that is read from the first source.
-    fn copy(&mut self, words: &[&str], out: &mut Vec<u8>) -> Result<(), Stop> {
-        match parse_words(self.alloc, words, Form::Full)? {
-            Some(Command::Minimal { now, kept, .. }) => self.copy_whole(now, kept, out),
-            Some(Command::Subset { subset, .. }) => self.copy_subset(&subset, out),
-            _ => Err(Stop::Unreadable),
-        }
-    }
-
-    fn copy_whole(&mut self, now: u64, kept: KeptParts, out: &mut Vec<u8>) -> Result<(), Stop> {
-        let (reader, output) = (&mut self.first, &mut self.output);
-        let lacks = MDBMinimalShard::copy_from_reader(self.alloc, reader, output, now, kept)?;
-        Ok(writeln!(out, "a file lacks verification {lacks}")?)
-    }
-
-    fn copy_subset(&mut self, subset: &Subset, out: &mut Vec<u8>) -> Result<(), Stop> {
-        let calls = Cell::new(0u64);
-        let is_kept = |xorb: &MDBXorbInfoView| {
-            calls.set(calls.get().saturating_add(1));
-            has(&subset.kept, &xorb.xorb_hash())
-        };
-        MDBMinimalShard::copy_xorb_subset_from_reader(
-            self.alloc,
-            &mut self.first,
-            &mut self.output,
-            subset.now,
-            subset.expiry,
-            is_kept,
-        )?;
-        let calls = calls.get();
-        Ok(writeln!(out, "calls {calls}")?)
     }
 
     // Writes what words name of a minimal shard.

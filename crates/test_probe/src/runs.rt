@@ -63,7 +63,6 @@ fn kind_of(words: &[&str]) -> Kind {
         "set_union" | "set_difference" => Kind::Combining,
         "export" | "drop" | "export_streaming" | "drop_streaming" => Kind::Exporting,
         "minimal" | "dropmin" | "subset" | "subset_only" => Kind::WritingMinimal,
-        "copy_minimal" | "copy_dropmin" | "copy_subset" => Kind::WritingMinimal,
         "append" | "write" | "write2" => Kind::Writing,
         "read" => Kind::ReadingValue,
         "minimal_sums" | "dropmin_sizes" | "minimal_records" | "minimal_eligible" => {

@@ -23,7 +23,6 @@ pub use Rattle.xet_shards.specs.Content.KeyedShards
 pub use Rattle.xet_shards.specs.Write.Layout
 pub use Rattle.xet_shards.specs.Lookup.Lookup
 pub use Rattle.xet_shards.specs.StreamingShard.MinimalReading
-pub use Rattle.xet_shards.specs.StreamingShard.MinimalCopying
 pub use Rattle.xet_shards.specs.StreamingShard.MinimalShard
 pub use Rattle.xet_shards.specs.Content.Names
 pub use Rattle.xet_shards.specs.Lookup.RunReading

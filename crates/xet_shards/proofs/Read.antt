@@ -8,6 +8,5 @@ pub mod SectionUnique
 pub mod WholeSections
 pub mod TableReading
 pub mod FileRanges
-pub mod StoredSections
 pub mod TruncatedHashes
 pub mod Zipped

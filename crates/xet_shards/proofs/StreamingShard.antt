@@ -4,5 +4,4 @@ pub mod FileStarts
 pub mod MinimalShard
 pub mod MinimalReading
 pub mod MinimalWriting
-pub mod MinimalCopying
 pub mod MinimalLaws

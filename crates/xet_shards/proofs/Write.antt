@@ -15,7 +15,6 @@ pub mod Written
 pub mod Puts
 pub mod Copying
 pub mod Collecting
-pub mod Rewriting
 pub mod WithOptions
 pub mod SameBytes
 pub mod Worked

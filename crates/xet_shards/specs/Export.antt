@@ -1,4 +1,4 @@
--- Copying a shard record by record: keyed exports, and rewriting with other layout options.
+-- Copying a shard record by record: keyed exports. The sections and layout options that bytes have.
 
 pub mod KeyedExport
 pub mod ExportLaws

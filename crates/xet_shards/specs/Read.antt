@@ -6,4 +6,4 @@ pub mod TableReading
 pub mod FileRanges
 pub mod TruncatedHashes
 pub mod XorbHeaders
-pub mod StoredSection
+pub mod PlacedRecord

@@ -6,13 +6,11 @@ pub mod FileStore
 pub mod Joining
 pub mod KeyedExport
 pub mod Lookup
-pub mod MinimalCopying
 pub mod MinimalShard
 pub mod MinimalWriting
 pub mod RunReading
 pub mod RunSteps
 pub mod SectionReading
-pub mod StoredSection
 pub mod TableReading
 pub mod Tables
 pub mod TruncatedHashes

@@ -2,4 +2,3 @@
 
 pub mod MinimalShard
 pub mod MinimalReading
-pub mod MinimalCopying

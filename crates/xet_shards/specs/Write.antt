@@ -11,4 +11,3 @@ pub mod WrittenLaws
 pub mod ShardEnd
 pub mod Puts
 pub mod Copying
-pub mod Unindexed

@@ -9,7 +9,6 @@ ghost use Rattle.xet_records.specs.XorbRecord.{xorb_records};
 
 mod eligible;
 pub(crate) mod file_start;
-mod minimal_copier;
 mod minimal_reader;
 mod minimal_shard;
 mod minimal_writer;

@@ -12,9 +12,9 @@ use Rattle.xet_base.specs.Errors.{CoreResult}
 use Rattle.xet_records.specs.declared.record_reader.FormatVersion.{FormatVersion}
 use Rattle.xet_records.specs.declared.file_structs.MDBFileInfo.{MDBFileInfo}
 use Rattle.xet_records.specs.declared.xorb_structs.MDBXorbInfo.{MDBXorbInfo}
-use Rattle.xet_records.specs.FileRecord.{file_records_in}
+use Rattle.xet_records.specs.FileRecord.{file_records, file_records_in}
 use Rattle.xet_records.specs.XorbRecord.{xorb_records}
-use Rattle.xet_records.proofs.RecordKinds.{xorb_laws}
+use Rattle.xet_records.proofs.RecordKinds.{file_laws, xorb_laws, laws_in}
 use Rattle.xet_records.specs.Version.{version_of}
 use Rattle.xet_records.specs.RecordKind.{RecordKind, KindLaws}
 use Rattle.xet_records.specs.Reading.{ReadsBookend, NextRecordNotRead}
@@ -46,6 +46,19 @@ module _ {H R V : Type 0} (K : RecordKind H R) (laws : KindLaws K) (record_of : 
         rows = omega (arith, sum_by_push rows views view, before.rows, next.rows, laws.rows (record_of view) next.is_stored);
       }
 
+module _ {I : Type 0} (reads : I → I → List ℕ → Type 0) (joins : (a b c : I) (xs ys : List ℕ) → reads a b xs → reads b c ys → reads a c (xs ++ ys)) (start now next : I) (left rest : ℕ) where
+  -- one file more was read
+  pub one_file_read : (version : FormatVersion) (files : List MDBFileInfo) (file : MDBFileInfo) → HasReadViews (file_records_in version) (λ r. r) (reads start now) files left
+      → CountsStored (file_records_in version) (reads now next) left rest file → HasReadViews (file_records_in version) (λ r. r) (reads start next) (files ++ file ∷ []) rest
+  one_file_read version files file before one =
+      more_views (file_records_in version) (laws_in file_records file_laws version) (λ r. r) (reads start now) (reads now next) (reads start next) files left rest file (joins start now next) before one
+
+  -- one xorb more was read
+  pub one_xorb_read : (xorbs : List MDBXorbInfo) (xorb : MDBXorbInfo) → HasReadViews xorb_records (λ x. x) (reads start now) xorbs left → CountsStored xorb_records (reads now next) left rest xorb
+      → HasReadViews xorb_records (λ x. x) (reads start next) (xorbs ++ xorb ∷ []) rest
+  one_xorb_read xorbs xorb before one =
+      more_views xorb_records xorb_laws (λ x. x) (reads start now) (reads now next) (reads start next) xorbs left rest xorb (joins start now next) before one
+
 -- a section may hold what was read of one
 pub reads_fit : {H R I : Type 0} (K : RecordKind H R) (reads : I → I → List ℕ → Type 0) (old new : I) (records : List R) → ReadsViews K (λ r. r) reads old new records → FitsSection K records
 reads_fit K reads old new records read = record { stored = read.records.are_stored; rows = omega (arith, read.records.rows) }
@@ -66,7 +79,7 @@ module _ {I J : Type 0} (view : I → J) (reads : J → J → List ℕ → Type 
   abbrev header_seen : (old new : I) → ReadsShardHeader (λ a b xs. reads (view a) (view b) xs) old new → ReadsShardHeader reads (view old) (view new)
   header_seen old new read = record { header = read.header; tag = read.tag; version = read.version; taken = read.taken }
 
-  pub minimal_seen : (with_files with_xorbs : Bool) (old new : I) (m : MinimalShard) → ReadsMinimal (λ a b xs. reads (view a) (view b) xs) with_files with_xorbs old new m
+  minimal_seen : (with_files with_xorbs : Bool) (old new : I) (m : MinimalShard) → ReadsMinimal (λ a b xs. reads (view a) (view b) xs) with_files with_xorbs old new m
       → ReadsMinimal reads with_files with_xorbs (view old) (view new) m
   minimal_seen with_files with_xorbs old new m (mid, header, sections) = (
     view mid,
@@ -99,7 +112,7 @@ module _ {I J : Type 0} (view : I → J) (reads : J → J → List ℕ → Type 
     sections_seen version with_xorbs old new e (no_files stops) = no_files (stops_seen _ old new e stops)
     sections_seen version with_xorbs old new e (no_xorbs wanted mid files read stops) = no_xorbs wanted (view mid) files (views_seen _ old mid files read) (stops_seen _ mid new e stops)
 
-    pub failure_seen : (header_fails : J → J → CoreError → Type 0) (with_xorbs : Bool) (old new mid : I) (e : CoreError)
+    failure_seen : (header_fails : J → J → CoreError → Type 0) (with_xorbs : Bool) (old new mid : I) (e : CoreError)
         → (header : ReadsShardHeader (λ a b xs. reads (view a) (view b) xs) old mid)
         → SectionsNotRead (λ a b xs. reads (view a) (view b) xs) (λ a b n f. fails (view a) (view b) n f) (version_of header.header.version) with_xorbs mid new e
         → MinimalFails reads fails header_fails with_xorbs (view old) (view new) e

@@ -1,30 +1,25 @@
 -- The rows of records that stay where they are, and what is collected of them.
-use Rattle.std.proofs.Common.{◌≡◌, true, ℕ, ◌+◌, ◌*◌, ◌<◌, ◌≤◌, List, [], ◌∷◌, ◌++◌, length, map, flat_map, take, drop, get_or, Some, refl, sym, ap, ◌∙◌, subst, arith, append_assoc}
-use Rattle.std.specs.List.{AllZip, slice_get}
-use Rattle.std.proofs.lemmas.List.{map-append, take_all, take_more}
-use Rattle.std.proofs.lemmas.List.Sums.{sum_by_more, sum_by-drop_more, sum_by-take-drop}
-use Rattle.std.proofs.lemmas.Option.{get_or_from_slice_get, slice_get_within}
+use Rattle.std.proofs.Common.{◌≡◌, true, ℕ, ◌+◌, ◌*◌, ◌<◌, List, [], ◌∷◌, ◌++◌, length, flat_map, take, drop, get_or, Some, refl, sym, ap, ◌∙◌, subst, arith, append_assoc}
+use Rattle.std.specs.List.{slice_get}
+use Rattle.std.proofs.lemmas.List.{take_all, take_more}
+use Rattle.std.proofs.lemmas.Option.{get_or_from_slice_get}
 use Rattle.xet_records.specs.declared.file_structs.header.FileDataSequenceHeader.{FileDataSequenceHeader}
 use Rattle.xet_records.specs.declared.file_structs.MDBFileInfo.{MDBFileInfo}
 use Rattle.xet_records.specs.declared.xorb_structs.MDBXorbInfo.{MDBXorbInfo}
 use Rattle.xet_records.specs.declared.xorb_structs.XorbChunkSequenceHeader.{XorbChunkSequenceHeader}
 use Rattle.xet_records.specs.FileRecord.{file_records, file_rows_bytes, rows_after, size_of_file}
 use Rattle.xet_records.specs.FileRow.{hash_row, segment_row}
-use Rattle.xet_records.specs.Limits.{MAX_ROWS}
 use Rattle.xet_records.specs.Part.{optional_rows}
-use Rattle.xet_records.specs.RecordKind.{RecordKind}
 use Rattle.xet_records.specs.Rows.{ReadsRow}
 use Rattle.xet_records.specs.XorbRecord.{xorb_records}
 use Rattle.xet_records.proofs.RecordKinds.{file_laws}
 use Rattle.xet_records.proofs.RowsWithin.{HasRows, RowLaws, row_at_index}
-use Rattle.xet_shards.specs.declared.shard_format.read.stored_section.PlacedRecord.{PlacedRecord}
+use Rattle.xet_shards.specs.declared.shard_format.read.placed_record.PlacedRecord.{PlacedRecord}
 use Rattle.xet_shards.specs.declared.shard_format.write.written.WrittenXorbs.{WrittenXorbs}
-use Rattle.xet_shards.specs.Read.StoredSection.{rows_in, HaveTheirRows, StoresRecord}
+use Rattle.xet_shards.specs.Read.PlacedRecord.{StoresRecord}
 use Rattle.xet_shards.specs.Steps.Collecting.{BeginsWithRows, BeginsWithSegments, BeginsWithChunks}
 use Rattle.xet_shards.specs.Steps.Tables.{AddsChunkRows}
-use Rattle.xet_shards.specs.Write.Copying.{CollectsRecord}
 use Rattle.xet_shards.specs.Write.Written.{AddsRecord, IsFileOf, HasWrittenXorbs}
-use Rattle.xet_shards.proofs.Read.Zipped.{zip_at, zipped_length}
 use Rattle.xet_shards.proofs.Write.Written.{xorb_written}
 
 -- rows at the front of bytes
@@ -89,55 +84,3 @@ module _ (p : PlacedRecord XorbChunkSequenceHeader) (r : MDBXorbInfo) (there : S
       xorb_written true v w front r have (of_header r.metadata there.header_is there.is_stored.count) (λ _. chunk_rows)
       (bytes ∙ ap (λ (h : XorbChunkSequenceHeader). v.stored_bytes + h.num_bytes_in_xorb) there.header_is)
       (bytes_on_disk ∙ ap (λ (h : XorbChunkSequenceHeader). v.stored_bytes_on_disk + h.num_bytes_on_disk) there.header_is)
-
--- records whose rows are there
-module _ {H R : Type 0} (K : RecordKind H R) (placed : List (PlacedRecord H)) (i : ℕ) (p : PlacedRecord H) (at : slice_get placed i ≡ Some p) where
-  below : i < length placed
-  below = slice_get_within placed i p at
-
-  is : get_or placed i p ≡ p
-  is = get_or_from_slice_get placed i p p at
-
-  abbrev rows_of : PlacedRecord H → ℕ
-  rows_of q = 1 + K.rows_after q.header
-
-  -- so are those of one of them
-  pub rows_at : HaveTheirRows K placed → 48 * K.rows_after p.header ≤ length p.rows.now
-  rows_at have = subst (λ (q : PlacedRecord H). 48 * K.rows_after q.header ≤ length q.rows.now) is (have.0 i p below)
-
-  pub rows_more : rows_in K (take (i + 1) placed) ≡ rows_in K (take i placed) + (1 + K.rows_after p.header)
-  rows_more = sum_by_more rows_of placed i p below ∙ ap (λ q. rows_in K (take i placed) + rows_of q) is
-
-  pub rows_less : rows_in K (drop i placed) ≡ (1 + K.rows_after p.header) + rows_in K (drop (i + 1) placed)
-  rows_less = sum_by-drop_more rows_of placed i p below ∙ ap (λ q. rows_of q + rows_in K (drop (i + 1) placed)) is
-
-  pub next_has_room : HaveTheirRows K placed → (rows : ℕ) → rows ≡ rows_in K (take i placed) → rows + (1 + K.rows_after p.header) ≤ MAX_ROWS
-  next_has_room have rows counted = omega (arith, counted, have.1, rows_less, sum_by-take-drop rows_of placed i)
-
--- the front of a list of records is collected
-module _ {H R : Type 0} (K : RecordKind H R) (placed : List (PlacedRecord H)) (rs : List R) (places : AllZip (StoresRecord K) placed rs) where
-  -- as they are stored, and as reading returns them
-  pub record IsCollecting (n : ℕ) (Written : List R → Type 0) : Type 0 where
-    pub stored : Written (take n rs)
-    pub read : Written (map K.as_read (take n rs))
-
-  module _ (i : ℕ) (p : PlacedRecord H) (at : slice_get placed i ≡ Some p) where
-    abbrev pub next_there : (r : R) × StoresRecord K p r
-    next_there = ((zip_at (StoresRecord K) placed rs i p places at).0, (zip_at (StoresRecord K) placed rs i p places at).2)
-
-    pub next_at : slice_get rs i ≡ Some next_there.0
-    next_at = (zip_at (StoresRecord K) placed rs i p places at).1
-
-    pub one_more : take (i + 1) rs ≡ take i rs ++ next_there.0 ∷ []
-    one_more = take_more rs i next_there.0 (slice_get_within rs i next_there.0 next_at) ∙ ap (λ y. take i rs ++ y ∷ []) (get_or_from_slice_get rs i next_there.0 next_there.0 next_at)
-
-    pub collecting_on : (Before After : List R → Type 0) → IsCollecting i Before → CollectsRecord K p Before After → IsCollecting (i + 1) After
-    collecting_on Before After before collects = record {
-      stored = subst After (sym one_more) (collects next_there.0 next_there.1 (take i rs) before.stored).0;
-      read = subst After (sym (ap (map K.as_read) one_more ∙ map-append K.as_read (take i rs) (next_there.0 ∷ []))) (collects next_there.0 next_there.1 (map K.as_read (take i rs)) before.read).1;
-    }
-
-  pub collecting_ends : (n : ℕ) (Written : List R → Type 0) → length placed ≤ n → IsCollecting n Written → Written rs × Written (map K.as_read rs)
-  collecting_ends n Written past collecting =
-      let all : take n rs ≡ rs = take_all n rs (omega (arith, past, zipped_length (StoresRecord K) placed rs places)) in
-      (subst Written all collecting.stored, subst (λ l. Written (map K.as_read l)) all collecting.read)

@@ -1,15 +1,14 @@
--- A shard that is written again with layout options, of its records as they are stored.
-use Rattle.std.specs.Prelude.{◌≡◌, ℕ, List, drop, nat_lt}
+-- The sections that bytes begin with, and the layout options that a header and a footer name.
+use Rattle.std.specs.Prelude.{ℕ, List, drop, nat_lt}
 use Rattle.xet_records.specs.declared.file_structs.MDBFileInfo.{MDBFileInfo}
 use Rattle.xet_records.specs.declared.xorb_structs.MDBXorbInfo.{MDBXorbInfo}
 use Rattle.xet_records.specs.FileRecord.{file_records_in}
 use Rattle.xet_records.specs.Version.{version_of}
 use Rattle.xet_records.specs.XorbRecord.{xorb_records}
-use Rattle.xet_shards.specs.declared.shard_format.ends.footer.MDBShardFileFooter.{MDBShardFileFooter}
 use Rattle.xet_shards.specs.declared.shard_format.ends.info.MDBShardInfo.{MDBShardInfo}
 use Rattle.xet_shards.specs.Ends.Ends.{HasHeader}
 use Rattle.xet_shards.specs.Export.KeyedExport.{xorbs_after}
-use Rattle.xet_shards.specs.Write.Layout.{LayoutOptions, footer_value, layout_of}
+use Rattle.xet_shards.specs.Write.Layout.{LayoutOptions}
 use Rattle.xet_shards.specs.Read.SectionReading.{IsSection}
 
 -- the bytes begin with a header and the sections of these files and xorbs
@@ -18,12 +17,6 @@ pub record HasSections (bytes : List ℕ) (files : List MDBFileInfo) (xorbs : Li
   pub header : HasHeader bytes
   pub file_section : IsSection (file_records_in header.version) (drop 48 bytes) files
   pub xorb_section : IsSection xorb_records (drop (xorbs_after files) bytes) xorbs
-
--- the bytes are the layout of files and xorbs with layout options, and this is its footer
-pub record IsWrittenAgain (files : List MDBFileInfo) (xorbs : List MDBXorbInfo)
-    (options : LayoutOptions) (bytes : List ℕ) (footer : MDBShardFileFooter) : Type 0 where
-  pub bytes_are : bytes ≡ layout_of files xorbs options
-  pub footer_is : footer ≡ footer_value files xorbs options
 
 -- the layout options that a header and a footer name: a table is in if it has a row
 abbrev pub options_of : MDBShardInfo → LayoutOptions

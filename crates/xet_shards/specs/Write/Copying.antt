@@ -1,12 +1,11 @@
--- A record that is copied from an input into a section that is written, and records of a section
--- in memory, of which only what their tables need is gathered.
-use Rattle.std.specs.Prelude.{ℕ, List, [], ◌∷◌, ◌++◌, map, Option}
-use Rattle.std.specs.List.{AllZip}
+-- A record that is copied from an input into a section that is written, and a record in memory, of
+-- which only what its tables need is gathered.
+use Rattle.std.specs.Prelude.{ℕ, List, [], ◌∷◌, ◌++◌, Option}
 use Rattle.std.specs.Io.KnownBytes.{Appends}
 use Rattle.xet_records.specs.RecordKind.{RecordKind}
 use Rattle.xet_records.specs.Reading.{ReadsRowsAfter}
-use Rattle.xet_shards.specs.declared.shard_format.read.stored_section.PlacedRecord.{PlacedRecord}
-use Rattle.xet_shards.specs.Read.StoredSection.{StoresRecord}
+use Rattle.xet_shards.specs.declared.shard_format.read.placed_record.PlacedRecord.{PlacedRecord}
+use Rattle.xet_shards.specs.Read.PlacedRecord.{StoresRecord}
 
 -- the rows after a header were read, and its record was written and added to what was gathered
 pub record CopiesRecord {H R : Type 0} (K : RecordKind H R) (header : H) (Took : List ℕ → Type 0)
@@ -22,9 +21,3 @@ abbrev pub CollectsRecord : {H R : Type 0} → RecordKind H R → PlacedRecord H
 CollectsRecord {R = R} K p Before After =
     (r : R) → StoresRecord K p r → (front : List R) → Before front
     → After (front ++ r ∷ []) × After (front ++ K.as_read r ∷ [])
-
--- the records at these places are what was gathered, as they are stored or as reading returns them
-abbrev pub CollectsAll : {H R : Type 0} → RecordKind H R → List (PlacedRecord H)
-    → (List R → Type 0) → Type 0
-CollectsAll {R = R} K placed Written =
-    (rs : List R) → AllZip (StoresRecord K) placed rs → Written rs × Written (map K.as_read rs)

@@ -9,11 +9,9 @@
 //! the invariant `HasRead`, the records so far and the rows that are left. `deserialize` of both
 //! records is a call of `read_record`, and so is `read_record_at`, which reads the record at a row.
 //! Headers of xorbs and ranges of files come from one walk (`walk_section`) that keeps something of
-//! each record (`WalkItem`) and reads past the rows after its header. Of a section in memory
-//! `read_stored_section` keeps where each record is, as it is stored, in any order of hashes. The
-//! definitions and lemmas are about any kind of records (`RecordKind`);
-//! `xet_records/proofs/RecordKinds.antt` proves what files and xorbs have in common (`KindLaws`),
-//! which the do-nothing call `laws` of the trait says.
+//! each record (`WalkItem`) and reads past the rows after its header. The definitions and lemmas
+//! are about any kind of records (`RecordKind`); `xet_records/proofs/RecordKinds.antt` proves what
+//! files and xorbs have in common (`KindLaws`), which the do-nothing call `laws` of the trait says.
 //! `proofs/Read/SectionUnique.antt` shows that bytes are a section in at most one way
 //! (`xet_core_structures::laws::sections_are_read_in_one_way`), and `proofs/Read/Readback.antt`
 //! that a layout with any options has the sections of its files and of its xorbs (`FitsSection` of
@@ -22,9 +20,8 @@
 //! equal bytes are equal.
 
 pub(super) mod file_ranges;
+pub(crate) mod placed_record;
 pub(super) mod section_reader;
 pub(super) mod section_walk;
-pub(crate) mod stored_section;
-pub(crate) mod stored_shard;
 pub(super) mod table_reader;
 pub(super) mod truncated_hashes;

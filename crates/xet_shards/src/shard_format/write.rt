@@ -22,14 +22,13 @@
 //! `proofs/Write/Written.antt`), and so `layout` where the options are plain. Writers without maps
 //! (keyed export, `MDBMinimalShard`, union and difference of bytes) add one record after another to
 //! `WrittenFiles` and `WrittenXorbs`, and then call `write_end`. Union and difference use
-//! `WrittenSection::copy`, which writes each row as it is read and holds no record. Of records that
-//! lie in memory, `collect_records` collects what the tables need.
+//! `WrittenSection::copy`, which writes each row as it is read and holds no record. Of a record that
+//! is written elsewhere, `WrittenSection::collect` collects what the tables need.
 
 pub(super) mod file_writer;
 pub(super) mod record_table;
 pub(super) mod row_order;
 pub(crate) mod shard_end;
-pub(crate) mod unindexed;
 pub(crate) mod view_writer;
 pub(crate) mod writer;
 pub(crate) mod written;

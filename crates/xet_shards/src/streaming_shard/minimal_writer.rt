@@ -20,10 +20,9 @@ ghost use Rattle.xet_shards.specs.Steps.MinimalWriting.{WritesMarked, marked_if_
 
 use super::file_start::{FileStart, starts_of, write_marked};
 use super::minimal_shard::MDBMinimalShard;
+use crate::shard_format::write::view_writer::write_file_view;
 use crate::shard_format::{MDBShardFileHeader, MDBShardInfo};
-use crate::shard_writer::{
-    LayoutOptions, WrittenFiles, WrittenSection, WrittenXorbs, write_end, write_file_view,
-};
+use crate::shard_writer::{LayoutOptions, WrittenFiles, WrittenSection, WrittenXorbs, write_end};
 use std::alloc::Global;
 use std::io;
 use std::io::{ErrorKind, Write};

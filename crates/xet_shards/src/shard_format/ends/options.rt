@@ -1,8 +1,10 @@
 //! Layout options: which tables a shard is written with, its version, key and times.
 
 ghost use Rattle.std.specs.Prelude.{◌≡◌};
+ghost use Rattle.xet_shards.specs.Export.Rewriting.{options_of};
 ghost use Rattle.xet_shards.specs.Write.Layout.{plain_options};
 
+use super::info::MDBShardInfo;
 use xet_base::merklehash::HMACKey;
 use xet_records::record_reader::FormatVersion;
 
@@ -34,6 +36,23 @@ impl LayoutOptions {
             key: HMACKey::default(),
             creation: 0,
             expiry: expiry.unwrap_or(u64::MAX),
+        }
+    }
+
+    /// The layout options of a shard with this header and footer. A table is in if the footer says
+    /// that it has a row.
+    pub fn of_info(info: &MDBShardInfo) -> LayoutOptions
+        ensures { result ≡ options_of info.now }
+    {
+        let footer = &info.metadata;
+        LayoutOptions {
+            version: info.header.format_version(),
+            file_table: footer.file_lookup_num_entry > 0,
+            xorb_table: footer.xorb_lookup_num_entry > 0,
+            chunk_table: footer.chunk_lookup_num_entry > 0,
+            key: footer.chunk_hash_hmac_key,
+            creation: footer.shard_creation_timestamp,
+            expiry: footer.shard_key_expiry,
         }
     }
 }

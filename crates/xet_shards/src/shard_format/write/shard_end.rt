@@ -3,7 +3,7 @@
 //! Making it may fail for lack of memory. Then it is written, or put into memory that has room for
 //! it, which cannot fail.
 
-ghost use Rattle.std.specs.Prelude.{◌≡◌, ◌+◌, ◌*◌, ◌≤◌, length, min, true, List, All, OnOk, IfOk, IfErr, flat_map, if◌then◌else◌};
+ghost use Rattle.std.specs.Prelude.{◌≡◌, ◌+◌, ◌*◌, ◌≤◌, length, true, List, All, OnOk, IfOk, IfErr, flat_map, if◌then◌else◌};
 ghost use Rattle.std.specs.Io.KnownBytes.{Appends};
 ghost use Rattle.xet_base.specs.declared.error.CoreError.{CoreError};
 ghost use Rattle.xet_base.specs.Errors.{IsWriteError};
@@ -125,24 +125,6 @@ pub fn write_end<W: Write>(
     let end = ShardEnd::make(files, xorbs, options)?;
     end.write(writer)?;
     Ok(end.footer)
-}
-
-/// The size of the tables and the footer of a shard with these sections, in bytes, or `usize::MAX`
-/// if it passes that.
-pub fn end_size(files: &WrittenFiles, xorbs: &WrittenXorbs) -> usize
-    ensures { result ≡ min 18446744073709551615
-        (length files.now.table.bytes.items + length xorbs.now.table.bytes.items
-        + 16 * length xorbs.now.chunk_rows.items + 200) }
-{
-    let chunk_table = CHUNK_ROW_SIZE.saturating_mul(xorbs.chunk_rows.len());
-    let tables = files
-        .table
-        .bytes
-        .len()
-        .saturating_add(xorbs.table.bytes.len());
-    tables
-        .saturating_add(chunk_table)
-        .saturating_add(FOOTER_SIZE as usize)
 }
 
 // A table, or no bytes if it is left out.

@@ -7,12 +7,11 @@ ghost use Rattle.xet_base.specs.Errors.{IsWriteError};
 ghost use Rattle.xet_base.specs.Hash.{all_ones};
 ghost use Rattle.xet_records.specs.Copying.{CopyFails};
 ghost use Rattle.xet_shards.specs.Write.Section.{total_rows};
-ghost use Rattle.xet_shards.specs.Read.StoredSection.{HaveTheirRows};
-ghost use Rattle.xet_shards.specs.Write.Copying.{CopiesRecord, CollectsRecord, CollectsAll};
+ghost use Rattle.xet_shards.specs.Write.Copying.{CopiesRecord, CollectsRecord};
 ghost use Rattle.xet_records.specs.Limits.{MAX_ROWS};
 
 use super::xorb_writer::ChunkTableRow;
-use crate::shard_format::read::stored_section::PlacedRecord;
+use crate::shard_format::read::placed_record::PlacedRecord;
 use std::alloc::Global;
 use std::io::Write;
 use xet_base::error::Result;
@@ -98,25 +97,6 @@ pub trait WrittenSection {
 
     ghost counts_rows: { (written : Self) (records : List Self.Record)
         → has_written written records → rows written ≡ total_rows Self.Record.kind records };
-}
-
-/// Collects what the tables of records need that are written elsewhere. `OutOfMemory` if an
-/// allocation fails.
-pub fn collect_records<Sec: WrittenSection + Drop>(
-    alloc: Global,
-    placed: &[PlacedRecord<'_, <Sec::Record as SectionRecord>::Header>],
-) -> Result<Sec>
-    requires { HaveTheirRows Sec.Record.kind placed.now }
-    ensures { MatchResult result
-        (λ written. CollectsAll Sec.Record.kind placed.now (Sec.has_written written))
-        (λ e. e ≡ CoreError.OutOfMemory) }
-{
-    Sec::Record::laws();
-    let mut written = Sec::new(alloc);
-    for record in placed {
-        written.collect(record)?;
-    }
-    Ok(written)
 }
 
 /// The records written so far: how many there are, their rows, and the bytes of their lookup table.

@@ -17,7 +17,7 @@ ghost use Rattle.xet_records.specs.Limits.{MAX_ROWS};
 
 use super::written::{RecordTable, WrittenSection, WrittenXorbs};
 use crate::shard_format::CHUNK_ROW_SIZE;
-use crate::shard_format::read::stored_section::PlacedRecord;
+use crate::shard_format::read::placed_record::PlacedRecord;
 use std::alloc::Global;
 use std::io::Write;
 use xet_base::error::{CoreError, Result};

@@ -8,8 +8,7 @@ use Rattle.xet_records.proofs.RecordKinds.{xorb_laws}
 use Rattle.xet_shards.specs.StreamingShard.MinimalShard.{has_start, ascending_hashes, eligible_in}
 use Rattle.xet_shards.proofs.ShardInMemory.Walks.{flat_map-push}
 use Rattle.xet_shards.proofs.StreamingShard.MinimalShard.{ascending_hashes-nil}
-use Rattle.xet_shards.proofs.StreamingShard.MinimalReading.{no_views, hashes_listed}
-use Rattle.xet_shards.proofs.StreamingShard.MinimalCopying.{one_xorb_read}
+use Rattle.xet_shards.proofs.StreamingShard.MinimalReading.{no_views, hashes_listed, one_xorb_read}
 use Rattle.xet_shards.proofs.streaming_shard.eligible.read_eligible_after.Goals as goal
 
 pub loop-buffer-init : goal.loop-buffer-init

@@ -9,8 +9,7 @@ use Rattle.xet_records.specs.ViewReading.{ReadsNextView}
 use Rattle.xet_records.proofs.RecordKinds.{file_laws, laws_in}
 use Rattle.xet_shards.specs.StreamingShard.MinimalShard.{start_cmp, start_of_file, has_start}
 use Rattle.xet_shards.proofs.ShardInMemory.Walks.{flat_map-push}
-use Rattle.xet_shards.proofs.StreamingShard.MinimalReading.{no_views}
-use Rattle.xet_shards.proofs.StreamingShard.MinimalCopying.{one_file_read}
+use Rattle.xet_shards.proofs.StreamingShard.MinimalReading.{no_views, one_file_read}
 use Rattle.xet_shards.proofs.streaming_shard.file_start.read_starts.Goals as goal
 
 pub loop-buffer-init : goal.loop-buffer-init
