@@ -14,17 +14,14 @@ use Rattle.xet_shards.specs.declared.shard_format.ends.info.MDBShardInfo.{MDBSha
 use Rattle.xet_shards.specs.Ends.Ends.{HasHeaderAndFooter, FitsFooter}
 use Rattle.xet_shards.specs.Write.WithOptions.{FitsSection}
 use Rattle.xet_shards.specs.Export.KeyedExport.{xorbs_after}
-use Rattle.xet_shards.specs.Write.Layout.{LayoutOptions, if_included, footer_value, header_value, info_of, layout_of, shard_footer_bytes}
+use Rattle.xet_shards.specs.Write.Layout.{LayoutOptions, if_included, footer_value, info_of, layout_of, shard_footer_bytes}
 use Rattle.xet_shards.specs.Export.Rewriting.{HasSections, options_of}
-use Rattle.xet_shards.specs.Write.Section.{section_bytes}
 use Rattle.xet_shards.specs.Read.SectionReading.{IsSection}
 use Rattle.xet_shards.specs.Write.Tables.{ChunkTableRow, starts, chunk_table, table_bytes, chunk_table_bytes, chunk_table_row_bytes}
 use Rattle.xet_shards.proofs.Ends.EndsUnique.{ends_of_layout}
 use Rattle.xet_shards.proofs.Export.KeyedExport.{footer_last}
-use Rattle.xet_shards.proofs.Write.Layouts.{length-file_section}
-use Rattle.xet_shards.proofs.Ends.Loading.{header_of, one_version}
-use Rattle.xet_shards.proofs.Read.Readback.{layout_from_48, file_section_in, xorb_section_in}
-use Rattle.xet_shards.proofs.Write.Sections.{files_laws, fits_ever}
+use Rattle.xet_shards.proofs.Ends.Loading.{one_version}
+use Rattle.xet_shards.proofs.Write.Sections.{files_laws}
 use Rattle.xet_shards.proofs.Read.SectionUnique.{only_list}
 
 -- bytes have the sections of one list each
@@ -34,19 +31,6 @@ only_sections bytes fs gs xs ys a b =
     let files = only_list (file_records_in version) (files_laws version) (drop 48 bytes) fs gs
     (subst (λ v. IsSection (file_records_in v) (drop 48 bytes) fs) (one_version bytes a.header b.header) a.file_section) b.file_section in
     (files, only_list xorb_records xorb_laws (drop (xorbs_after gs) bytes) xs ys (subst (λ rs. IsSection xorb_records (drop (xorbs_after rs) bytes) xs) files a.xorb_section) b.xorb_section)
-
--- a layout has the sections of its records
-pub sections_of_layout : (files : List MDBFileInfo) (xorbs : List MDBXorbInfo) (options : LayoutOptions) → FitsSection (file_records_in options.version) files → FitsSection xorb_records xorbs
-    → HasSections (layout_of files xorbs options) files xorbs
-sections_of_layout files xorbs options files_fit xorbs_fit =
-    let bytes = layout_of files xorbs options in
-    let fits = fits_ever file_records options.version files files_fit in
-    let size : 48 + length (section_bytes file_records files) ≡ xorbs_after files = omega (arith, length-file_section files (λ k r below. (fits.stored k r below).widths)) in
-    record {
-      header = header_of bytes _ (header_value options.version) (layout_from_48 files xorbs options) (options.version, refl);
-      file_section = subst (λ v. IsSection (file_records_in v) (drop 48 bytes) files) (sym (version_known options.version)) (file_section_in files xorbs options files_fit);
-      xorb_section = subst (λ n. IsSection xorb_records (drop n bytes) xorbs) size (xorb_section_in files xorbs options xorbs_fit);
-    }
 
 -- sections may hold what they hold
 pub sections_fit : (bytes : List ℕ) (files : List MDBFileInfo) (xorbs : List MDBXorbInfo) → (have : HasSections bytes files xorbs)

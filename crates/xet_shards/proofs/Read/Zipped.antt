@@ -59,21 +59,9 @@ zipped_and P R Q follows [] (b ∷ bs) all related = absurd related
 zipped_and P R Q follows (a ∷ ks) [] all related = absurd related
 zipped_and P R Q follows (a ∷ ks) (b ∷ bs) all (here, rest) = (follows a b (all 0 a (omega arith)) here, zipped_and P R Q follows ks bs (All-drop P 1 (a ∷ ks) all) rest)
 
--- each item of a list is related to what a function makes of it
-pub zipped_made : {A B : Type 0} (R : A → B → Type 0) (f : A → B) (ks : List A) → ((a : A) → Contains ks a → R a (f a)) → AllZip R ks (map f ks)
-zipped_made R f [] each = tt
-zipped_made R f (a ∷ ks) each = (each a (0, omega arith, refl), zipped_made R f ks (λ b member. each b (Contains-append_right (a ∷ []) ks b member)))
-
 -- what is at a place of one of two lists that are related item by item
 pub zip_at : {A B : Type 0} (P : A → B → Type 0) (xs : List A) (ys : List B) (i : ℕ) (a : A) → AllZip P xs ys → slice_get xs i ≡ Some a → (b : B) × (slice_get ys i ≡ Some b) × P a b
 zip_at P [] ys i a all at = absurd (none-some a at)
 zip_at P (x ∷ xs) [] i a all at = absurd all
 zip_at P (x ∷ xs) (y ∷ ys) zero a all at = (y, refl, subst (λ z. P z y) (same_Some x a at) all.0)
 zip_at P (x ∷ xs) (y ∷ ys) (suc i) a all at = zip_at P xs ys i a all.1 at
-
-pub zip_back : {A B : Type 0} (P : A → B → Type 0) (xs : List A) (ys : List B) (i : ℕ) (b : B) → AllZip P xs ys → slice_get ys i ≡ Some b → (a : A) × (slice_get xs i ≡ Some a) × P a b
-zip_back P [] [] i b all at = absurd (none-some b at)
-zip_back P (x ∷ xs) [] i b all at = absurd all
-zip_back P [] (y ∷ ys) i b all at = absurd all
-zip_back P (x ∷ xs) (y ∷ ys) zero b all at = (x, refl, subst (P x) (same_Some y b at) all.0)
-zip_back P (x ∷ xs) (y ∷ ys) (suc i) b all at = zip_back P xs ys i b all.1 at

@@ -1,20 +1,16 @@
 -- What records that come after others add to a section and to its tables.
 use Rattle.std.proofs.Common.{◌≡◌, ℕ, ◌+◌, List, [], ◌∷◌, ◌++◌, map, flat_map, refl, sym, ap, ◌∙◌, append_assoc, append-nil}
 use Rattle.std.specs.List.{enumerate_from}
-use Rattle.std.specs.List.Sorted.{IsPermutation, IsSortedBy}
-use Rattle.std.specs.Ordering.{is_lt}
 use Rattle.std.proofs.lemmas.List.{map-append}
-use Rattle.std.proofs.lemmas.List.Sorted.{IsPermutation-trans, IsPermutation-append, IsPermutation-map}
 use Rattle.std.proofs.lemmas.Grind.{flat_map-append}
 use Rattle.std.proofs.lemmas.List.Sums.{sum_by-append}
 use Rattle.xet_records.specs.RecordKind.{RecordKind}
 use Rattle.xet_records.specs.XorbRecord.{xorb_records}
 use Rattle.xet_records.specs.declared.xorb_structs.MDBXorbInfo.{MDBXorbInfo}
 use Rattle.xet_records.specs.declared.xorb_structs.XorbChunkSequenceEntry.{XorbChunkSequenceEntry}
-use Rattle.xet_shards.specs.Write.Section.{with_fronts, total_rows, section_bytes}
-use Rattle.xet_shards.specs.Write.Tables.{ChunkTableRow, chunk_table_row_cmp, hash_in, start_of, starts, chunk_table_rows_from, chunk_table_rows, chunk_table}
+use Rattle.xet_shards.specs.Write.Section.{with_fronts, total_rows}
+use Rattle.xet_shards.specs.Write.Tables.{ChunkTableRow, hash_in, start_of, starts, chunk_table_rows_from, chunk_table_rows}
 use Rattle.xet_shards.specs.Write.Ranges.{start_later, chunk_row_later}
-use Rattle.xet_shards.proofs.Write.ChunkSorting.{sorted_is_table}
 
 with_fronts-append : {X : Type 0} (front xs ys : List X) → with_fronts front (xs ++ ys) ≡ with_fronts front xs ++ with_fronts (front ++ xs) ys
 with_fronts-append {X} front [] ys = ap (λ (before : List X). with_fronts before ys) (sym (append-nil front))
@@ -34,12 +30,6 @@ module _ {H R : Type 0} (K : RecordKind H R) where
   starts-append xs ys =
       ap (map (start_of K)) (with_fronts-append [] xs ys) ∙ map-append (start_of K) (with_fronts [] xs) (with_fronts xs ys)
       ∙ ap (λ es. starts K xs ++ es) (ap (λ (before : List R). map (start_of K) (with_fronts before ys)) (sym (append-nil xs)) ∙ starts_later xs [] ys)
-
-  pub section_bytes-append : (xs ys : List R) → section_bytes K (xs ++ ys) ≡ flat_map K.record_bytes xs ++ section_bytes K ys
-  unfolding section_bytes
-  section_bytes-append xs ys =
-      ap (λ bytes. bytes ++ K.header_bytes K.bookend) (flat_map-append K.record_bytes xs ys)
-      ∙ append_assoc (flat_map K.record_bytes xs) (flat_map K.record_bytes ys) (K.header_bytes K.bookend)
 
 rows_later : (rows row : ℕ) (es : List (ℕ × XorbChunkSequenceEntry))
     → map (λ (c : ℕ × XorbChunkSequenceEntry). record { word = c.1.chunk_hash.word0; row = rows + row; index = c.0 }) es
@@ -65,12 +55,3 @@ pub chunk_table_rows-append : (xs ys : List MDBXorbInfo) → chunk_table_rows (x
 chunk_table_rows-append xs ys =
     ap (flat_map rows_of) (with_fronts-append [] xs ys) ∙ flat_map-append rows_of (with_fronts [] xs) (with_fronts xs ys)
     ∙ ap (λ rows. chunk_table_rows xs ++ rows) (ap (λ (before : List MDBXorbInfo). flat_map rows_of (with_fronts before ys)) (sym (append-nil xs)) ∙ chunk_rows_later xs [] ys)
-
--- the rows of two chunk tables, with the row numbers of the second raised, are in ascending order the table of both
-pub chunk_table-append : (xs ys : List MDBXorbInfo) (first second sorted : List ChunkTableRow) → IsPermutation (chunk_table_rows xs) first → IsPermutation (chunk_table_rows ys) second
-    → IsPermutation (first ++ map (chunk_row_later (total_rows xorb_records xs)) second) sorted → IsSortedBy (λ x y. is_lt (chunk_table_row_cmp x y)) sorted → chunk_table (xs ++ ys) ≡ sorted
-chunk_table-append xs ys first second sorted one other moved in_order =
-    let later : ChunkTableRow → ChunkTableRow = chunk_row_later (total_rows xorb_records xs) in
-    sorted_is_table (xs ++ ys) (chunk_table_rows xs ++ map later (chunk_table_rows ys)) sorted (sym (chunk_table_rows-append xs ys))
-    (IsPermutation-trans (chunk_table_rows xs ++ map later (chunk_table_rows ys)) (first ++ map later second) sorted
-    (IsPermutation-append (chunk_table_rows xs) first (map later (chunk_table_rows ys)) (map later second) one (IsPermutation-map later (chunk_table_rows ys) second other)) moved) in_order
