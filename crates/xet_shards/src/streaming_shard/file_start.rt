@@ -86,8 +86,8 @@ pub(super) fn read_starts<M, I: ByteInput<M>>(
     Ok(starts)
 }
 
-/// Adds where a file starts, if it has a segment.
-pub(super) fn push_start(starts: &mut Vec<FileStart>, file: &MDBFileInfoView) -> Result<()>
+// Adds where a file starts, if it has a segment.
+fn push_start(starts: &mut Vec<FileStart>, file: &MDBFileInfoView) -> Result<()>
     ensures ok { OnOk result (starts.new.items ≡ starts.old.items ++ start_of_file file.now) }
     ensures causes { IfErr result (λ e. e ≡ CoreError.OutOfMemory) }
 {

@@ -194,8 +194,8 @@ fn all_have_verification(files: &[MDBFileInfoView]) -> bool
     true
 }
 
-/// Version 3, no tables, no key, the creation, and an expiry or 0.
-pub(super) fn minimal_options(now: u64, expiry: Option<u64>) -> LayoutOptions
+// Version 3, no tables, no key, the creation, and an expiry or 0.
+fn minimal_options(now: u64, expiry: Option<u64>) -> LayoutOptions
     ensures { result ≡ minimal_options now expiry }
 {
     LayoutOptions {
@@ -257,9 +257,9 @@ fn write_xorbs<W: Write, F: Fn(&MDBXorbInfoView) -> bool>(
     Ok(written)
 }
 
-/// Adds and writes a xorb with a mark on each chunk that is a start, if it is wanted. Rows of a chunk
-/// table are not collected. The error is the writer's, or `OutOfMemory` if an allocation fails.
-pub(super) fn add_if<W: Write>(
+// Adds and writes a xorb with a mark on each chunk that is a start, if it is wanted. Rows of a chunk
+// table are not collected. The error is the writer's, or `OutOfMemory` if an allocation fails.
+fn add_if<W: Write>(
     wanted: bool,
     writer: &mut W,
     written: &mut WrittenXorbs,
