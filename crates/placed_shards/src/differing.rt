@@ -1,10 +1,5 @@
-//! The hashes under which shards have records that do not agree.
-//!
-//! `sorted_places` brings the places of all records into the order of their hashes, so that those
-//! with one hash are a run (`run_end`). Of a run, places are kept whose records agree, and of which
-//! none is a copy of another: a record that is a copy of a kept one is passed, since it agrees with
-//! whatever that one does, and another is compared with each. So a file is read only to be compared,
-//! and nothing that was read is held.
+//! The hashes under which shards have records that do not agree. Records with one hash are found by
+//! sorting the places of all, and each is compared with those kept of its hash.
 
 ghost use Rattle.std.specs.Prelude.{◌≡◌, ◌≢◌, ◌↔◌, ◌<◌, IsTrue, List, Contains, Some, length, map, MatchOption, MatchResult};
 ghost use Rattle.std.specs.List.Sorted.{IsSorted};

@@ -1,11 +1,5 @@
-//! What keeps shards from being merged: records with one hash that do not agree, and records that
-//! no shard may have.
-//!
-//! Shards agree if each two xorbs with one hash are equal, and each two files with one hash have
-//! equal segments, and equal optional parts wherever both have them. Which do not is found by
-//! sorting (`differing`), so that records are compared only with others of their hash, and every
-//! hash under which some do not agree is found. Unlike a union, this looks at all bytes of records
-//! with one hash: of shards that are mostly the same it takes longer than their merge.
+//! What keeps shards from being merged: records with one hash that do not agree, and records that no
+//! shard may have. Unlike a union, this looks at all bytes of records with one hash.
 
 ghost use Rattle.std.specs.Prelude.{◌≡◌, ⊤, ◌++◌, List, map, All, true, MatchOption, MatchResult, OnOk, IfErr};
 ghost use Rattle.std.specs.List.{AllZip};

@@ -1,14 +1,8 @@
-//! Shards that are not written yet: the records of shards where they lie in memory, what is made of
+//! Shards that are not written yet: records of shards where they lie in memory, what is made of
 //! them, and their bytes.
 //!
-//! A `PlacedShard` has the bytes of each of its records, and the options of its layout. `open` makes
-//! one of bytes, `by_tables` one of a range of them, `change` one of another, `unions` one of two,
-//! `merge` and `strict` one of many, and `sink` writes one. So which records a shard has, in which
-//! version it is written, and to where, are three choices, made one by one. `findings` says what keeps
-//! shards from being merged.
-//!
-//! A record is its bytes, where they lie (`PlacedFile`, `PlacedXorb`), and contracts see the record
-//! that they are. What is the same for files and xorbs is written over `PlacedRecord`.
+//! Which records a shard has (`open`, `by_tables`, `change`, `unions`, `merge`, `strict`), in which
+//! version it is written, and to where (`sink`) are three choices, made one by one.
 #![tactic(auto)]
 
 mod agreement;
