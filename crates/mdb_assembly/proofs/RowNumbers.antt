@@ -9,7 +9,7 @@ use Rattle.std.proofs.Math.Seq.{drop-append_seam}
 use Rattle.xet_base.specs.Bytes.{u32_bytes, u64_bytes}
 use Rattle.xet_base.proofs.Bytes.{length-u32_bytes, length-u64_bytes, u32_bytes-front}
 use Rattle.xet_shards.specs.Read.TableReading.{FitsStart, FitsTriple, triple_of}
-use Rattle.xet_shards.specs.Write.Ranges.{start_later, chunk_row_later}
+use Rattle.xet_shards.specs.Write.RaisedRows.{start_later, chunk_row_later}
 use Rattle.xet_shards.specs.Write.Tables.{start_row, chunk_table_row_bytes}
 use Rattle.xet_shards.specs.declared.shard_format.write.xorb_writer.ChunkTableRow.{ChunkTableRow}
 use Rattle.mdb_assembly.specs.Assembly.{NumberedRow, row_bytes, row_later, IsRowOf}

@@ -14,7 +14,7 @@ use Rattle.xet_core_structures.specs.TwoShards.ByteResults.{LoadRefusal}
 use Rattle.xet_core_structures.specs.declared.shard_format.MDBShardInfo.{MDBShardInfo}
 use Rattle.xet_shards.specs.Read.TableReading.{FitsStart, FitsTriple, triple_of}
 use Rattle.xet_shards.specs.Write.Layout.{plain_options, footer_value, shard_footer_bytes}
-use Rattle.xet_shards.specs.Write.Ranges.{start_later, chunk_row_later}
+use Rattle.xet_shards.specs.Write.RaisedRows.{start_later, chunk_row_later}
 use Rattle.xet_shards.specs.declared.shard_writer.LayoutOptions.{LayoutOptions}
 use Rattle.xet_shards.specs.declared.shard_format.write.xorb_writer.ChunkTableRow.{ChunkTableRow}
 use Rattle.xet_shards.specs.declared.shard_format.ends.footer.MDBShardFileFooter.{MDBShardFileFooter}

@@ -7,7 +7,7 @@ ghost use Rattle.xet_base.specs.Errors.{IsDeviceError};
 ghost use Rattle.xet_records.specs.XorbRow.{xorb_header_row};
 ghost use Rattle.xet_records.specs.XorbRecord.{xorb_bookend};
 ghost use Rattle.xet_shards.specs.Read.TableReading.{FitsStart, FitsTriple, triple_of};
-ghost use Rattle.xet_shards.specs.Write.Ranges.{start_later, chunk_row_later};
+ghost use Rattle.xet_shards.specs.Write.RaisedRows.{start_later, chunk_row_later};
 ghost use Rattle.xet_shards.specs.Write.Tables.{start_row, chunk_table_row_bytes};
 ghost use Rattle.xet_shards.specs.declared.shard_format.write.xorb_writer.ChunkTableRow.{ChunkTableRow};
 ghost use Rattle.mdb_assembly.specs.Assembly.{AddFails, AddsFiles, AddsPart, AddsXorbs, EndsWith, FitFiles, FitTable, FitXorbs, HasChunkRows, HasStarts, NoneWritten, StepFails, bytes_in, missing_header, state_of};

@@ -4,7 +4,7 @@ ghost use Rattle.std.specs.Prelude.{◌≡◌, ◌+◌, ◌<◌, ◌≤◌, ◌^
 ghost use Rattle.xet_base.specs.Bytes.{u32_bytes};
 ghost use Rattle.xet_base.specs.Errors.{IsInvalidShard};
 ghost use Rattle.xet_shards.specs.Read.TableReading.{FitsStart, FitsTriple, triple_of};
-ghost use Rattle.xet_shards.specs.Write.Ranges.{start_later, chunk_row_later};
+ghost use Rattle.xet_shards.specs.Write.RaisedRows.{start_later, chunk_row_later};
 ghost use Rattle.xet_shards.specs.Write.Tables.{start_row, chunk_table_row_bytes};
 ghost use Rattle.xet_shards.specs.declared.shard_format.write.xorb_writer.ChunkTableRow.{ChunkTableRow};
 ghost use Rattle.mdb_assembly.specs.Assembly.{NumberedRow, row_bytes, row_later, IsRowOf};

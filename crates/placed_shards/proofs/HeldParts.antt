@@ -12,12 +12,12 @@ use Rattle.xet_records.specs.XorbRecord.{xorb_records}
 use Rattle.xet_records.proofs.RecordKinds.{xorb_laws}
 use Rattle.xet_shards.specs.Content.Joins.{IsJoinOf, AgreePairwise}
 use Rattle.xet_shards.specs.Content.Shard.{Shard}
-use Rattle.xet_shards.specs.Export.Rewriting.{options_of}
+use Rattle.xet_shards.specs.Read.SectionsBehindHeader.{options_of}
 use Rattle.xet_shards.specs.Read.SectionReading.{files_of}
 use Rattle.xet_shards.proofs.Write.Sections.{files_laws}
 use Rattle.xet_shards.proofs.Write.WithOptions.{files_ascend, xorbs_ascend}
 use Rattle.xet_core_structures.specs.Records.ShardContents.{HasShard, HoldsShard, IsSectionOf, files_at, xorbs_at}
-use Rattle.xet_core_structures.specs.Steps.ShardContents.{IsListOf}
+use Rattle.xet_core_structures.specs.Steps.ShardContentsSteps.{IsListOf}
 use Rattle.xet_core_structures.specs.TwoShards.ByteResults.{keyed_options}
 use Rattle.xet_core_structures.proofs.Records.ListMaps.{values-list_map}
 use Rattle.xet_core_structures.proofs.Records.ShardContents.{section_ascends}

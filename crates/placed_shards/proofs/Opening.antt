@@ -20,13 +20,13 @@ use Rattle.xet_shards.specs.declared.shard_format.ends.info.MDBShardInfo.{MDBSha
 use Rattle.xet_shards.specs.declared.shard_format.ends.options.LayoutOptions.{LayoutOptions}
 use Rattle.xet_shards.specs.Content.Shard.{Shard}
 use Rattle.xet_shards.specs.Ends.Ends.{HasHeaderAndFooter}
-use Rattle.xet_shards.specs.Export.Rewriting.{options_of}
+use Rattle.xet_shards.specs.Read.SectionsBehindHeader.{options_of}
 use Rattle.xet_shards.specs.Read.SectionReading.{files_of, IsSection}
 use Rattle.xet_shards.specs.Write.WithOptions.{Ascends}
 use Rattle.xet_shards.proofs.Ends.EndsUnique.{not_too_short, not_unsupported, only_info}
 use Rattle.xet_core_structures.specs.Records.ShardContents.{HasShard, IsMalformed, IsTruncated, files_at, xorbs_at}
 use Rattle.xet_core_structures.specs.Steps.MergeJoin.{SectionRefusal}
-use Rattle.xet_core_structures.specs.Steps.ShardContents.{IsListOf}
+use Rattle.xet_core_structures.specs.Steps.ShardContentsSteps.{IsListOf}
 use Rattle.xet_core_structures.proofs.Records.RecordsAsRead.{all_handed}
 use Rattle.xet_core_structures.proofs.Records.ListMaps.{lists_hold, shard_of, values-list_map}
 use Rattle.xet_core_structures.proofs.Records.ShardContents.{hashes_handed, held_well, held_whole, only_shard, rows_handed}

@@ -33,7 +33,7 @@ use Rattle.xet_shards.specs.Write.WithOptions.{Ascends}
 use Rattle.xet_shards.proofs.Write.Sections.{files_laws}
 use Rattle.xet_shards.proofs.Write.Tables.{length-table_bytes}
 use Rattle.xet_core_structures.specs.Records.ShardContents.{files_at, xorbs_at}
-use Rattle.xet_core_structures.specs.Steps.ShardContents.{IsListOf}
+use Rattle.xet_core_structures.specs.Steps.ShardContentsSteps.{IsListOf}
 use Rattle.xet_core_structures.specs.TwoShards.ByteResults.{keyed_options}
 use Rattle.xet_core_structures.proofs.Records.ShardContents.{rows_handed}
 use Rattle.placed_shards.specs.declared.range.HashRange.{HashRange}

@@ -18,7 +18,7 @@ use Rattle.xet_records.specs.XorbRecord.{xorb_records}
 use Rattle.xet_records.proofs.RecordKinds.{xorb_laws}
 use Rattle.xet_shards.specs.declared.shard_format.ends.info.MDBShardInfo.{MDBShardInfo}
 use Rattle.xet_shards.specs.Ends.Ends.{HasHeaderAndFooter}
-use Rattle.xet_shards.specs.Export.Rewriting.{options_of}
+use Rattle.xet_shards.specs.Read.SectionsBehindHeader.{options_of}
 use Rattle.xet_shards.specs.Read.SectionReading.{files_of}
 use Rattle.xet_shards.specs.Write.Section.{total_rows}
 use Rattle.xet_shards.specs.Write.Tables.{hash_in}
@@ -26,7 +26,7 @@ use Rattle.xet_shards.specs.Write.WithOptions.{Ascends}
 use Rattle.xet_shards.proofs.Ends.EndsUnique.{only_info}
 use Rattle.xet_shards.proofs.Write.Sections.{files_laws}
 use Rattle.xet_core_structures.specs.Records.ShardContents.{files_at, xorbs_at}
-use Rattle.xet_core_structures.specs.Steps.ShardContents.{IsListOf}
+use Rattle.xet_core_structures.specs.Steps.ShardContentsSteps.{IsListOf}
 use Rattle.xet_core_structures.specs.TwoShards.ByteResults.{keyed_options}
 use Rattle.xet_core_structures.proofs.Records.RecordsAsRead.{all_handed}
 use Rattle.xet_core_structures.proofs.Records.ShardContents.{rows_handed}

@@ -20,7 +20,7 @@ use Rattle.xet_shards.proofs.ShardInMemory.Sums.{all_of_map, sub-sum}
 use Rattle.xet_core_structures.specs.Records.RecordPairs.{key_of_record, with_hash}
 use Rattle.placed_shards.specs.Merging.{IsRestriction, IsPartOf}
 use Rattle.placed_shards.specs.Ranges.{records_passing}
-use Rattle.xet_core_structures.specs.Steps.ByteResults.{Records}
+use Rattle.xet_core_structures.specs.Steps.ByteResultsSteps.{Records}
 use Rattle.xet_core_structures.proofs.Records.ListMaps.{list_map, get-list_map, shard_of}
 use Rattle.placed_shards.proofs.FileParts.{cond-is_some, join_of_parts, parts_agree}
 use Rattle.xet_core_structures.proofs.Trees.MappedJoins.{PreservesJoins}

@@ -5,9 +5,9 @@ use Rattle.xet_base.specs.declared.error.CoreError.TheVariants.{OutOfMemory}
 use Rattle.xet_base.specs.Errors.{IsEndOfInput, IsInvalidShard}
 use Rattle.xet_shards.specs.declared.shard_format.ends.info.MDBShardInfo.{MDBShardInfo}
 use Rattle.xet_shards.specs.Ends.Ends.{HasHeaderAndFooter}
-use Rattle.xet_shards.specs.Export.Rewriting.{options_of}
+use Rattle.xet_shards.specs.Read.SectionsBehindHeader.{options_of}
 use Rattle.xet_core_structures.specs.Records.ShardContents.{IsTruncated, IsMalformed}
-use Rattle.xet_core_structures.specs.Steps.ShardContents.{HoldsLists}
+use Rattle.xet_core_structures.specs.Steps.ShardContentsSteps.{HoldsLists}
 use Rattle.xet_core_structures.specs.TwoShards.ByteResults.{LoadRefusal}
 use Rattle.placed_shards.specs.Content.{Content}
 

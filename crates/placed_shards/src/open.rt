@@ -3,7 +3,7 @@
 ghost use Rattle.std.specs.Prelude.{◌≡◌, true, false, None, MatchResult};
 ghost use Rattle.xet_shards.specs.Ends.Ends.{EndsInHeader, FormatCase, HasHeader, HasUnsupportedHeader};
 ghost use Rattle.xet_shards.specs.Export.KeyedExport.{SectionsCase};
-ghost use Rattle.xet_shards.specs.Export.Rewriting.{HasSections};
+ghost use Rattle.xet_shards.specs.Read.SectionsBehindHeader.{HasSections};
 ghost use Rattle.xet_shards.specs.Write.Layout.{plain_options};
 ghost use Rattle.placed_shards.specs.Content.{content};
 ghost use Rattle.placed_shards.specs.Opening.{Opens, ShardRefusal};

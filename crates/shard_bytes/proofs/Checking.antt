@@ -25,7 +25,7 @@ use Rattle.xet_core_structures.specs.SectionReading.{SectionCase}
 use Rattle.xet_core_structures.specs.SectionReading.SectionCase.{not_read, passes_limit}
 use Rattle.xet_core_structures.specs.Source.ReadCase.{out_of_memory, out_of_bytes}
 use Rattle.xet_core_structures.specs.XorbRecord.{IsXorb, xorb_records}
-use Rattle.xet_shards.specs.Export.Rewriting.{HasSections, options_of}
+use Rattle.xet_shards.specs.Read.SectionsBehindHeader.{HasSections, options_of}
 use Rattle.xet_shards.specs.Write.Tables.{hash_in}
 use Rattle.xet_core_structures.specs.KeyedHash.{no_key}
 use Rattle.xet_shards.proofs.Ends.EndsUnique.{only_info, not_unsupported, not_too_short}

@@ -12,7 +12,7 @@ use Rattle.xet_core_structures.specs.View.{as_kept, all_with_aux_if, without_aux
 use Rattle.xet_records.specs.FileRecord.{has_verification}
 use Rattle.xet_records.specs.View.{without_verification}
 use Rattle.xet_shards.specs.declared.shard_writer.LayoutOptions.{LayoutOptions}
-use Rattle.xet_shards.specs.Export.Rewriting.{HasSections}
+use Rattle.xet_shards.specs.Read.SectionsBehindHeader.{HasSections}
 use Rattle.placed_shards.specs.Anew.{HasInstead}
 use Rattle.placed_shards.specs.Records.{files_as}
 use Rattle.placed_shards.specs.declared.placed_shard.PlacedShard.{PlacedShard}

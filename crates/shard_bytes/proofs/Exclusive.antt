@@ -10,7 +10,7 @@ use Rattle.xet_core_structures.specs.SectionReading.{IsSection, IsRefusedSection
 use Rattle.xet_core_structures.specs.XorbRecord.{xorb_records}
 use Rattle.xet_core_structures.proofs.Records.SectionWays.{one_way}
 use Rattle.xet_records.proofs.RecordKinds.{xorb_laws}
-use Rattle.xet_shards.specs.Export.Rewriting.{HasSections}
+use Rattle.xet_shards.specs.Read.SectionsBehindHeader.{HasSections}
 use Rattle.xet_shards.proofs.Ends.EndsUnique.{not_unsupported, not_too_short}
 use Rattle.xet_shards.proofs.Ends.Loading.{one_version}
 use Rattle.xet_shards.proofs.Write.Sections.{files_laws}

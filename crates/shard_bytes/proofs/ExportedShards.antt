@@ -37,7 +37,7 @@ use Rattle.xet_records.specs.declared.record_reader.FormatVersion.TheVariants.{V
 use Rattle.xet_records.specs.FileRow.{clear}
 use Rattle.xet_records.proofs.RecordKinds.{file_laws}
 use Rattle.xet_shards.specs.declared.shard_writer.LayoutOptions.{LayoutOptions}
-use Rattle.xet_shards.specs.Export.Rewriting.{HasSections}
+use Rattle.xet_shards.specs.Read.SectionsBehindHeader.{HasSections}
 use Rattle.xet_shards.specs.Write.Section.{total_rows}
 use Rattle.xet_shards.proofs.Content.FilesWithoutAux.{section-with_aux_if}
 use Rattle.xet_shards.proofs.Content.KeyedHashes.{keyed_section}

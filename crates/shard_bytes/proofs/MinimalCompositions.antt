@@ -15,7 +15,7 @@ use Rattle.xet_core_structures.specs.WithOptions.{FitsSection}
 use Rattle.xet_records.specs.declared.record_reader.FormatVersion.{FormatVersion}
 use Rattle.xet_records.specs.declared.record_reader.FormatVersion.TheVariants.{V2, V3}
 use Rattle.xet_shards.specs.declared.shard_writer.LayoutOptions.{LayoutOptions}
-use Rattle.xet_shards.specs.Export.Rewriting.{HasSections}
+use Rattle.xet_shards.specs.Read.SectionsBehindHeader.{HasSections}
 use Rattle.xet_shards.proofs.StreamingShard.MinimalReading.{none_fit}
 use Rattle.placed_shards.specs.Anew.{HasInstead}
 use Rattle.placed_shards.specs.Content.{Content, content, content_layout, HasFilesIn}

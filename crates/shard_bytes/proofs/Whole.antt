@@ -29,7 +29,7 @@ use Rattle.placed_shards.proofs.Items.{has_at}
 use Rattle.xet_core_structures.proofs.Records.ListMaps.{list_map, section_of_list, values-list_map}
 use Rattle.xet_records.specs.Limits.{MAX_ROWS}
 use Rattle.xet_shards.specs.declared.shard_writer.LayoutOptions.{LayoutOptions}
-use Rattle.xet_shards.specs.Export.Rewriting.{HasSections, options_of}
+use Rattle.xet_shards.specs.Read.SectionsBehindHeader.{HasSections, options_of}
 use Rattle.xet_shards.specs.Write.Section.{section_bytes, total_rows}
 use Rattle.xet_shards.specs.declared.shard_writer.ChunkTableRow.{ChunkTableRow}
 use Rattle.xet_shards.specs.Write.Tables.{hash_in, chunk_table, chunk_table_bytes, chunk_table_row_bytes, table_bytes}

@@ -21,7 +21,7 @@ use Rattle.xet_core_structures.specs.Shard.{Shard}
 use Rattle.xet_core_structures.specs.Records.ShardContents.{HoldsShard}
 use Rattle.xet_core_structures.specs.XorbRecord.{IsXorb, xorb_records}
 use Rattle.xet_shards.specs.declared.shard_writer.LayoutOptions.{LayoutOptions}
-use Rattle.xet_shards.specs.Export.Rewriting.{HasSections, options_of}
+use Rattle.xet_shards.specs.Read.SectionsBehindHeader.{HasSections, options_of}
 use Rattle.xet_shards.specs.Read.TableReading.{FitsTriple, triple_of}
 use Rattle.xet_shards.specs.Write.Section.{section_bytes}
 use Rattle.xet_shards.specs.declared.shard_writer.ChunkTableRow.{ChunkTableRow}

@@ -20,7 +20,7 @@ use Rattle.xet_core_structures.specs.View.{all_with_aux_if}
 use Rattle.xet_core_structures.specs.TwoShards.ByteResults.{LoadRefusal}
 use Rattle.placed_shards.specs.Content.{Content}
 use Rattle.xet_shards.specs.declared.shard_writer.LayoutOptions.{LayoutOptions}
-use Rattle.xet_shards.specs.Export.Rewriting.{HasSections}
+use Rattle.xet_shards.specs.Read.SectionsBehindHeader.{HasSections}
 use Rattle.shard_bytes.specs.declared.export.Export.{Export}
 use Rattle.shard_bytes.specs.Outcomes.{InMemory}
 

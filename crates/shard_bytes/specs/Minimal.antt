@@ -12,7 +12,7 @@ use Rattle.xet_core_structures.specs.MinimalReading.{ReadsMinimal, ReaderMinimal
 use Rattle.xet_core_structures.specs.MinimalShard.{MinimalShard, mark_starts, is_start, minimal_options, eligible_hashes, IsKept}
 use Rattle.xet_core_structures.specs.Shard.{xorb_hash_of}
 use Rattle.xet_core_structures.specs.View.{as_kept, LacksVerification, IsIoOther}
-use Rattle.xet_shards.specs.Export.Rewriting.{HasSections}
+use Rattle.xet_shards.specs.Read.SectionsBehindHeader.{HasSections}
 use Rattle.placed_shards.specs.Content.{Content}
 use Rattle.shard_bytes.specs.Outcomes.{InMemory}
 use Rattle.shard_bytes.specs.declared.minimal.KeptXorbs.{KeptXorbs}

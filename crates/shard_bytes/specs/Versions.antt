@@ -15,7 +15,7 @@ use Rattle.xet_core_structures.specs.WithOptions.{FitsSection}
 use Rattle.xet_records.specs.declared.record_reader.FormatVersion.{FormatVersion}
 use Rattle.xet_records.specs.declared.record_reader.FormatVersion.TheVariants.{V2, V3}
 use Rattle.xet_shards.specs.declared.shard_writer.LayoutOptions.{LayoutOptions}
-use Rattle.xet_shards.specs.Export.Rewriting.{options_of}
+use Rattle.xet_shards.specs.Read.SectionsBehindHeader.{options_of}
 use Rattle.placed_shards.specs.Content.{Content, HasFilesIn, content_layout}
 use Rattle.shard_bytes.specs.Checking.{IsReadAs}
 use Rattle.shard_bytes.specs.Outcomes.{InMemory}

@@ -5,7 +5,7 @@ ghost use Rattle.xet_core_structures.specs.declared.error.CoreError.{CoreError};
 ghost use Rattle.placed_shards.specs.Content.{content};
 ghost use Rattle.xet_core_structures.specs.declared.file_structs.MDBFileInfo.{MDBFileInfo};
 ghost use Rattle.xet_core_structures.specs.declared.xorb_structs.MDBXorbInfo.{MDBXorbInfo};
-ghost use Rattle.xet_shards.specs.Export.Rewriting.{HasSections};
+ghost use Rattle.xet_shards.specs.Read.SectionsBehindHeader.{HasSections};
 ghost use Rattle.xet_core_structures.specs.Records.ShardContents.{HoldsShard};
 ghost use Rattle.xet_core_structures.specs.TwoShards.ByteResults.{keyed_options};
 ghost use Rattle.xet_core_structures.specs.Shard.{Shard, IsShard};

@@ -29,7 +29,7 @@ use Rattle.shard_concatenation.specs.Steps.ChunkMerging.{HoldsRows, rows_held}
 use Rattle.xet_shards.specs.Read.TableReading.{FitsTableRow}
 use Rattle.shard_concatenation.specs.Steps.Gathering.{AddsPart, FitWith, HasSizes, HoldTables, HasGathered}
 use Rattle.xet_shards.specs.Read.TableReading.{FitsStart, FitsTriple, triple_of}
-use Rattle.xet_shards.specs.Write.Ranges.{chunk_row_later}
+use Rattle.xet_shards.specs.Write.RaisedRows.{chunk_row_later}
 use Rattle.xet_shards.specs.Write.Section.{total_rows, with_fronts}
 use Rattle.std.specs.List.{enumerate_from}
 use Rattle.xet_records.specs.declared.xorb_structs.XorbChunkSequenceEntry.{XorbChunkSequenceEntry}

@@ -13,7 +13,7 @@ use Rattle.xet_records.specs.RecordKind.{RecordKind}
 use Rattle.shard_concatenation.specs.declared.section_parts.SectionPart.{SectionPart}
 use Rattle.xet_shards.specs.Read.TableReading.{FitsStart}
 use Rattle.shard_concatenation.specs.Steps.Sections.{HoldSections, all_of}
-use Rattle.xet_shards.specs.Write.Ranges.{start_later}
+use Rattle.xet_shards.specs.Write.RaisedRows.{start_later}
 use Rattle.xet_shards.specs.Write.Section.{total_rows, with_fronts}
 use Rattle.xet_shards.specs.Write.Tables.{start_row, start_of, starts, table_bytes}
 use Rattle.shard_concatenation.proofs.Permutations.{all_at, sum_through}

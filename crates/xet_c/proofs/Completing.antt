@@ -5,7 +5,7 @@ use Rattle.xet_core_structures.specs.declared.xorb_structs.MDBXorbInfo.{MDBXorbI
 use Rattle.xet_core_structures.specs.FileRecord.{file_records}
 use Rattle.xet_core_structures.specs.WithOptions.{FitsSection}
 use Rattle.xet_shards.specs.declared.shard_writer.LayoutOptions.{LayoutOptions}
-use Rattle.xet_shards.specs.Export.Rewriting.{HasSections}
+use Rattle.xet_shards.specs.Read.SectionsBehindHeader.{HasSections}
 use Rattle.xet_shards.proofs.Write.Sections.{fits_ever}
 use Rattle.placed_shards.specs.Content.{Content}
 

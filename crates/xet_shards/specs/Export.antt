@@ -1,5 +1,4 @@
--- Copying a shard record by record: keyed exports. The sections and layout options that bytes have.
+-- Copying a shard record by record: keyed exports.
 
 pub mod KeyedExport
 pub mod ExportLaws
-pub mod Rewriting

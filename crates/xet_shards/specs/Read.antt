@@ -1,9 +1,10 @@
 -- Sections and tables that are read whole.
 
+pub mod FileRanges
+pub mod PlacedRecord
 pub mod SectionReading
 pub mod SectionWalk
+pub mod SectionsBehindHeader
 pub mod TableReading
-pub mod FileRanges
 pub mod TruncatedHashes
 pub mod XorbHeaders
-pub mod PlacedRecord

@@ -1,17 +1,17 @@
 -- Words that only proofs speak of, and contracts of this crate and of those above.
 
-pub mod ChunkLookup
+pub mod ChunkLookupSteps
 pub mod Collecting
 pub mod FileStore
-pub mod Joining
-pub mod KeyedExport
-pub mod Lookup
-pub mod MinimalShard
+pub mod JoiningSteps
+pub mod KeyedExportSteps
+pub mod LookupSteps
+pub mod MinimalShardSteps
 pub mod MinimalWriting
-pub mod RunReading
+pub mod RunReadingSteps
 pub mod RunSteps
-pub mod SectionReading
-pub mod TableReading
-pub mod Tables
-pub mod TruncatedHashes
-pub mod XorbStore
+pub mod SectionReadingSteps
+pub mod TableReadingSteps
+pub mod TablesSteps
+pub mod TruncatedHashesSteps
+pub mod XorbStoreSteps

@@ -1,13 +1,13 @@
 -- The bytes of a shard: sections, tables and the whole layout.
 
-pub mod Section
-pub mod Tables
-pub mod Ranges
 pub mod Layout
+pub mod Puts
+pub mod RaisedRows
+pub mod RecordCopying
+pub mod Section
+pub mod ShardEnd
+pub mod Tables
 pub mod WithOptions
-pub mod WrittenShard
 pub mod Written
 pub mod WrittenLaws
-pub mod ShardEnd
-pub mod Puts
-pub mod Copying
+pub mod WrittenShard

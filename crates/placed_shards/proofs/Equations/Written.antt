@@ -10,7 +10,7 @@ use Rattle.xet_records.specs.FileRecord.{file_records, file_records_in, has_aux_
 use Rattle.xet_records.specs.XorbRecord.{xorb_records}
 use Rattle.xet_records.proofs.RecordKinds.{version_known}
 use Rattle.xet_shards.specs.Ends.Ends.{HasHeaderAndFooter}
-use Rattle.xet_shards.specs.Export.Rewriting.{options_of}
+use Rattle.xet_shards.specs.Read.SectionsBehindHeader.{options_of}
 use Rattle.xet_shards.specs.Write.Layout.{if_included, info_of, layout_of}
 use Rattle.xet_shards.specs.Write.Tables.{chunk_table, starts}
 use Rattle.xet_shards.specs.Write.WithOptions.{FitsSection}

@@ -18,7 +18,7 @@ use Rattle.xet_core_structures.specs.XorbRecord.{xorb_records}
 use Rattle.xet_records.specs.Limits.{MAX_ROWS}
 use Rattle.xet_records.specs.RecordKind.{RecordKind}
 use Rattle.xet_shards.specs.declared.shard_writer.LayoutOptions.{LayoutOptions}
-use Rattle.xet_shards.specs.Export.Rewriting.{options_of}
+use Rattle.xet_shards.specs.Read.SectionsBehindHeader.{options_of}
 use Rattle.xet_shards.specs.declared.shard_writer.StoredSection.{StoredSection}
 use Rattle.xet_shards.specs.Read.TableReading.{FitsTriple, triple_of}
 use Rattle.xet_shards.specs.declared.shard_writer.ChunkTableRow.{ChunkTableRow}

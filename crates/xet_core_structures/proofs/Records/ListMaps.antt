@@ -18,10 +18,10 @@ use Rattle.xet_shards.specs.declared.shard_format.ends.info.MDBShardInfo.{MDBSha
 use Rattle.xet_shards.specs.Write.WithOptions.{Ascends}
 use Rattle.xet_shards.specs.Read.SectionReading.{files_of, IsSection}
 use Rattle.xet_shards.specs.Content.Shard.{Shard}
-use Rattle.xet_core_structures.specs.Steps.ByteResults.{Records}
+use Rattle.xet_core_structures.specs.Steps.ByteResultsSteps.{Records}
 use Rattle.xet_core_structures.specs.Records.RecordPairs.{key_of_record, by_hash, with_hash, Combines}
 use Rattle.xet_core_structures.specs.Records.ShardContents.{IsSectionOf, files_at, xorbs_at, Holds}
-use Rattle.xet_core_structures.specs.Steps.ShardContents.{IsListOf, HoldsLists}
+use Rattle.xet_core_structures.specs.Steps.ShardContentsSteps.{IsListOf, HoldsLists}
 use Rattle.xet_core_structures.proofs.Records.RecordPairs.{less-not_equal}
 
 both_true : (a b : Bool) → T a → T b → T (a && b)

@@ -14,7 +14,7 @@ use Rattle.xet_shards.specs.Read.SectionReading.{files_of, IsSection, ReadsSecti
 use Rattle.xet_shards.specs.Write.Section.{total_rows}
 use Rattle.xet_shards.proofs.Write.Sections.{files_laws}
 use Rattle.xet_core_structures.specs.Records.ShardContents.{xorbs_at, ReadsOnlySections}
-use Rattle.xet_core_structures.specs.Steps.ShardContents.{IsListOf, HoldsLists}
+use Rattle.xet_core_structures.specs.Steps.ShardContentsSteps.{IsListOf, HoldsLists}
 use Rattle.xet_core_structures.proofs.Records.ShardContents.{rows_handed}
 use Rattle.xet_core_structures.proofs.Records.RecordsAsRead.{all_handed}
 

@@ -20,12 +20,12 @@ use Rattle.xet_shards.specs.Write.Section.{total_rows, section_bytes}
 use Rattle.xet_shards.specs.Read.SectionReading.{StreamsSection}
 use Rattle.xet_shards.proofs.Read.SectionReading.{section_ends}
 use Rattle.xet_core_structures.specs.Records.RecordPairs.{key_of_record, ComeBefore, ArePassed, IsMadeOf, rows_in}
-use Rattle.xet_core_structures.specs.Steps.RecordPairs.{IsNextPair}
+use Rattle.xet_core_structures.specs.Steps.RecordPairsSteps.{IsNextPair}
 use Rattle.xet_core_structures.specs.Steps.MergeJoin.{ReadsFollowing, Advances, AdvanceFails, ReadsOptionalRecord, WritesMade, CannotMake, PairFails, WritesCombined, AscendingNotStreamed, CannotCombine, SectionsFail}
 use Rattle.xet_core_structures.specs.Steps.MergeJoin.PairFails.{output_fails as pair_output_fails, first_fails as pair_first_fails, second_fails as pair_second_fails, refused as pair_refused}
 use Rattle.xet_core_structures.specs.Steps.MergeJoin.SectionsFail.{output_fails, first_fails, second_fails, refused}
 use Rattle.xet_core_structures.specs.TwoShards.Streams.{streams}
-use Rattle.xet_core_structures.specs.Steps.Streams.{sources}
+use Rattle.xet_core_structures.specs.Steps.StreamsSteps.{sources}
 use Rattle.xet_core_structures.proofs.Records.RecordPairs.{ComesLater, HasHash, IsUnder, hash_under, AreCombinedBefore, combined_start, next_passed, combined_on}
 use Rattle.xet_core_structures.proofs.TwoShards.OneSection.{serves_on, weight, passed_serves, HasPending, pending_start, pending_serves, pending_on, under_pending, front_of, weight_on, rows_not_read, no_next}
 

@@ -35,7 +35,7 @@ use Rattle.xet_core_structures.specs.Steps.MixedFiles.EitherFails.{output_fails 
 use Rattle.xet_core_structures.specs.Steps.MergeJoin.{IsRecordHeader, PairFails}
 use Rattle.xet_core_structures.specs.Steps.MergeJoin.PairFails.{output_fails, first_fails, second_fails}
 use Rattle.xet_core_structures.specs.TwoShards.Streams.{Streams, streams}
-use Rattle.xet_core_structures.specs.Steps.Streams.{Sources, sources}
+use Rattle.xet_core_structures.specs.Steps.StreamsSteps.{Sources, sources}
 use Rattle.xet_core_structures.proofs.TwoShards.Mixing.{rows_of_mix, rows_chosen}
 use Rattle.xet_core_structures.proofs.TwoShards.Pairs.{record_of}
 use Rattle.xet_core_structures.proofs.TwoShards.OneSection.{serves_on, taken_serves, header_of_found}

@@ -25,7 +25,7 @@ use Rattle.xet_core_structures.specs.Records.ByteUnion.{mixed_file}
 use Rattle.xet_core_structures.specs.Steps.MixedFiles.{WritesEither, EitherFails}
 use Rattle.xet_core_structures.specs.Steps.MixedFiles.EitherFails.{output_fails, first_fails, second_fails}
 use Rattle.xet_core_structures.specs.TwoShards.Streams.{streams}
-use Rattle.xet_core_structures.specs.Steps.Streams.{sources}
+use Rattle.xet_core_structures.specs.Steps.StreamsSteps.{sources}
 use Rattle.xet_core_structures.proofs.TwoShards.OneSection.{serves_same, taken_serves}
 
 -- a mix has the parts of a join

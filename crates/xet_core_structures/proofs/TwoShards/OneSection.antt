@@ -21,7 +21,7 @@ use Rattle.xet_records.proofs.RecordKinds.{laws_in}
 use Rattle.xet_records.proofs.SectionRecords.{nothing_read, more_read, rows_after_header}
 use Rattle.xet_shards.specs.Write.WithOptions.{Ascends}
 use Rattle.xet_shards.specs.Read.SectionReading.{HoldsRecords, BeginsRefused, EndsEarly, rows_left, SectionCase}
-use Rattle.xet_shards.specs.Steps.SectionReading.{RecordFails}
+use Rattle.xet_shards.specs.Steps.SectionReadingSteps.{RecordFails}
 use Rattle.xet_shards.specs.Read.SectionReading.SectionCase.{not_read, passes_limit}
 use Rattle.xet_shards.proofs.Read.SectionReading.{holds, section_failure, record_fails}
 use Rattle.xet_core_structures.specs.Records.RecordPairs.{key_of_record, ComeBefore}

@@ -14,12 +14,12 @@ use Rattle.xet_records.specs.RecordKind.{RecordKind, KindLaws}
 use Rattle.xet_records.specs.Reading.{ReadsRowsAfter}
 use Rattle.xet_shards.proofs.Write.Copying.{header_returned, rows_returned}
 use Rattle.xet_core_structures.specs.Records.RecordPairs.{key_of_record}
-use Rattle.xet_core_structures.specs.Steps.RecordPairs.{AreOfOneHash}
+use Rattle.xet_core_structures.specs.Steps.RecordPairsSteps.{AreOfOneHash}
 use Rattle.xet_core_structures.specs.Steps.MergeJoin.{IsRecordHeader, ReadsOptionalRecord, SkipFails, SkipsBoth, CopiesKept, KeepsRecord, HasTooManyRows, WritesMade, MakesRecord, CannotMake, PairFails}
 use Rattle.xet_core_structures.specs.Steps.MergeJoin.CannotMake.{too_many_rows}
 use Rattle.xet_core_structures.specs.Steps.MergeJoin.PairFails.{output_fails, first_fails, second_fails, refused}
 use Rattle.xet_core_structures.specs.TwoShards.Streams.{streams}
-use Rattle.xet_core_structures.specs.Steps.Streams.{Sources, sources}
+use Rattle.xet_core_structures.specs.Steps.StreamsSteps.{Sources, sources}
 use Rattle.xet_core_structures.proofs.TwoShards.OneSection.{serves_same, taken_serves}
 
 module _ {H R : Type 0} (K : RecordKind H R) where

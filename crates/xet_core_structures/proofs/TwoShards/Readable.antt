@@ -34,7 +34,7 @@ use Rattle.xet_shards.proofs.ShardInMemory.FileUnions.{entry-holds}
 use Rattle.xet_shards.proofs.ShardInMemory.Sums.{all_of_map}
 use Rattle.xet_core_structures.specs.TwoShards.ByteResults.{HaveResult}
 use Rattle.xet_core_structures.specs.Records.ByteUnion.{mixed_file, IsUnitedFile, IsEitherFile, IsEitherXorb, IsByteUnion}
-use Rattle.xet_core_structures.specs.Steps.RecordPairs.{IsRest}
+use Rattle.xet_core_structures.specs.Steps.RecordPairsSteps.{IsRest}
 use Rattle.xet_core_structures.specs.Records.ShardContents.{IsSectionOf}
 use Rattle.xet_core_structures.specs.TwoShards.Readable.{AreReadable}
 use Rattle.xet_core_structures.proofs.Records.RecordsAsRead.{all_handed}

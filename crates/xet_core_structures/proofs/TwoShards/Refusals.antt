@@ -23,7 +23,7 @@ use Rattle.xet_shards.proofs.Read.SectionUnique.{first_of_section}
 use Rattle.xet_shards.proofs.ShardInMemory.Sums.{sub-sum}
 use Rattle.xet_core_structures.specs.TwoShards.ByteResults.{HaveNoUnionOf}
 use Rattle.xet_core_structures.specs.Records.RecordPairs.{key_of_record, with_hash, Combines, IsMadeOf, rows_in}
-use Rattle.xet_core_structures.specs.Steps.RecordPairs.{IsRest}
+use Rattle.xet_core_structures.specs.Steps.RecordPairsSteps.{IsRest}
 use Rattle.xet_core_structures.specs.Records.ShardContents.{IsSectionOf}
 use Rattle.xet_core_structures.specs.Steps.MergeJoin.{CannotMake, GoesOnAfter, CannotCombine}
 use Rattle.xet_core_structures.specs.Steps.MergeJoin.CannotMake.{nothing_made, too_many_rows}

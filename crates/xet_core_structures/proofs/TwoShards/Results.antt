@@ -24,13 +24,13 @@ use Rattle.xet_shards.specs.Content.SetOperations.{IsDifference}
 use Rattle.xet_shards.specs.Content.Shard.{Shard}
 use Rattle.xet_core_structures.specs.Records.ByteUnion.{IsUnitedFile, IsEitherFile, IsEitherXorb, IsByteUnion}
 use Rattle.xet_core_structures.specs.TwoShards.ByteResults.{keyed_options, key_of, InputRefusal, DifferenceRefusal, UnionRefusal, InputsFail, WritesResult}
-use Rattle.xet_core_structures.specs.Steps.ByteResults.{FailsBy, Records, HaveInputs, AreCombined, WritesRecords}
-use Rattle.xet_core_structures.specs.Steps.RecordPairs.{IsRest}
+use Rattle.xet_core_structures.specs.Steps.ByteResultsSteps.{FailsBy, Records, HaveInputs, AreCombined, WritesRecords}
+use Rattle.xet_core_structures.specs.Steps.RecordPairsSteps.{IsRest}
 use Rattle.xet_core_structures.specs.Records.ShardContents.{HasFiles, files_at, xorbs_at}
-use Rattle.xet_core_structures.specs.Steps.SetOutcomes.{OperationLaws}
+use Rattle.xet_core_structures.specs.Steps.SetOutcomesSteps.{OperationLaws}
 use Rattle.xet_core_structures.specs.Steps.MergeJoin.{SectionRefusal, CannotCombine, SectionsFail}
 use Rattle.xet_core_structures.specs.Steps.MergeJoin.SectionsFail.{output_fails, first_fails, second_fails, refused}
-use Rattle.xet_core_structures.specs.Steps.Streams.{sources}
+use Rattle.xet_core_structures.specs.Steps.StreamsSteps.{sources}
 use Rattle.xet_core_structures.proofs.Records.ListMaps.{values-list_map, combined_maps, shard_of, lists_hold}
 use Rattle.xet_core_structures.proofs.LawProofs.FileLookups.{union_with_options, difference_with_options}
 use Rattle.xet_core_structures.proofs.TwoShards.Refusals.{no_union, always_rest}

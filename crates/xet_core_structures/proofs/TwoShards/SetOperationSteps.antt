@@ -29,14 +29,14 @@ use Rattle.xet_shards.specs.Content.Shard.{Shard}
 use Rattle.xet_shards.specs.Write.Written.{HasWritten, HasWrittenXorbs}
 use Rattle.xet_shards.proofs.Write.Written.{whole_layout}
 use Rattle.xet_core_structures.specs.TwoShards.ByteResults.{keyed_options, key_of}
-use Rattle.xet_core_structures.specs.Steps.ByteResults.{FailsBy, Records, HaveInputs, AreCombined, WritesEnd}
+use Rattle.xet_core_structures.specs.Steps.ByteResultsSteps.{FailsBy, Records, HaveInputs, AreCombined, WritesEnd}
 use Rattle.xet_core_structures.specs.Records.ShardContents.{HasFiles, xorbs_at}
 use Rattle.xet_core_structures.specs.TwoShards.SetOutcomes.{Operates, OperationFails}
-use Rattle.xet_core_structures.specs.Steps.SetOutcomes.{OperatesOn, OperationLaws}
+use Rattle.xet_core_structures.specs.Steps.SetOutcomesSteps.{OperatesOn, OperationLaws}
 use Rattle.xet_core_structures.specs.Steps.MergeJoin.{SectionRefusal, CannotCombine, WritesCombined, SectionsFail}
 use Rattle.xet_core_structures.specs.Steps.MergeJoin.SectionsFail.{first_fails, second_fails}
 use Rattle.xet_core_structures.specs.TwoShards.Streams.{Streams, streams}
-use Rattle.xet_core_structures.specs.Steps.Streams.{sources}
+use Rattle.xet_core_structures.specs.Steps.StreamsSteps.{sources}
 use Rattle.xet_core_structures.proofs.Records.ShardContents.{stored_ascend}
 use Rattle.xet_core_structures.proofs.Records.Lists.{sections_read, lists_read}
 use Rattle.xet_core_structures.proofs.TwoShards.Results.{failed_by, sections_failed, sections_kept, section_serves, files_of_first, files_of_second, xorbs_of_first, xorbs_of_second}

@@ -23,7 +23,7 @@ use Rattle.xet_core_structures.specs.Steps.MixedFiles.{MixesFiles, MixHasTooMany
 use Rattle.xet_core_structures.specs.Steps.MergeJoin.{IsRecordHeader, ReadsOptionalRecord, MakesRecord, CannotMake}
 use Rattle.xet_core_structures.specs.Steps.MergeJoin.CannotMake.{nothing_made, too_many_rows}
 use Rattle.xet_core_structures.specs.TwoShards.Streams.{streams}
-use Rattle.xet_core_structures.specs.Steps.Streams.{sources}
+use Rattle.xet_core_structures.specs.Steps.StreamsSteps.{sources}
 use Rattle.xet_core_structures.proofs.TwoShards.Mixing.{mixed_stored, rows_of_mix, rows_of-mixed_file}
 use Rattle.xet_core_structures.proofs.TwoShards.Pairs.{fails_so, record_of}
 use Rattle.xet_core_structures.proofs.TwoShards.OneSection.{header_of_found}

@@ -17,13 +17,13 @@ use Rattle.xet_records.specs.RecordKind.{RecordKind, in_version}
 use Rattle.xet_records.specs.Reading.{ReadsNextHeader, ReadsRowsAfter, BeginsWithHeader}
 use Rattle.xet_shards.specs.Write.WithOptions.{Ascends}
 use Rattle.xet_shards.specs.Write.Section.{total_rows, section_bytes}
-use Rattle.xet_shards.specs.Write.Copying.{CopiesRecord}
+use Rattle.xet_shards.specs.Write.RecordCopying.{CopiesRecord}
 use Rattle.xet_shards.specs.Read.SectionReading.{HoldsRecords, BeginsWithBookend, StreamsSection}
-use Rattle.xet_shards.specs.Steps.SectionReading.{ReadsNext, RecordFails}
+use Rattle.xet_shards.specs.Steps.SectionReadingSteps.{ReadsNext, RecordFails}
 use Rattle.xet_core_structures.specs.Records.RecordPairs.{key_of_record, Combines, IsMadeOf, ArePassed}
 use Rattle.xet_core_structures.specs.Records.ShardContents.{IsTruncatedInOrder, IsMalformedSection}
 use Rattle.xet_core_structures.specs.TwoShards.Streams.{Streams}
-use Rattle.xet_core_structures.specs.Steps.Streams.{Sources, inputs_of}
+use Rattle.xet_core_structures.specs.Steps.StreamsSteps.{Sources, inputs_of}
 use Rattle.xet_records.specs.Limits.{MAX_ROWS}
 
 module _ {H R : Type 0} (K : RecordKind H R) where

@@ -15,7 +15,7 @@ use Rattle.xet_records.specs.Rows.{ReadsRows}
 use Rattle.xet_core_structures.specs.Records.ByteUnion.{mixed_file}
 use Rattle.xet_core_structures.specs.Steps.MergeJoin.{PairFails}
 use Rattle.xet_core_structures.specs.TwoShards.Streams.{Streams}
-use Rattle.xet_core_structures.specs.Steps.Streams.{Sources, inputs_of}
+use Rattle.xet_core_structures.specs.Steps.StreamsSteps.{Sources, inputs_of}
 use Rattle.xet_records.specs.Limits.{MAX_ROWS}
 
 -- both records were read, and a mix of them was written and gathered, with rows that fit a section

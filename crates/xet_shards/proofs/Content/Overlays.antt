@@ -17,7 +17,7 @@ use Rattle.xet_records.specs.Merging.{merged_file}
 use Rattle.xet_shards.specs.Write.Section.{total_rows}
 use Rattle.xet_shards.specs.Content.Shard.{Shard, FileMap, XorbMap}
 use Rattle.xet_shards.specs.Content.Joining.{entry, either_file}
-use Rattle.xet_shards.specs.Steps.Joining.{CanJoinFiles}
+use Rattle.xet_shards.specs.Steps.JoiningSteps.{CanJoinFiles}
 use Rattle.xet_shards.specs.Content.SetOperations.{IsUnion, CanUnite}
 use Rattle.xet_shards.proofs.Content.Maps.{sum-insert}
 use Rattle.xet_shards.proofs.ShardInMemory.Sums.{sum-remove}

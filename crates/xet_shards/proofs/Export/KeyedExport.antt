@@ -38,12 +38,12 @@ use Rattle.xet_shards.specs.Write.Written.{end_of_layout}
 use Rattle.xet_shards.specs.Write.WithOptions.{FitsSection}
 use Rattle.xet_shards.specs.Ends.Ends.{HasHeader, FitsFooter}
 use Rattle.xet_shards.specs.Read.SectionReading.{IsSection, SectionNotStreamed}
-use Rattle.xet_shards.specs.Steps.SectionReading.{RecordFails}
+use Rattle.xet_shards.specs.Steps.SectionReadingSteps.{RecordFails}
 use Rattle.xet_shards.specs.Export.KeyedExport.{ExportsWith, ExportFails, ExportCase, OutcomeOfExport, CannotExport, ExpiresTooLate, BadSection, xorbs_after, keyed_xorb, keyed_xorbs}
-use Rattle.xet_shards.specs.Steps.KeyedExport.{ReadsThroughSection, ExportsSection, WritingFails, ExportsNoSection, HasExported, exported_file, exported_xorb}
+use Rattle.xet_shards.specs.Steps.KeyedExportSteps.{ReadsThroughSection, ExportsSection, WritingFails, ExportsNoSection, HasExported, exported_file, exported_xorb}
 use Rattle.xet_shards.specs.Export.KeyedExport.ExportCase.{no_sections, not_written}
 use Rattle.xet_shards.specs.Export.KeyedExport.SectionsCase.{bad_files, bad_xorbs}
-use Rattle.xet_shards.specs.Export.Rewriting.{HasSections}
+use Rattle.xet_shards.specs.Read.SectionsBehindHeader.{HasSections}
 use Rattle.xet_shards.proofs.Ends.EndsUnique.{ends_of_layout}
 use Rattle.xet_shards.proofs.ShardInMemory.Files.{length-le-rows}
 use Rattle.xet_shards.proofs.Content.KeyedHashes.{keyed_section}

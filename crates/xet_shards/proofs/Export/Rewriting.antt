@@ -15,7 +15,7 @@ use Rattle.xet_shards.specs.Ends.Ends.{HasHeaderAndFooter, FitsFooter}
 use Rattle.xet_shards.specs.Write.WithOptions.{FitsSection}
 use Rattle.xet_shards.specs.Export.KeyedExport.{xorbs_after}
 use Rattle.xet_shards.specs.Write.Layout.{LayoutOptions, if_included, footer_value, info_of, layout_of, shard_footer_bytes}
-use Rattle.xet_shards.specs.Export.Rewriting.{HasSections, options_of}
+use Rattle.xet_shards.specs.Read.SectionsBehindHeader.{HasSections, options_of}
 use Rattle.xet_shards.specs.Read.SectionReading.{IsSection}
 use Rattle.xet_shards.specs.Write.Tables.{ChunkTableRow, starts, chunk_table, table_bytes, chunk_table_bytes, chunk_table_row_bytes}
 use Rattle.xet_shards.proofs.Ends.EndsUnique.{ends_of_layout}

@@ -19,9 +19,9 @@ use Rattle.xet_records.specs.RecordKind.{RecordKind}
 use Rattle.xet_records.specs.Reading.{ReadsBookend}
 use Rattle.xet_records.proofs.RecordKinds.{KindLaws, length-record_bytes, stored_begins}
 use Rattle.xet_shards.specs.Read.SectionReading.{MayRead}
-use Rattle.xet_shards.specs.Steps.SectionReading.{ReadsNext, RecordFails}
+use Rattle.xet_shards.specs.Steps.SectionReadingSteps.{ReadsNext, RecordFails}
 use Rattle.xet_shards.specs.Lookup.Lookup.{IndexFinds, VisitsSome, LooksUp, LookupAnswer, LookupRefused, FindsRecord, FindRecordFails, row_at, RecordAt, IsBareInternalError, InfoRefusal, ReadsInfo, ReadInfoFails, Visit, Visits}
-use Rattle.xet_shards.specs.Steps.Lookup.{NoneHasHash}
+use Rattle.xet_shards.specs.Steps.LookupSteps.{NoneHasHash}
 
 -- calls that did not fail, after others
 pub serves_after : (old now new : Source) → NoFailure old now → NoFailure now new → NoFailure old new

@@ -15,7 +15,7 @@ use Rattle.xet_records.proofs.Lengths.{length-xorb_header_row}
 use Rattle.xet_shards.specs.ShardInMemory.ChunkQuery.{Run}
 use Rattle.xet_shards.specs.Lookup.Lookup.{Visit}
 use Rattle.xet_shards.specs.Lookup.RunReading.{QueryAt, xorb_offset, xorb_at, chunk_offset, chunks_at, chunks_left, FoundRun, AnnouncesChunk, AnnouncesNoChunk, RefusalAt}
-use Rattle.xet_shards.specs.Steps.RunReading.{OutcomeAt}
+use Rattle.xet_shards.specs.Steps.RunReadingSteps.{OutcomeAt}
 use Rattle.xet_shards.specs.Steps.RunSteps.{RowFails, ReadsHeaderAt, RunFailure, ReadsRunAt, RunFails}
 use Rattle.xet_shards.proofs.Lookup.Lookups.{serves_after}
 

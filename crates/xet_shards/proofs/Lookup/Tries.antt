@@ -18,7 +18,7 @@ use Rattle.xet_shards.specs.ShardInMemory.ChunkQuery.{Run}
 use Rattle.xet_shards.specs.declared.shard_format.ends.footer.MDBShardFileFooter.{MDBShardFileFooter}
 use Rattle.xet_shards.specs.Lookup.Lookup.{chunk_lookup_table, IsRowAndIndex, Searches, Visits, VisitsSome}
 use Rattle.xet_shards.specs.Lookup.RunReading.{QueryAt, query_at, AnswerAt, RefusedAt, keyed_word, Queries, TriedAnswer, TriedRefused, QueryOutcome}
-use Rattle.xet_shards.specs.Steps.RunReading.{OutcomeAt, OutcomeOfTries, NoneTried}
+use Rattle.xet_shards.specs.Steps.RunReadingSteps.{OutcomeAt, OutcomeOfTries, NoneTried}
 use Rattle.xet_shards.proofs.Lookup.Lookups.{serves_after, visits_more}
 
 -- an error for a location that is not there, if it is a bare `InvalidShard`

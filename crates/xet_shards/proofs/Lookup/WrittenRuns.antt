@@ -21,7 +21,7 @@ use Rattle.xet_shards.specs.Write.Layout.{LayoutOptions}
 use Rattle.xet_shards.specs.Write.WithOptions.{IsBytesWithOptions}
 use Rattle.xet_shards.specs.Lookup.Lookup.{row_at}
 use Rattle.xet_shards.specs.Lookup.RunReading.{QueryAt, query_at, AnswerAt, RefusedAt}
-use Rattle.xet_shards.specs.Steps.RunReading.{OutcomeAt}
+use Rattle.xet_shards.specs.Steps.RunReadingSteps.{OutcomeAt}
 use Rattle.xet_shards.specs.Lookup.WrittenQueries.{RunInXorb, QueryFailsInXorb}
 use Rattle.xet_shards.proofs.Write.WithOptions.{xorbs_stored}
 use Rattle.xet_shards.proofs.Lookup.StoredRecords.{AreStoredAt, is_stored, record_there, bookend_there, end_bound}

@@ -15,7 +15,7 @@ use Rattle.xet_records.proofs.Lengths.{length-all_record_bytes}
 use Rattle.xet_records.proofs.RecordKinds.{KindLaws, length-record_bytes, stored_begins}
 use Rattle.xet_shards.specs.Read.SectionReading.SectionCase.{passes_limit}
 use Rattle.xet_shards.specs.Read.SectionReading.{HoldsRecords, IsSection, StreamsSection, SectionNotStreamed, SectionFailure, rows_left}
-use Rattle.xet_shards.specs.Steps.SectionReading.{ReadsNext, RecordFails}
+use Rattle.xet_shards.specs.Steps.SectionReadingSteps.{ReadsNext, RecordFails}
 
 -- a read of n bytes was refused, after calls that did not fail
 refused_as : (Passes Ends : List ℕ → Type 0) (bytes : List ℕ) (old mid new : Source) (n : ℕ) (e : CoreError) → mid.failures ≡ old.failures

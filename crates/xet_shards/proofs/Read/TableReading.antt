@@ -14,7 +14,7 @@ use Rattle.xet_base.proofs.Lists.{parts_front}
 use Rattle.xet_base.specs.InputLaws.{ReadsBytes-trans}
 use Rattle.xet_base.proofs.Reading.{ReadsBytes-consumes}
 use Rattle.xet_shards.specs.Read.TableReading.{ReadsTable, RowsFailure, TableFails}
-use Rattle.xet_shards.specs.Steps.TableReading.{ReadsNextRow}
+use Rattle.xet_shards.specs.Steps.TableReadingSteps.{ReadsNextRow}
 
 -- the rows that were read so far
 pub record HasReadRows {T : Type 0} (row_bytes : T → List ℕ) (Fits : T → Type 0) (size : ℕ) (start now : Source) (count : ℕ) (found : List T) : Type 0 where

@@ -20,9 +20,9 @@ use Rattle.xet_shards.specs.Write.Section.{total_rows}
 use Rattle.xet_shards.specs.Write.Tables.{chunk_table_rows_from, chunk_table_rows, chunk_table}
 use Rattle.xet_shards.specs.Read.TableReading.{triple_of}
 use Rattle.xet_shards.specs.Read.SectionReading.{HoldsRecords, IsSection, rows_left}
-use Rattle.xet_shards.specs.Steps.SectionReading.{RecordFails}
+use Rattle.xet_shards.specs.Steps.SectionReadingSteps.{RecordFails}
 use Rattle.xet_shards.specs.Read.TruncatedHashes.{hashes_of, StartBefore, ReadsHashes, HashesFail}
-use Rattle.xet_shards.specs.Steps.TruncatedHashes.{HasReadHashes, ReadsXorbBefore, XorbBeforeFails}
+use Rattle.xet_shards.specs.Steps.TruncatedHashesSteps.{HasReadHashes, ReadsXorbBefore, XorbBeforeFails}
 use Rattle.xet_shards.proofs.Write.ChunkTableRows.{chunk_table_rows-push, chunk_table_rows_from-more, chunk_table_row, no_chunk}
 use Rattle.xet_records.proofs.SectionRecords.{more_read}
 use Rattle.xet_base.specs.InputLaws.{ReadsBytes-trans}

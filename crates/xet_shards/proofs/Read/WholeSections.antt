@@ -10,7 +10,7 @@ use Rattle.xet_shards.specs.Ends.Ends.{HasHeader, HasHeaderAndFooter}
 use Rattle.xet_shards.specs.Write.WithOptions.{FitsSection}
 use Rattle.xet_shards.specs.Export.KeyedExport.{xorbs_after}
 use Rattle.xet_shards.specs.Write.Layout.{LayoutOptions, info_of, layout_of}
-use Rattle.xet_shards.specs.Export.Rewriting.{HasSections, options_of}
+use Rattle.xet_shards.specs.Read.SectionsBehindHeader.{HasSections, options_of}
 use Rattle.xet_shards.specs.Read.SectionReading.{IsSection, IsRefusedSection, IsTruncatedSection}
 use Rattle.xet_shards.proofs.Ends.EndsUnique.{ends_of_layout}
 use Rattle.xet_shards.proofs.Ends.Loading.{one_version}

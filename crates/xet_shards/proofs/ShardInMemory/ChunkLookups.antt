@@ -13,8 +13,8 @@ use Rattle.xet_records.specs.declared.xorb_structs.XorbChunkSequenceEntry.{XorbC
 use Rattle.xet_records.specs.declared.xorb_structs.MDBXorbInfo.{MDBXorbInfo}
 use Rattle.xet_shards.specs.Content.Shard.{XorbMap, xorb_hash_of}
 use Rattle.xet_shards.specs.ShardInMemory.ChunkLookup.{ChunkLocation, IsLocation, IsChunkLookup, chunk_hash_at}
-use Rattle.xet_shards.specs.Steps.ChunkLookup.{put_xorb}
-use Rattle.xet_shards.specs.Steps.XorbStore.{IsEntered}
+use Rattle.xet_shards.specs.Steps.ChunkLookupSteps.{put_xorb}
+use Rattle.xet_shards.specs.Steps.XorbStoreSteps.{IsEntered}
 
 -- at the key that was inserted
 get-added : (xorbs : XorbMap) (r : MDBXorbInfo) → get (put_xorb xorbs r) (xorb_hash_of r) ≡ Some r

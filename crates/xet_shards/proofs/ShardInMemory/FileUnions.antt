@@ -15,7 +15,7 @@ use Rattle.xet_records.specs.Merging.{merged_file}
 use Rattle.xet_records.proofs.Merging.{merged_well_formed}
 use Rattle.xet_shards.specs.Content.Shard.{FileMap, file_hash_of}
 use Rattle.xet_shards.specs.Content.Joining.{entry, either_file}
-use Rattle.xet_shards.specs.Steps.Joining.{CanJoinFile, CanJoinFiles, IsJoinedFile}
+use Rattle.xet_shards.specs.Steps.JoiningSteps.{CanJoinFile, CanJoinFiles, IsJoinedFile}
 use Rattle.xet_shards.proofs.Content.Found.{found_entry, entry_found}
 use Rattle.xet_shards.proofs.Content.Maps.{is_lt-Less, both_left, both_right}
 use Rattle.xet_shards.proofs.Content.Joining.{entry-append}

@@ -34,7 +34,7 @@ use Rattle.xet_shards.proofs.Write.Written.{whole_layout}
 use Rattle.xet_shards.specs.Write.WithOptions.{FitsSection}
 use Rattle.xet_shards.specs.Write.Layout.{LayoutOptions, if_included, layout_of, header_value, footer_value, shard_header_bytes}
 use Rattle.xet_shards.specs.StreamingShard.MinimalShard.{MinimalShard, is_start, chunk_of, marked_if, mark_starts, minimal_options, IsKept, WritesBytes, WritesKept, WritesMinimalKept}
-use Rattle.xet_shards.specs.Steps.MinimalShard.{HasNoTables}
+use Rattle.xet_shards.specs.Steps.MinimalShardSteps.{HasNoTables}
 use Rattle.xet_shards.proofs.Write.Layouts.{length-file_section, length-xorb_section, length-shard_header_bytes, length-shard_footer_bytes}
 use Rattle.xet_shards.proofs.ShardInMemory.Sums.{sum-mapped}
 use Rattle.xet_shards.proofs.Write.XorbLayouts.{length-parts}

@@ -18,7 +18,7 @@ use Rattle.xet_shards.specs.declared.shard_format.read.placed_record.PlacedRecor
 use Rattle.xet_shards.specs.declared.shard_format.write.written.WrittenXorbs.{WrittenXorbs}
 use Rattle.xet_shards.specs.Read.PlacedRecord.{StoresRecord}
 use Rattle.xet_shards.specs.Steps.Collecting.{BeginsWithRows, BeginsWithSegments, BeginsWithChunks}
-use Rattle.xet_shards.specs.Steps.Tables.{AddsChunkRows}
+use Rattle.xet_shards.specs.Steps.TablesSteps.{AddsChunkRows}
 use Rattle.xet_shards.specs.Write.Written.{AddsRecord, IsFileOf, HasWrittenXorbs}
 use Rattle.xet_shards.proofs.Write.Written.{xorb_written}
 

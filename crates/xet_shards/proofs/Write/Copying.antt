@@ -20,8 +20,8 @@ use Rattle.xet_records.proofs.RecordKinds.{KindLaws, file_laws, chunks_after}
 use Rattle.xet_shards.specs.declared.shard_format.write.written.WrittenFiles.{WrittenFiles}
 use Rattle.xet_shards.specs.declared.shard_format.write.written.WrittenXorbs.{WrittenXorbs}
 use Rattle.xet_shards.specs.Write.Tables.{ChunkTableRow, chunk_table_rows_from}
-use Rattle.xet_shards.specs.Steps.Tables.{AddsChunkRows}
-use Rattle.xet_shards.specs.Write.Copying.{CopiesRecord}
+use Rattle.xet_shards.specs.Steps.TablesSteps.{AddsChunkRows}
+use Rattle.xet_shards.specs.Write.RecordCopying.{CopiesRecord}
 use Rattle.xet_shards.specs.Write.Written.{AddsRecord, IsFileOf, HasWritten, HasWrittenXorbs}
 use Rattle.xet_shards.proofs.Write.ChunkTableRows.{chunk_table_row, chunk_table_rows_from-push}
 use Rattle.xet_shards.proofs.Write.Written.{xorb_written}

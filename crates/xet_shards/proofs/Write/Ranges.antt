@@ -10,7 +10,7 @@ use Rattle.xet_records.specs.declared.xorb_structs.MDBXorbInfo.{MDBXorbInfo}
 use Rattle.xet_records.specs.declared.xorb_structs.XorbChunkSequenceEntry.{XorbChunkSequenceEntry}
 use Rattle.xet_shards.specs.Write.Section.{with_fronts, total_rows}
 use Rattle.xet_shards.specs.Write.Tables.{ChunkTableRow, hash_in, start_of, starts, chunk_table_rows_from, chunk_table_rows}
-use Rattle.xet_shards.specs.Write.Ranges.{start_later, chunk_row_later}
+use Rattle.xet_shards.specs.Write.RaisedRows.{start_later, chunk_row_later}
 
 with_fronts-append : {X : Type 0} (front xs ys : List X) → with_fronts front (xs ++ ys) ≡ with_fronts front xs ++ with_fronts (front ++ xs) ys
 with_fronts-append {X} front [] ys = ap (λ (before : List X). with_fronts before ys) (sym (append-nil front))

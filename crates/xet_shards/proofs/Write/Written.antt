@@ -17,7 +17,7 @@ use Rattle.xet_shards.specs.declared.shard_format.write.written.WrittenXorbs.{Wr
 use Rattle.xet_shards.specs.Content.Shard.{xorb_hash_of}
 use Rattle.xet_shards.specs.Write.Section.{section_bytes}
 use Rattle.xet_shards.specs.Write.Tables.{hash_in, starts, table_bytes, chunk_table_rows_from, chunk_table_rows}
-use Rattle.xet_shards.specs.Steps.Tables.{AddsChunkRows}
+use Rattle.xet_shards.specs.Steps.TablesSteps.{AddsChunkRows}
 use Rattle.xet_shards.specs.Write.Layout.{LayoutOptions, if_included, shard_header_bytes, header_value, layout_of}
 use Rattle.xet_shards.specs.Write.Written.{AddsRecord, IsTableOf, IsFileOf, HasWritten, HasWrittenFor, end_of_layout}
 use Rattle.xet_shards.proofs.Write.ChunkTableRows.{chunk_table_rows-push}

@@ -10,7 +10,7 @@ use Rattle.xet_records.specs.XorbRecord.{xorb_records, xorb_row_count}
 use Rattle.xet_shards.specs.Write.Section.{total_rows}
 use Rattle.xet_shards.specs.Write.Layout.{LayoutOptions, if_included}
 use Rattle.xet_shards.specs.Export.KeyedExport.{keyed_chunk}
-use Rattle.xet_shards.specs.Steps.KeyedExport.{exported_file, exported_xorb}
+use Rattle.xet_shards.specs.Steps.KeyedExportSteps.{exported_file, exported_xorb}
 
 pub file_rows : (aux : Bool) (options : LayoutOptions) (r : MDBFileInfo)
     → total_rows file_records (exported_file aux options r) ≤ row_count r

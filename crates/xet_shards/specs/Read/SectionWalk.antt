@@ -6,7 +6,7 @@ use Rattle.xet_records.specs.RecordKind.{RecordKind}
 use Rattle.xet_records.specs.Reading.{ReadsBookend, HasRead}
 use Rattle.xet_shards.specs.Write.Section.{total_rows, with_fronts}
 use Rattle.xet_shards.specs.Read.SectionReading.{StreamsSection}
-use Rattle.xet_shards.specs.Steps.SectionReading.{ReadsNext}
+use Rattle.xet_shards.specs.Steps.SectionReadingSteps.{ReadsNext}
 
 module _ {H R T : Type 0} (K : RecordKind H R) (keep : ℕ → R → T) where
   -- what is kept of records whose section is at an offset

@@ -12,7 +12,7 @@ ghost use Rattle.xet_records.specs.Part.{rows_of, optional_rows};
 ghost use Rattle.xet_shards.specs.Steps.FileStore.{AreClear};
 ghost use Rattle.xet_shards.specs.Content.Shard.{AreFiles, file_hash_of};
 ghost use Rattle.xet_shards.specs.Content.Joining.{unless_in, entry, either_file};
-ghost use Rattle.xet_shards.specs.Steps.Joining.{CanJoinFile, CanJoinFiles, IsJoinedFile};
+ghost use Rattle.xet_shards.specs.Steps.JoiningSteps.{CanJoinFile, CanJoinFiles, IsJoinedFile};
 
 use std::alloc::Global;
 use std::collections::BTreeMap;

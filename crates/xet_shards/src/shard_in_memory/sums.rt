@@ -8,7 +8,7 @@ ghost use Rattle.xet_records.specs.XorbRecord.{xorb_records};
 ghost use Rattle.xet_shards.specs.Write.Section.{total_rows};
 ghost use Rattle.xet_shards.specs.Content.Shard.{AreFiles, AreXorbs};
 ghost use Rattle.xet_shards.specs.ShardInMemory.XorbStore.{shown_xorbs};
-ghost use Rattle.xet_shards.specs.Steps.XorbStore.{xorbs_of};
+ghost use Rattle.xet_shards.specs.Steps.XorbStoreSteps.{xorbs_of};
 ghost use Rattle.xet_records.specs.Limits.{MAX_ROWS};
 
 use std::collections::BTreeMap;

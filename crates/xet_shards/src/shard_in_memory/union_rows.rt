@@ -14,7 +14,7 @@ ghost use Rattle.xet_records.specs.XorbRecord.{xorb_records};
 ghost use Rattle.xet_shards.specs.Write.Section.{total_rows};
 ghost use Rattle.xet_shards.specs.Content.Shard.{FileMap, XorbMap, AreFiles, AreXorbs};
 ghost use Rattle.xet_shards.specs.Content.Joining.{entry, either_file};
-ghost use Rattle.xet_shards.specs.Steps.Joining.{CanJoinFile, CanJoinFiles};
+ghost use Rattle.xet_shards.specs.Steps.JoiningSteps.{CanJoinFile, CanJoinFiles};
 ghost use Rattle.xet_shards.specs.ShardInMemory.XorbStore.{shown_xorbs};
 ghost use Rattle.xet_records.specs.Limits.{MAX_ROWS};
 

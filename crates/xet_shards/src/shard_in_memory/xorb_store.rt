@@ -8,10 +8,10 @@ ghost use Rattle.xet_base.specs.declared.merklehash.DataHash.{DataHash};
 ghost use Rattle.xet_records.specs.XorbRecord.{xorb_row_count, IsXorb, FitsXorb, HasItsChunks, size_of_chunks};
 ghost use Rattle.xet_shards.specs.Content.Shard.{AreXorbs, xorb_hash_of};
 ghost use Rattle.xet_shards.specs.ShardInMemory.ChunkLookup.{ChunkLocation, IsChunkLookup};
-ghost use Rattle.xet_shards.specs.Steps.ChunkLookup.{put_xorb};
+ghost use Rattle.xet_shards.specs.Steps.ChunkLookupSteps.{put_xorb};
 ghost use Rattle.xet_shards.specs.Content.Joining.{unless_in, entry};
 ghost use Rattle.xet_shards.specs.ShardInMemory.XorbStore.{shown_xorbs, location_in};
-ghost use Rattle.xet_shards.specs.Steps.XorbStore.{IsEntered};
+ghost use Rattle.xet_shards.specs.Steps.XorbStoreSteps.{IsEntered};
 
 use std::alloc::Global;
 use std::collections::{BTreeMap, HashMap};
@@ -31,13 +31,13 @@ pub struct XorbStore {
 }
 
 impl Model for XorbStore {
-    ghost use Rattle.xet_shards.specs.Steps.ChunkLookup.{XorbsWithLookup, coded_xorbs_with_lookup};
+    ghost use Rattle.xet_shards.specs.Steps.ChunkLookupSteps.{XorbsWithLookup, coded_xorbs_with_lookup};
 
     ghost Value = { XorbsWithLookup };
 
     ghost coded = { coded_xorbs_with_lookup };
 
-    ghost use Rattle.xet_shards.specs.Steps.XorbStore.{xorbs_inside, IsSoundXorbStore};
+    ghost use Rattle.xet_shards.specs.Steps.XorbStoreSteps.{xorbs_inside, IsSoundXorbStore};
 
     ghost view = { xorbs_inside };
 

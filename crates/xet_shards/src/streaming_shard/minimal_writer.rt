@@ -15,7 +15,7 @@ ghost use Rattle.xet_shards.specs.Write.WithOptions.{FitsSection};
 ghost use Rattle.xet_shards.specs.Write.Section.{section_bytes};
 ghost use Rattle.xet_shards.specs.Write.Written.{HasWritten, HasWrittenFor};
 ghost use Rattle.xet_shards.specs.StreamingShard.MinimalShard.{start_cmp, has_start, minimal_options, WritesMinimal, WritesMinimalKept, WritesKept, FiltersAt};
-ghost use Rattle.xet_shards.specs.Steps.MinimalShard.{HasNoTables};
+ghost use Rattle.xet_shards.specs.Steps.MinimalShardSteps.{HasNoTables};
 ghost use Rattle.xet_shards.specs.Steps.MinimalWriting.{WritesMarked, marked_if_wanted};
 
 use super::file_start::{FileStart, starts_of, write_marked};

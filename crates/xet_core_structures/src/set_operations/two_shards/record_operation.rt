@@ -5,10 +5,10 @@ ghost use Rattle.xet_records.specs.FileRecord.{file_records};
 ghost use Rattle.xet_records.specs.XorbRecord.{xorb_records};
 ghost use Rattle.xet_shards.specs.Write.Written.{HasWritten, HasWrittenXorbs};
 ghost use Rattle.xet_core_structures.specs.Records.ByteUnion.{IsEitherFile, IsEitherXorb};
-ghost use Rattle.xet_core_structures.specs.Steps.RecordPairs.{IsRest, AreOfOneHash};
+ghost use Rattle.xet_core_structures.specs.Steps.RecordPairsSteps.{IsRest, AreOfOneHash};
 ghost use Rattle.xet_core_structures.specs.Steps.MergeJoin.{IsRecordHeader, PairFails, KeepsRecord, SkipsBoth, SkipsRecord, SkipFails, MakesRecord};
 ghost use Rattle.xet_core_structures.specs.TwoShards.Streams.{streams};
-ghost use Rattle.xet_core_structures.specs.Steps.Streams.{sources};
+ghost use Rattle.xet_core_structures.specs.Steps.StreamsSteps.{sources};
 
 use super::mix::mix;
 use std::alloc::Global;

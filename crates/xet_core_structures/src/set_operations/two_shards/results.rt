@@ -15,8 +15,8 @@ ghost use Rattle.xet_shards.specs.Content.SetOperations.{IsDifference};
 ghost use Rattle.xet_shards.specs.Content.Shard.{Shard};
 ghost use Rattle.xet_core_structures.specs.Records.ByteUnion.{IsByteUnion};
 ghost use Rattle.xet_core_structures.specs.TwoShards.ByteResults.{key_of, UnionRefusal, DifferenceRefusal};
-ghost use Rattle.xet_core_structures.specs.Steps.ByteResults.{WritesEnd, IsOutput};
-ghost use Rattle.xet_core_structures.specs.Steps.SetOutcomes.{OperatesOn, OperationLaws};
+ghost use Rattle.xet_core_structures.specs.Steps.ByteResultsSteps.{WritesEnd, IsOutput};
+ghost use Rattle.xet_core_structures.specs.Steps.SetOutcomesSteps.{OperatesOn, OperationLaws};
 ghost use Rattle.xet_core_structures.specs.Steps.MergeJoin.{CombinesSections};
 ghost use Rattle.xet_core_structures.specs.TwoShards.Streams.{streams};
 

@@ -5,7 +5,7 @@ ghost use Rattle.std.specs.Prelude.{◌≤◌, ◌⊎◌, ◌↔◌, IsTrue, IfS
 ghost use Rattle.std.specs.Io.KnownBytes.{Appends};
 ghost use Rattle.xet_records.specs.RecordKind.{in_version};
 ghost use Rattle.xet_records.specs.Copying.{IsOutputFailure};
-ghost use Rattle.xet_core_structures.specs.Steps.RecordPairs.{IsNextPair};
+ghost use Rattle.xet_core_structures.specs.Steps.RecordPairsSteps.{IsNextPair};
 ghost use Rattle.xet_core_structures.specs.Steps.MergeJoin.{Follows, ReadsFollowing, FollowingFails, Advances, AdvanceFails, CombinesSections};
 ghost use Rattle.xet_core_structures.specs.TwoShards.Streams.{streams};
 

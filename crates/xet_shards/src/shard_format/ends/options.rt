@@ -1,7 +1,7 @@
 //! Layout options: which tables a shard is written with, its version, key and times.
 
 ghost use Rattle.std.specs.Prelude.{◌≡◌};
-ghost use Rattle.xet_shards.specs.Export.Rewriting.{options_of};
+ghost use Rattle.xet_shards.specs.Read.SectionsBehindHeader.{options_of};
 ghost use Rattle.xet_shards.specs.Write.Layout.{plain_options};
 
 use super::info::MDBShardInfo;

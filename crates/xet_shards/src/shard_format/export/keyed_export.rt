@@ -12,9 +12,9 @@ ghost use Rattle.xet_shards.specs.declared.shard_format.ends.options.LayoutOptio
 ghost use Rattle.xet_shards.specs.Write.Section.{section_bytes, total_rows};
 ghost use Rattle.xet_shards.specs.Write.Written.{HasWritten, HasWrittenFor};
 ghost use Rattle.xet_shards.specs.Write.WrittenLaws.{written_for};
-ghost use Rattle.xet_shards.specs.Steps.SectionReading.{RecordFails};
+ghost use Rattle.xet_shards.specs.Steps.SectionReadingSteps.{RecordFails};
 ghost use Rattle.xet_shards.specs.Export.KeyedExport.{ExportsWith, ExportFails, OutcomeOfExport, CannotExport, ExpiresTooLate, export_options};
-ghost use Rattle.xet_shards.specs.Steps.KeyedExport.{ExportsSection, ExportsNoSection, exported_file, exported_xorb};
+ghost use Rattle.xet_shards.specs.Steps.KeyedExportSteps.{ExportsSection, ExportsNoSection, exported_file, exported_xorb};
 ghost use Rattle.xet_shards.specs.Export.ExportLaws.{file_rows, xorb_rows};
 ghost use Rattle.xet_records.specs.Limits.{MAX_ROWS};
 

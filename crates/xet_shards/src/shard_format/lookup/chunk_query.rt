@@ -15,7 +15,7 @@ ghost use Rattle.xet_shards.specs.Write.WithOptions.{IsBytesWithOptions};
 ghost use Rattle.xet_shards.specs.Lookup.Lookup.{Visit};
 ghost use Rattle.xet_shards.specs.Lookup.WrittenQueries.{RunInXorb, QueryFailsInXorb, RunAmong, QueryCosts};
 ghost use Rattle.xet_shards.specs.Lookup.RunReading.{query_at, AnswerAt, RefusedAt, QueryOutcome};
-ghost use Rattle.xet_shards.specs.Steps.RunReading.{OutcomeAt, OutcomeOfTries};
+ghost use Rattle.xet_shards.specs.Steps.RunReadingSteps.{OutcomeAt, OutcomeOfTries};
 ghost use Rattle.xet_shards.specs.Write.WrittenShard.{IsBytesWithInfo};
 
 use super::run_reader::{read_header_at, read_run_at};

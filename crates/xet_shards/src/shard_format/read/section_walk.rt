@@ -4,7 +4,7 @@
 ghost use Rattle.std.specs.Prelude.{◌≡◌, ℕ, ◌+◌, ◌*◌, ◌^◌, ◌<◌, ◌≤◌, MatchResult};
 ghost use Rattle.xet_records.specs.RecordKind.{in_version};
 ghost use Rattle.xet_shards.specs.Read.SectionReading.{SectionNotStreamed};
-ghost use Rattle.xet_shards.specs.Steps.SectionReading.{RecordFails};
+ghost use Rattle.xet_shards.specs.Steps.SectionReadingSteps.{RecordFails};
 ghost use Rattle.xet_shards.specs.Read.SectionWalk.{KeepsSection, KeepsNext};
 
 use std::alloc::Global;

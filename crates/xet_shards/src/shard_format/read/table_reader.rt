@@ -8,7 +8,7 @@ ghost use Rattle.xet_records.specs.XorbRecord.{xorb_records};
 ghost use Rattle.xet_shards.specs.Content.Shard.{Shard};
 ghost use Rattle.xet_shards.specs.Write.Tables.{start_row, starts};
 ghost use Rattle.xet_shards.specs.Read.TableReading.{FitsStart, triple_row, FitsTriple, ReadsTable, TableFails};
-ghost use Rattle.xet_shards.specs.Steps.TableReading.{ReadsNextRow};
+ghost use Rattle.xet_shards.specs.Steps.TableReadingSteps.{ReadsNextRow};
 ghost use Rattle.xet_shards.specs.Write.WrittenShard.{IsBytesWithInfo, ReadsBack};
 
 use crate::shard_format::ends::info::MDBShardInfo;

@@ -7,7 +7,7 @@ ghost use Rattle.xet_shards.specs.Write.Tables.{chunk_table_rows_from, chunk_tab
 ghost use Rattle.xet_shards.specs.Write.WrittenShard.{IsBytesWithInfo, ReadsBack};
 ghost use Rattle.xet_shards.specs.Read.TableReading.{triple_of, triple_row, FitsTriple, ReadsTable, TableFails};
 ghost use Rattle.xet_shards.specs.Read.TruncatedHashes.{ReadsHashes, HashesFail};
-ghost use Rattle.xet_shards.specs.Steps.TruncatedHashes.{ReadsBefore, XorbBeforeFails};
+ghost use Rattle.xet_shards.specs.Steps.TruncatedHashesSteps.{ReadsBefore, XorbBeforeFails};
 ghost use Rattle.xet_records.specs.Limits.{MAX_ROWS};
 
 use super::table_reader::read_chunk_table;

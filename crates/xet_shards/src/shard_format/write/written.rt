@@ -7,7 +7,7 @@ ghost use Rattle.xet_base.specs.Errors.{IsWriteError};
 ghost use Rattle.xet_base.specs.Hash.{all_ones};
 ghost use Rattle.xet_records.specs.Copying.{CopyFails};
 ghost use Rattle.xet_shards.specs.Write.Section.{total_rows};
-ghost use Rattle.xet_shards.specs.Write.Copying.{CopiesRecord, CollectsRecord};
+ghost use Rattle.xet_shards.specs.Write.RecordCopying.{CopiesRecord, CollectsRecord};
 ghost use Rattle.xet_records.specs.Limits.{MAX_ROWS};
 
 use super::xorb_writer::ChunkTableRow;

@@ -11,7 +11,7 @@ ghost use Rattle.xet_records.specs.XorbRecord.{xorb_record_bytes, xorb_row_count
 ghost use Rattle.xet_records.specs.XorbRow.{chunk_row, FitsChunk};
 ghost use Rattle.xet_shards.specs.Write.Tables.{chunk_table_row_bytes};
 ghost use Rattle.xet_shards.specs.Steps.Collecting.{BeginsWithChunks};
-ghost use Rattle.xet_shards.specs.Steps.Tables.{AddsChunkRows};
+ghost use Rattle.xet_shards.specs.Steps.TablesSteps.{AddsChunkRows};
 ghost use Rattle.xet_shards.specs.Write.Written.{AddsRecord, HasWrittenFor, HasWrittenXorbs};
 ghost use Rattle.xet_records.specs.Limits.{MAX_ROWS};
 

@@ -1,7 +1,7 @@
 use Rattle.std.proofs.Common.{arith, rules, ◌≡◌, ◌-◌, ◌∙◌, ap, subst, take, map, flat_map, slice_range}
 use Rattle.std.specs.Io.KnownBytes.{Appends}
 use Rattle.std.proofs.KnownBytes.{Appends-trans}
-use Rattle.xet_shards.specs.Write.Ranges.{start_later, chunk_row_later}
+use Rattle.xet_shards.specs.Write.RaisedRows.{start_later, chunk_row_later}
 use Rattle.xet_shards.specs.Write.Tables.{start_row, chunk_table_row_bytes}
 use Rattle.mdb_assembly.proofs.assembly.Assembly.add_xorbs.Goals as goal
 

@@ -5,7 +5,7 @@ use Rattle.std.specs.FinMap.{is_sorted, entries_sorted}
 use Rattle.xet_base.specs.Hash.{hash_cmp}
 use Rattle.xet_shards.specs.ShardInMemory.ChunkLookup.{ShardWithLookup}
 use Rattle.xet_shards.specs.ShardInMemory.InMemoryShard.{shard_inside}
-use Rattle.xet_shards.specs.Steps.Joining.{CanJoinFiles}
+use Rattle.xet_shards.specs.Steps.JoiningSteps.{CanJoinFiles}
 use Rattle.xet_shards.specs.Content.SetOperations.{CanUnite}
 use Rattle.xet_shards.proofs.Content.Overlays.{from_sorted-entries, can_join_united, unite_if_few, few_if_unite}
 use Rattle.xet_shards.proofs.shard_in_memory.MDBInMemoryShard.can_unite.Goals as goal

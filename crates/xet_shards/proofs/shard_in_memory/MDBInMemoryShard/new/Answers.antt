@@ -7,7 +7,7 @@ use Rattle.xet_records.specs.FileRecord.{file_records}
 use Rattle.xet_records.specs.XorbRecord.{xorb_records}
 use Rattle.xet_shards.specs.Write.Section.{total_rows}
 use Rattle.xet_shards.specs.Content.Shard.{FileMap}
-use Rattle.xet_shards.specs.Steps.ChunkLookup.{XorbsWithLookup}
+use Rattle.xet_shards.specs.Steps.ChunkLookupSteps.{XorbsWithLookup}
 use Rattle.xet_shards.proofs.Content.Maps.{values-empty}
 use Rattle.xet_shards.proofs.shard_in_memory.MDBInMemoryShard.new.Goals as goal
 

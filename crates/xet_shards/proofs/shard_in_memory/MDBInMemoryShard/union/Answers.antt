@@ -4,7 +4,7 @@ use Rattle.std.specs.FinMap.{get}
 use Rattle.std.specs.Option.{option_or}
 use Rattle.xet_shards.specs.ShardInMemory.ChunkLookup.{ShardWithLookup}
 use Rattle.xet_shards.specs.Content.Joining.{either_file}
-use Rattle.xet_shards.specs.Steps.Joining.{CanJoinFiles}
+use Rattle.xet_shards.specs.Steps.JoiningSteps.{CanJoinFiles}
 use Rattle.xet_shards.specs.Content.Joins.{IsJoinOf}
 use Rattle.xet_shards.proofs.Content.Overlays.{can_join_united}
 use Rattle.xet_shards.proofs.Content.Joins.{union_is_join}

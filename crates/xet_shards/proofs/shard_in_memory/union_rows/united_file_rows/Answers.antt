@@ -10,7 +10,7 @@ use Rattle.xet_records.specs.FileRecord.{file_records, row_count, IsWellFormed}
 use Rattle.xet_records.specs.Merging.{IsSameFile, merged_file}
 use Rattle.xet_shards.specs.Write.Section.{total_rows}
 use Rattle.xet_shards.proofs.ShardInMemory.Walks.{entry_turn, entry_turned, entry_end, entry_holds}
-use Rattle.xet_shards.specs.Steps.Joining.{CanJoinFile}
+use Rattle.xet_shards.specs.Steps.JoiningSteps.{CanJoinFile}
 use Rattle.xet_shards.proofs.ShardInMemory.FileUnions.{CanJoinEntries, can_join_more, can_join_entries, entry_of}
 use Rattle.xet_shards.proofs.Content.Overlays.{with_twin, overlay, sum-overlay, new_key, sum-entries, are_united_files}
 use Rattle.xet_shards.proofs.shard_in_memory.union_rows.united_file_rows.Goals as goal

@@ -2,7 +2,7 @@ use Rattle.std.proofs.Common.{◌≡◌, ◌+◌, ◌≤◌, length}
 use Rattle.std.specs.Prelude.{All}
 use Rattle.std.specs.HashMap.{spare}
 use Rattle.xet_shards.specs.ShardInMemory.XorbStore.{location_in}
-use Rattle.xet_shards.specs.Steps.XorbStore.{IsEntered}
+use Rattle.xet_shards.specs.Steps.XorbStoreSteps.{IsEntered}
 use Rattle.xet_shards.proofs.shard_in_memory.xorb_store.enter_chunks.Given as goal
 
 abbrev pub invariant-loop-chunk : goal.invariant-loop-chunk

@@ -2,7 +2,7 @@ use Rattle.std.proofs.Common.{◌≡◌, rules, subst}
 use Rattle.std.specs.Prelude.{IfOk}
 use Rattle.std.proofs.lemmas.Result.{err_from_is_err_and}
 use Rattle.xet_core_structures.specs.TwoShards.ByteResults.{key_of}
-use Rattle.xet_core_structures.specs.Steps.ByteResults.{WritesEnd}
+use Rattle.xet_core_structures.specs.Steps.ByteResultsSteps.{WritesEnd}
 use Rattle.xet_core_structures.proofs.TwoShards.SetOperationSteps.{files_failed, xorbs_failed, tables_written}
 use Rattle.xet_core_structures.proofs.set_operations.two_shards.results.operate.Goals as goal
 

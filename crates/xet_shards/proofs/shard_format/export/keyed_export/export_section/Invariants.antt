@@ -1,7 +1,7 @@
 use Rattle.std.proofs.Common.{flat_map}
 use Rattle.xet_records.specs.RecordKind.{in_version}
 use Rattle.xet_base.specs.Source.{ReadsBytes}
-use Rattle.xet_shards.specs.Steps.KeyedExport.{HasExported}
+use Rattle.xet_shards.specs.Steps.KeyedExportSteps.{HasExported}
 use Rattle.xet_shards.proofs.Export.KeyedExport.{SectionWritten}
 use Rattle.xet_shards.proofs.shard_format.export.keyed_export.export_section.Given as goal
 

@@ -1,5 +1,5 @@
 use Rattle.std.proofs.Common.{take}
-use Rattle.xet_shards.specs.Steps.RunReading.{NoneTried}
+use Rattle.xet_shards.specs.Steps.RunReadingSteps.{NoneTried}
 use Rattle.xet_shards.proofs.shard_format.lookup.chunk_query.first_run.Given as goal
 
 abbrev pub invariant-loop-location : goal.invariant-loop-location

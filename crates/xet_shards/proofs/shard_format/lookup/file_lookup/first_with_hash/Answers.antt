@@ -7,7 +7,7 @@ use Rattle.xet_records.specs.Version.{version_of}
 use Rattle.xet_shards.specs.Read.SectionReading.{files_of}
 use Rattle.xet_shards.proofs.Write.Sections.{files_laws}
 use Rattle.xet_shards.specs.Lookup.Lookup.{Visits, LookupAnswer}
-use Rattle.xet_shards.specs.Steps.Lookup.{NoneHasHash}
+use Rattle.xet_shards.specs.Steps.LookupSteps.{NoneHasHash}
 use Rattle.xet_shards.proofs.Lookup.Lookups.{visits_read, visits_read_not, missed_more, refusal_after}
 use Rattle.xet_shards.proofs.shard_format.lookup.file_lookup.first_with_hash.Goals as goal
 

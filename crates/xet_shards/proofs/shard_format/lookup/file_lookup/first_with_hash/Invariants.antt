@@ -1,6 +1,6 @@
 use Rattle.std.proofs.Common.{take}
 use Rattle.xet_shards.specs.Read.SectionReading.{files_of}
-use Rattle.xet_shards.specs.Steps.Lookup.{NoneHasHash}
+use Rattle.xet_shards.specs.Steps.LookupSteps.{NoneHasHash}
 use Rattle.xet_shards.proofs.shard_format.lookup.file_lookup.first_with_hash.Given as goal
 
 abbrev pub invariant-loop-row : goal.invariant-loop-row

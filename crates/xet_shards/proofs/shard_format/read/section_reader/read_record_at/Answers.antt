@@ -3,7 +3,7 @@ use Rattle.xet_records.specs.RecordKind.{in_version}
 use Rattle.xet_records.proofs.RecordKinds.{laws_in}
 use Rattle.xet_base.specs.declared.error.CoreError.{CoreError}
 use Rattle.xet_base.specs.Source.{after_seek}
-use Rattle.xet_shards.specs.Steps.SectionReading.{ReadsOne}
+use Rattle.xet_shards.specs.Steps.SectionReadingSteps.{ReadsOne}
 use Rattle.xet_shards.proofs.Read.SectionReading.{record_fails}
 use Rattle.xet_shards.specs.Lookup.Lookup.{row_at}
 use Rattle.xet_shards.proofs.Lookup.Lookups.{info_no_seek, info_read, info_bookend, info_fails}

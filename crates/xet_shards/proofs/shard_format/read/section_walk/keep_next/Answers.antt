@@ -7,7 +7,7 @@ use Rattle.xet_base.specs.InputLaws.{ReadsBytes-trans}
 use Rattle.xet_records.specs.Reading.{ReadsNextHeader}
 use Rattle.xet_records.specs.Reading.NextRecordNotRead.{no_rows}
 use Rattle.xet_records.proofs.SectionRecords.{rows_after_header}
-use Rattle.xet_shards.specs.Steps.SectionReading.{ReadsNext}
+use Rattle.xet_shards.specs.Steps.SectionReadingSteps.{ReadsNext}
 use Rattle.xet_shards.proofs.Read.SectionReading.{record_fails, no_offset_after}
 use Rattle.xet_shards.proofs.shard_format.read.section_walk.keep_next.Goals as goal
 

@@ -1,5 +1,5 @@
 use Rattle.std.proofs.Common.{subst, rules}
-use Rattle.xet_shards.specs.Steps.TruncatedHashes.{ReadsBefore}
+use Rattle.xet_shards.specs.Steps.TruncatedHashesSteps.{ReadsBefore}
 use Rattle.xet_shards.proofs.Read.TruncatedHashes.{more_hashes, hashes_end, hashes_fail}
 use Rattle.xet_shards.proofs.shard_format.read.truncated_hashes.read_section_hashes.Goals as goal
 

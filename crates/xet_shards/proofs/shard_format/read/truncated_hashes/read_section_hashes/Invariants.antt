@@ -1,5 +1,5 @@
 use Rattle.xet_base.specs.Source.{after_seek}
-use Rattle.xet_shards.specs.Steps.TruncatedHashes.{HasReadHashes}
+use Rattle.xet_shards.specs.Steps.TruncatedHashesSteps.{HasReadHashes}
 use Rattle.xet_shards.proofs.shard_format.read.truncated_hashes.read_section_hashes.Given as goal
 
 abbrev pub invariant-loop-hashes : goal.invariant-loop-hashes

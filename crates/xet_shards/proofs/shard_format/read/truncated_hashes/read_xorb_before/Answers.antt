@@ -2,7 +2,7 @@ use Rattle.std.proofs.Common.{◌<◌, ap, subst, arith, rules}
 use Rattle.xet_base.specs.Source.{Source}
 use Rattle.xet_records.specs.XorbRecord.{xorb_records}
 use Rattle.xet_records.proofs.RecordKinds.{xorb_laws}
-use Rattle.xet_shards.specs.Steps.TruncatedHashes.{XorbBeforeFails}
+use Rattle.xet_shards.specs.Steps.TruncatedHashesSteps.{XorbBeforeFails}
 use Rattle.xet_shards.proofs.Read.SectionReading.{record_fails}
 use Rattle.xet_shards.proofs.Read.TruncatedHashes.{before_fails}
 use Rattle.xet_shards.proofs.shard_format.read.truncated_hashes.read_xorb_before.Goals as goal

@@ -2,7 +2,7 @@ use Rattle.std.proofs.Common.{◌≡◌, true, List, flat_map, Result, Ok, Err, 
 use Rattle.std.specs.Prelude.{IfOk}
 use Rattle.xet_base.specs.declared.error.CoreError.{CoreError}
 use Rattle.xet_records.specs.declared.xorb_structs.MDBXorbInfo.{MDBXorbInfo}
-use Rattle.xet_shards.specs.Steps.Tables.{PutsInOrder}
+use Rattle.xet_shards.specs.Steps.TablesSteps.{PutsInOrder}
 use Rattle.xet_shards.specs.Write.Layout.{if_included}
 use Rattle.xet_shards.specs.Write.Tables.{ChunkTableRow, chunk_table_row_bytes, chunk_table_rows, chunk_table_bytes}
 use Rattle.xet_shards.proofs.shard_format.write.shard_end.rows_in_order.Goals as goal

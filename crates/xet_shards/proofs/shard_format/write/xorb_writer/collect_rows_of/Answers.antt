@@ -1,7 +1,7 @@
 use Rattle.std.proofs.Common.{◌≡◌, [], ◌∷◌, ◌++◌, take, get_or, sym, ap, ◌∙◌, subst, append-nil, append_assoc, arith}
 use Rattle.xet_records.specs.XorbRow.{FitsChunk, chunk_row}
 use Rattle.xet_records.proofs.RowsWithin.{chunk_laws}
-use Rattle.xet_shards.specs.Steps.Tables.{AddsChunkRows}
+use Rattle.xet_shards.specs.Steps.TablesSteps.{AddsChunkRows}
 use Rattle.xet_shards.specs.Write.Tables.{chunk_table_rows_from}
 use Rattle.xet_shards.proofs.Write.ChunkTableRows.{chunk_table_row, no_chunk, chunk_table_rows_from-more}
 use Rattle.xet_shards.proofs.Write.Collecting.{row_or, all_rows}

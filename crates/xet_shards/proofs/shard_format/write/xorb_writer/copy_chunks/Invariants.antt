@@ -2,7 +2,7 @@ use Rattle.std.proofs.Common.{List}
 use Rattle.xet_records.specs.declared.xorb_structs.XorbChunkSequenceEntry.{XorbChunkSequenceEntry}
 use Rattle.xet_records.specs.Copying.{CopiesRows}
 use Rattle.xet_records.specs.XorbRow.{chunk_row, FitsChunk}
-use Rattle.xet_shards.specs.Steps.Tables.{AddsChunkRows}
+use Rattle.xet_shards.specs.Steps.TablesSteps.{AddsChunkRows}
 use Rattle.xet_shards.proofs.shard_format.write.xorb_writer.copy_chunks.Given as goal
 
 abbrev pub invariant-loop-index : goal.invariant-loop-index

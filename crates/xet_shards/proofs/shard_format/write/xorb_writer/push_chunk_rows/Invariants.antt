@@ -1,5 +1,5 @@
 use Rattle.std.proofs.Common.{◌≡◌, take}
-use Rattle.xet_shards.specs.Steps.Tables.{AddsChunkRows}
+use Rattle.xet_shards.specs.Steps.TablesSteps.{AddsChunkRows}
 use Rattle.xet_shards.proofs.shard_format.write.xorb_writer.push_chunk_rows.Given as goal
 
 abbrev pub invariant-loop-chunk : goal.invariant-loop-chunk

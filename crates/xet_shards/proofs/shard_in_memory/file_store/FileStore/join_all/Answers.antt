@@ -7,7 +7,7 @@ use Rattle.xet_base.specs.Hash.{hash_cmp}
 use Rattle.xet_records.specs.FileRecord.{IsWellFormed}
 use Rattle.xet_shards.specs.Content.Shard.{file_hash_of}
 use Rattle.xet_shards.specs.Content.Joining.{entry, either_file}
-use Rattle.xet_shards.specs.Steps.Joining.{CanJoinFile, IsJoinedFile}
+use Rattle.xet_shards.specs.Steps.JoiningSteps.{CanJoinFile, IsJoinedFile}
 use Rattle.xet_shards.proofs.ShardInMemory.Walks.{entry_turn, entry_turned, entry_holds}
 use Rattle.xet_shards.proofs.ShardInMemory.FileUnions.{entry_of, if_some, either_none, joined_before, joined_put, joined_kept}
 use Rattle.xet_shards.proofs.shard_in_memory.file_store.FileStore.join_all.Goals as goal

@@ -3,7 +3,7 @@ use Rattle.std.specs.FinMap.{get}
 use Rattle.xet_records.specs.Merging.{merged_file}
 use Rattle.xet_records.proofs.Merging.{nothing_taken}
 use Rattle.xet_shards.specs.Content.Joining.{either_file}
-use Rattle.xet_shards.specs.Steps.Joining.{CanJoinFile}
+use Rattle.xet_shards.specs.Steps.JoiningSteps.{CanJoinFile}
 use Rattle.xet_shards.proofs.ShardInMemory.FileUnions.{joined_file, of_some}
 use Rattle.xet_shards.proofs.shard_in_memory.file_store.FileStore.joined_with.Goals as goal
 

@@ -2,7 +2,7 @@ use Rattle.std.proofs.Common.{sym, ap, ◌∙◌, subst}
 use Rattle.std.specs.FinMap.{get, from_sorted, get-from_sorted}
 use Rattle.xet_base.specs.Hash.{hash_cmp}
 use Rattle.xet_shards.specs.Content.Joining.{either_file}
-use Rattle.xet_shards.specs.Steps.Joining.{CanJoinFiles}
+use Rattle.xet_shards.specs.Steps.JoiningSteps.{CanJoinFiles}
 use Rattle.xet_shards.proofs.shard_in_memory.file_store.FileStore.union.Goals as goal
 
 pub join_all-requires-clause-joins : goal.join_all-requires-clause-joins

@@ -11,9 +11,9 @@ use Rattle.xet_records.specs.declared.xorb_structs.MDBXorbInfo.{MDBXorbInfo}
 use Rattle.xet_records.specs.XorbRecord.{IsXorb}
 use Rattle.xet_shards.specs.Content.Shard.{XorbMap, AreXorbs, xorb_hash_of}
 use Rattle.xet_shards.specs.ShardInMemory.ChunkLookup.{IsChunkLookup}
-use Rattle.xet_shards.specs.Steps.ChunkLookup.{XorbsWithLookup}
+use Rattle.xet_shards.specs.Steps.ChunkLookupSteps.{XorbsWithLookup}
 use Rattle.xet_shards.specs.ShardInMemory.XorbStore.{shown_xorbs, shown_location, location_in}
-use Rattle.xet_shards.specs.Steps.XorbStore.{IsEntered}
+use Rattle.xet_shards.specs.Steps.XorbStoreSteps.{IsEntered}
 use Rattle.xet_shards.proofs.Content.Maps.{from_sorted-insert_entry, sorted-insert_entry, All-insert_entry}
 use Rattle.xet_shards.proofs.ShardInMemory.ChunkLookups.{lookup-same, lookup-append, entered-from, on_err}
 use Rattle.xet_shards.proofs.shard_in_memory.xorb_store.XorbStore.append.Goals as goal

@@ -1,6 +1,6 @@
 use Rattle.std.proofs.Common.{ap, arith}
 use Rattle.std.specs.FinMap.{get}
-use Rattle.xet_shards.specs.Steps.ChunkLookup.{XorbsWithLookup}
+use Rattle.xet_shards.specs.Steps.ChunkLookupSteps.{XorbsWithLookup}
 use Rattle.xet_shards.proofs.ShardInMemory.Xorbs.{found_shown}
 use Rattle.xet_shards.proofs.shard_in_memory.xorb_store.XorbStore.contains.Goals as goal
 

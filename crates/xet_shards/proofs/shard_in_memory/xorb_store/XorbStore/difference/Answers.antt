@@ -1,5 +1,5 @@
 use Rattle.std.proofs.Common.{ap, ◌∙◌}
-use Rattle.xet_shards.specs.Steps.ChunkLookup.{XorbsWithLookup}
+use Rattle.xet_shards.specs.Steps.ChunkLookupSteps.{XorbsWithLookup}
 use Rattle.xet_shards.proofs.Content.Joining.{filled-new}
 use Rattle.xet_shards.proofs.shard_in_memory.xorb_store.XorbStore.difference.Goals as goal
 

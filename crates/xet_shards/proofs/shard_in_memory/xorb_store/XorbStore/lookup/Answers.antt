@@ -4,7 +4,7 @@ use Rattle.xet_base.specs.Hash.{hash_cmp}
 use Rattle.xet_base.proofs.HashMaps.{get-shown_entry}
 use Rattle.xet_records.specs.XorbRecord.{IsXorb}
 use Rattle.xet_shards.specs.ShardInMemory.ChunkLookup.{IsChunkLookup}
-use Rattle.xet_shards.specs.Steps.ChunkLookup.{XorbsWithLookup}
+use Rattle.xet_shards.specs.Steps.ChunkLookupSteps.{XorbsWithLookup}
 use Rattle.xet_shards.specs.ShardInMemory.XorbStore.{shown_location, location_in}
 use Rattle.xet_shards.proofs.ShardInMemory.ChunkLookups.{lookup-same}
 use Rattle.xet_shards.proofs.ShardInMemory.FileUnions.{entry-holds}

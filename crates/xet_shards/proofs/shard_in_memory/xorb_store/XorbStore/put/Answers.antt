@@ -2,7 +2,7 @@ use Rattle.std.proofs.Common.{ap, ◌∙◌}
 use Rattle.std.specs.FinMap.{get, insert, get-empty}
 use Rattle.xet_base.specs.Hash.{hash_cmp}
 use Rattle.xet_shards.specs.Content.Shard.{xorb_hash_of}
-use Rattle.xet_shards.specs.Steps.ChunkLookup.{XorbsWithLookup}
+use Rattle.xet_shards.specs.Steps.ChunkLookupSteps.{XorbsWithLookup}
 use Rattle.xet_shards.proofs.Content.Joining.{filled-all, inserts_then_fills}
 use Rattle.xet_shards.proofs.shard_in_memory.xorb_store.XorbStore.put.Goals as goal
 

@@ -5,7 +5,7 @@ use Rattle.std.specs.FinMap.{get, get-from_sorted}
 use Rattle.xet_base.specs.Hash.{hash_cmp}
 use Rattle.xet_records.specs.declared.xorb_structs.MDBXorbInfo.{MDBXorbInfo}
 use Rattle.xet_records.specs.XorbRecord.{xorb_row_count, IsXorb}
-use Rattle.xet_shards.specs.Steps.ChunkLookup.{XorbsWithLookup}
+use Rattle.xet_shards.specs.Steps.ChunkLookupSteps.{XorbsWithLookup}
 use Rattle.xet_shards.specs.ShardInMemory.XorbStore.{shown_xorbs}
 use Rattle.xet_shards.proofs.ShardInMemory.FileUnions.{entry-holds}
 use Rattle.xet_shards.proofs.ShardInMemory.Xorbs.{found_shown}

@@ -1,7 +1,7 @@
 use Rattle.std.proofs.Common.{ap, ◌∙◌}
 use Rattle.std.specs.FinMap.{get}
 use Rattle.std.specs.Option.{option_or}
-use Rattle.xet_shards.specs.Steps.ChunkLookup.{XorbsWithLookup}
+use Rattle.xet_shards.specs.Steps.ChunkLookupSteps.{XorbsWithLookup}
 use Rattle.xet_shards.proofs.Content.Joining.{filled-all}
 use Rattle.xet_shards.proofs.shard_in_memory.xorb_store.XorbStore.union.Goals as goal
 

@@ -1,6 +1,6 @@
 use Rattle.std.proofs.Common.{None, Some, refl, sym, subst}
 use Rattle.std.specs.Prelude.{IfSome}
-use Rattle.xet_core_structures.specs.Steps.RecordPairs.{IsRest}
+use Rattle.xet_core_structures.specs.Steps.RecordPairsSteps.{IsRest}
 use Rattle.xet_core_structures.specs.Steps.MergeJoin.{IsRecordHeader}
 use Rattle.xet_core_structures.proofs.TwoShards.Pairs.{keeps_second, nothing_kept}
 use Rattle.xet_core_structures.proofs.set_operations.two_shards.record_operation.OfDifferenceRecordOperation.write.Goals as goal

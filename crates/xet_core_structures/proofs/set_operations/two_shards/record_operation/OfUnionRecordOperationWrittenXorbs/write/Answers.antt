@@ -3,7 +3,7 @@ use Rattle.std.specs.Prelude.{IfSome}
 use Rattle.xet_records.specs.XorbRecord.{xorb_records}
 use Rattle.xet_records.proofs.RecordKinds.{xorb_laws}
 use Rattle.xet_core_structures.specs.Records.ByteUnion.{IsEitherXorb}
-use Rattle.xet_core_structures.specs.Steps.RecordPairs.{AreOfOneHash}
+use Rattle.xet_core_structures.specs.Steps.RecordPairsSteps.{AreOfOneHash}
 use Rattle.xet_core_structures.specs.Steps.MergeJoin.{IsRecordHeader}
 use Rattle.xet_core_structures.proofs.TwoShards.Pairs.{keeps_first, keeps_second}
 use Rattle.xet_core_structures.proofs.set_operations.two_shards.record_operation.OfUnionRecordOperationWrittenXorbs.write.Goals as goal

@@ -2,7 +2,7 @@ use Rattle.std.proofs.Common.{List, subst}
 use Rattle.std.proofs.lemmas.Result.{on_ok_weaker}
 use Rattle.xet_records.specs.declared.xorb_structs.XorbChunkSequenceEntry.{XorbChunkSequenceEntry}
 use Rattle.xet_shards.specs.Steps.Collecting.{BeginsWithChunks}
-use Rattle.xet_shards.specs.Steps.Tables.{AddsChunkRows}
+use Rattle.xet_shards.specs.Steps.TablesSteps.{AddsChunkRows}
 use Rattle.xet_shards.proofs.Write.Collecting.{chunks_first, xorb_at}
 use Rattle.xet_shards.proofs.shard_format.write.xorb_writer.WrittenXorbsWrittenSection.collect.Goals as goal
 

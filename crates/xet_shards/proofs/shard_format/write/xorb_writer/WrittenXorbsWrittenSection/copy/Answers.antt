@@ -1,5 +1,5 @@
 use Rattle.std.proofs.Common.{ap, subst}
-use Rattle.xet_shards.specs.Steps.Tables.{AddsChunkRows}
+use Rattle.xet_shards.specs.Steps.TablesSteps.{AddsChunkRows}
 use Rattle.xet_shards.proofs.Write.Copying.{xorb_record_copied}
 use Rattle.xet_shards.proofs.shard_format.write.xorb_writer.WrittenXorbsWrittenSection.copy.Goals as goal
 

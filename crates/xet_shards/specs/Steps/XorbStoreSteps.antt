@@ -9,7 +9,7 @@ use Rattle.xet_records.specs.declared.xorb_structs.MDBXorbInfo.{MDBXorbInfo}
 use Rattle.xet_shards.specs.declared.shard_in_memory.xorb_store.XorbStore.TheInside.{Inside}
 use Rattle.xet_shards.specs.Content.Shard.{AreXorbs}
 use Rattle.xet_shards.specs.ShardInMemory.ChunkLookup.{ChunkLocation, IsChunkLookup, chunk_hash_at}
-use Rattle.xet_shards.specs.Steps.ChunkLookup.{XorbsWithLookup}
+use Rattle.xet_shards.specs.Steps.ChunkLookupSteps.{XorbsWithLookup}
 use Rattle.xet_shards.specs.ShardInMemory.XorbStore.{location_in, shown_location, shown_xorbs}
 
 -- the xorbs alone

@@ -6,7 +6,7 @@ use Rattle.xet_records.specs.declared.xorb_structs.MDBXorbInfo.{MDBXorbInfo}
 use Rattle.xet_records.specs.Reading.{ReadsBookend, HasRead}
 use Rattle.xet_records.specs.XorbRecord.{xorb_records}
 use Rattle.xet_shards.specs.Read.SectionReading.{BeginsRefused, EndsEarly, SectionFailure}
-use Rattle.xet_shards.specs.Steps.SectionReading.{ReadsNext}
+use Rattle.xet_shards.specs.Steps.SectionReadingSteps.{ReadsNext}
 use Rattle.xet_records.specs.Limits.{MAX_ROWS}
 use Rattle.xet_shards.specs.Read.TruncatedHashes.{StartBefore, hashes_of}
 

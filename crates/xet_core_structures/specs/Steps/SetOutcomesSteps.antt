@@ -14,7 +14,7 @@ use Rattle.xet_shards.specs.declared.shard_format.ends.info.MDBShardInfo.{MDBSha
 use Rattle.xet_shards.specs.Ends.Ends.{FitsFooter}
 use Rattle.xet_shards.specs.Content.Shard.{Shard}
 use Rattle.xet_core_structures.specs.TwoShards.ByteResults.{key_of, WritesResult, InputsFail, DifferenceRefusal}
-use Rattle.xet_core_structures.specs.Steps.ByteResults.{FailsBy, Records, HaveInputs, AreCombined, WritesRecords}
+use Rattle.xet_core_structures.specs.Steps.ByteResultsSteps.{FailsBy, Records, HaveInputs, AreCombined, WritesRecords}
 use Rattle.xet_core_structures.specs.Records.ShardContents.{files_at, xorbs_at}
 use Rattle.xet_core_structures.specs.TwoShards.Readable.{WritesReadable}
 use Rattle.xet_core_structures.specs.Steps.MergeJoin.{CannotCombine}

@@ -18,7 +18,7 @@ use Rattle.xet_shards.specs.declared.shard_format.ends.options.LayoutOptions.{La
 use Rattle.xet_shards.specs.Write.Layout.{layout_of, info_of}
 use Rattle.xet_shards.specs.Write.Section.{total_rows}
 use Rattle.xet_core_structures.specs.Records.RecordPairs.{Combines}
-use Rattle.xet_core_structures.specs.Steps.ShardContents.{HoldsLists}
+use Rattle.xet_core_structures.specs.Steps.ShardContentsSteps.{HoldsLists}
 use Rattle.xet_records.specs.Limits.{MAX_ROWS}
 use Rattle.xet_core_structures.specs.TwoShards.ByteResults.{key_of, keyed_options}
 
