@@ -1,19 +1,12 @@
 -- The records in a range, as they are stored and as reading returns them.
-use Rattle.std.proofs.Common.{◌≡◌, ◌≤◌, Bool, true, false, not, List, [], ◌∷◌, refl, ap, arith, cond}
+use Rattle.std.proofs.Common.{◌≡◌, Bool, true, false, List, [], ◌∷◌, refl, ap, cond}
 use Rattle.std.specs.Prelude.{map}
-use Rattle.std.proofs.lemmas.List.Filters.{sum_by-filter_both}
 use Rattle.xet_base.specs.declared.merklehash.DataHash.{DataHash}
 use Rattle.xet_records.specs.declared.file_structs.MDBFileInfo.{MDBFileInfo}
 use Rattle.xet_records.specs.FileRecord.{as_read, file_records}
-use Rattle.xet_records.specs.RecordKind.{RecordKind}
-use Rattle.xet_shards.specs.Write.Section.{total_rows}
 use Rattle.xet_shards.specs.Write.Tables.{hash_in}
 use Rattle.placed_shards.specs.Ranges.{records_passing}
 use Rattle.placed_shards.specs.Records.{files_as}
-
--- fewer records have fewer rows
-pub rows_passing : {H R : Type 0} (K : RecordKind H R) (passes : DataHash → Bool) (rs : List R) → total_rows K rs ≤ 4294967295 → total_rows K (records_passing K passes rs) ≤ 4294967295
-rows_passing {R = R} K passes rs few = omega (arith, few, sum_by-filter_both (λ (r : R). passes (hash_in K r)) (λ (r : R). not (passes (hash_in K r))) (λ _. refl) K.row_count rs)
 
 module _ (passes : DataHash → Bool) where
   one_more : (b : Bool) (f : MDBFileInfo) (fs gs : List MDBFileInfo) → map as_read fs ≡ gs → map as_read (cond b (f ∷ fs) fs) ≡ cond b (as_read f ∷ gs) gs

@@ -1,15 +1,11 @@
 -- What is opened of the records that are selected, whether by a scan or by tables.
-use Rattle.std.proofs.Common.{◌≡◌, inl, inr, ℕ, ◌+◌, ◌*◌, ◌≤◌, Bool, true, false, List, [], ◌∷◌, length, refl, ap, sym, ◌∙◌, subst, cond, arith}
+use Rattle.std.proofs.Common.{◌≡◌, inl, inr, ℕ, ◌+◌, ◌*◌, ◌≤◌, List, [], ◌∷◌, length, refl, ap, sym, ◌∙◌, subst, arith}
 use Rattle.std.specs.Prelude.{All}
-use Rattle.std.specs.List.{filter}
 use Rattle.std.proofs.lemmas.List.Elements.{All-filter}
-use Rattle.std.proofs.lemmas.List.Sums.{sum_by-cons}
 use Rattle.xet_base.specs.declared.error.CoreError.{CoreError}
 use Rattle.xet_base.specs.declared.error.CoreError.TheVariants.{OutOfMemory}
-use Rattle.xet_base.specs.declared.merklehash.DataHash.{DataHash}
 use Rattle.xet_records.specs.FileRecord.{file_records, FitsRecord}
 use Rattle.xet_records.specs.Limits.{MAX_ROWS}
-use Rattle.xet_records.specs.RecordKind.{RecordKind}
 use Rattle.xet_records.specs.Version.{version_of}
 use Rattle.xet_records.specs.XorbRecord.{xorb_records}
 use Rattle.xet_records.proofs.RecordKinds.{stored_ever}
@@ -35,7 +31,7 @@ use Rattle.placed_shards.specs.Ranges.{is_within}
 use Rattle.placed_shards.specs.Selections.{merged_alone, OpensWithin, OpensBy, OpensSelected, RefusalBy, SelectedRefusal}
 use Rattle.placed_shards.proofs.OneByTables.{one_by_tables, rows_by_tables}
 use Rattle.placed_shards.proofs.Opening.{opened_ascend, opened_shard, opens_once, read_well}
-use Rattle.placed_shards.proofs.Within.{those_ascend}
+use Rattle.placed_shards.proofs.Within.{rows_passing, those_ascend}
 
 -- bytes have one list of files and one of xorbs that are selected
 opens_within_once : (range : HashRange) (x : List ℕ) (c d : Content) → OpensWithin range x c → OpensWithin range x d → c ≡ d
@@ -81,13 +77,6 @@ pub record IsSelected (x : List ℕ) (c : Content) : Type 0 where
   pub xorb_rows : total_rows xorb_records c.xorbs ≤ MAX_ROWS
   pub fit : All FitsRecord c.files
   pub few : 48 * (total_rows file_records c.files + total_rows xorb_records c.xorbs) ≤ 2 * length x
-
-rows_passing : {H R : Type 0} (K : RecordKind H R) (passes : DataHash → Bool) (rs : List R) → total_rows K (filter (λ r. passes (hash_in K r)) rs) ≤ total_rows K rs
-rows_passing K passes [] = omega arith
-rows_passing {R = R} K passes (r ∷ rs) = by (filter (λ s. passes (hash_in K s)) rs) (rows_passing K passes rs) (passes (hash_in K r)) where
-  by : (left : List R) → total_rows K left ≤ total_rows K rs → (b : Bool) → total_rows K (cond b (r ∷ left) left) ≤ total_rows K (r ∷ rs)
-  by left few true = omega (arith, sum_by-cons K.row_count r left, sum_by-cons K.row_count r rs, few)
-  by left few false = omega (arith, sum_by-cons K.row_count r rs, few)
 
 within_is : (range : HashRange) (x : List ℕ) (whole : Content) → Opens x whole → IsSelected x (merged_alone range whole)
 within_is range x whole opens =

@@ -1,10 +1,11 @@
 -- The records of a list, and of a shard, whose hashes pass a test.
-use Rattle.std.proofs.Common.{◌≡◌, ℕ, ◌≤◌, Bool, true, false, List, [], ◌∷◌, map, Option, None, Some, refl, sym, ap, ◌∙◌, subst, cond, true≢false, arith}
+use Rattle.std.proofs.Common.{◌≡◌, ℕ, ◌≤◌, Bool, true, false, not, List, [], ◌∷◌, map, Option, None, Some, refl, sym, ap, ◌∙◌, subst, cond, true≢false, arith}
 use Rattle.std.specs.Prelude.{All, sum_by, if◌then◌else◌}
 use Rattle.std.specs.List.{AllByRecursion, AllZip, filter}
 use Rattle.std.specs.List.Sorted.{IsStrictlySortedBy}
 use Rattle.std.specs.Ordering.{eq_by_cmp}
 use Rattle.std.specs.declared.cmp.Ordering.TheVariants.{Less}
+use Rattle.std.proofs.lemmas.List.Filters.{sum_by-filter_both}
 use Rattle.std.specs.FinMap.{FinMap, get, entries, values, retain_keys, get-retain_keys}
 use Rattle.xet_base.specs.declared.merklehash.DataHash.{DataHash}
 use Rattle.xet_base.specs.Hash.{hash_cmp}
@@ -12,6 +13,8 @@ use Rattle.xet_base.proofs.HashOrder.{hash_cmp-IsTotalOrder, hash_cmp-IsAntisymm
 use Rattle.xet_records.specs.RecordKind.{RecordKind}
 use Rattle.xet_records.specs.FileRecord.{file_records, IsWellFormed}
 use Rattle.xet_records.specs.XorbRecord.{xorb_records, IsXorb}
+use Rattle.xet_shards.specs.Write.Section.{total_rows}
+use Rattle.xet_shards.specs.Write.Tables.{hash_in}
 use Rattle.xet_shards.specs.Write.WithOptions.{Ascends}
 use Rattle.xet_shards.specs.Content.Shard.{Shard, IsShard, file_hash_of, xorb_hash_of}
 use Rattle.xet_shards.proofs.Content.Unions.{same_shard}
@@ -22,8 +25,7 @@ use Rattle.placed_shards.specs.Merging.{IsRestriction, IsPartOf}
 use Rattle.placed_shards.specs.Ranges.{records_passing}
 use Rattle.xet_core_structures.specs.Steps.ByteResultsSteps.{Records}
 use Rattle.xet_core_structures.proofs.Records.ListMaps.{list_map, get-list_map, shard_of}
-use Rattle.placed_shards.proofs.FileParts.{cond-is_some, join_of_parts, parts_agree}
-use Rattle.xet_core_structures.proofs.Trees.MappedJoins.{PreservesJoins}
+use Rattle.placed_shards.proofs.FileParts.{cond-is_some}
 
 module _ {H R : Type 0} (K : RecordKind H R) (passes : DataHash → Bool) where
   abbrev those : List R → List R
@@ -44,6 +46,10 @@ module _ {H R : Type 0} (K : RecordKind H R) (passes : DataHash → Bool) where
     by_test : (b : Bool) → Ascends K (those rs) → Ascends K (cond b (r ∷ those rs) (those rs))
     by_test true rest = (below_those (key_of_record K r) rs ascends.0, rest)
     by_test false rest = rest
+
+  -- they have no more rows
+  pub rows_passing : (rs : List R) → total_rows K (those rs) ≤ total_rows K rs
+  rows_passing rs = omega (arith, sum_by-filter_both (λ r. passes (hash_in K r)) (λ r. not (passes (hash_in K r))) (λ r. refl) K.row_count rs)
 
   -- they have the same records under the hashes that pass
   by_hash_and_test : (b c d : Bool) (r : R) (of_rest of_those : Option R) → (b ≡ true → c ≡ d) → of_those ≡ (if d then of_rest else None)
@@ -136,11 +142,3 @@ module _ (passes : DataHash → Bool) where
   pub zipped_parts_of : (ss : List Shard) → AllZip (IsPartOf passes) ss (map part_of ss)
   zipped_parts_of [] = tt
   zipped_parts_of (s ∷ ss) = (part_of_is s, zipped_parts_of ss)
-
-  -- agreement and joins pass to parts
-  pub part_of-preserves : PreservesJoins part_of
-  part_of-preserves = record {
-    shards = λ s. part_is_shard s (part_of s) (part_of_is s);
-    agree = λ a b. parts_agree passes a b (part_of a) (part_of b) (part_of_is a) (part_of_is b);
-    join = λ shards c. join_of_parts passes shards (map part_of shards) c (part_of c) (zipped_parts_of shards) (part_of_is c);
-  }

@@ -1,12 +1,11 @@
 -- What is made of two shards, by ranges, and a shard that is taken apart into ranges.
-use Rattle.std.proofs.Common.{◌≡◌, ◌≤◌, Bool, true, false, not, ◌&&◌, List, [], ◌∷◌, ◌++◌, flat_map, map, Option, None, Some, refl, sym, ap, ◌∙◌, subst, cond, true≢false, arith, append-nil}
+use Rattle.std.proofs.Common.{◌≡◌, Bool, true, false, not, ◌&&◌, List, [], ◌∷◌, ◌++◌, flat_map, map, Option, None, Some, refl, sym, ap, ◌∙◌, subst, cond, true≢false, arith, append-nil}
 use Rattle.std.specs.Prelude.{if◌then◌else◌}
 use Rattle.std.specs.List.{AllByRecursion}
 use Rattle.std.specs.List.Sorted.{IsStrictlySortedBy}
 use Rattle.std.specs.Ordering.{is_lt}
 use Rattle.std.specs.declared.cmp.Ordering.TheVariants.{Less}
 use Rattle.std.proofs.lemmas.List.Elements.{All-filter}
-use Rattle.std.proofs.lemmas.List.Filters.{sum_by-filter_both}
 use Rattle.xet_base.specs.declared.merklehash.DataHash.{DataHash}
 use Rattle.xet_base.specs.Hash.{hash_cmp}
 use Rattle.xet_records.specs.declared.file_structs.MDBFileInfo.{MDBFileInfo}
@@ -14,7 +13,6 @@ use Rattle.xet_records.specs.declared.xorb_structs.MDBXorbInfo.{MDBXorbInfo}
 use Rattle.xet_records.specs.FileRecord.{file_records}
 use Rattle.xet_records.specs.RecordKind.{RecordKind}
 use Rattle.xet_records.specs.XorbRecord.{xorb_records}
-use Rattle.xet_shards.specs.Write.Section.{total_rows}
 use Rattle.xet_shards.specs.Write.WithOptions.{Ascends}
 use Rattle.xet_core_structures.specs.Records.RecordPairs.{key_of_record, with_hash}
 use Rattle.placed_shards.specs.declared.range.HashRange.{HashRange}
@@ -23,16 +21,13 @@ use Rattle.placed_shards.specs.Ranges.{is_from, is_before, is_up_to, is_within, 
 use Rattle.placed_shards.specs.Sets.{CombinesToSection}
 use Rattle.placed_shards.specs.Unions.{Unites}
 use Rattle.placed_shards.proofs.HashRanges.{below_through, hash_cmp-reverse, is_less, not_below_through, not_true}
-use Rattle.placed_shards.proofs.Within.{those_ascend, with_hash-those}
+use Rattle.placed_shards.proofs.Within.{rows_passing, those_ascend, with_hash-those}
 
 -- what is made of the records that pass a test are those that pass it of what is made of all
 module _ {H R : Type 0} (K : RecordKind H R) (passes : DataHash → Bool) (IsEither : Option R → Option R → Option R → Type 0) (nothing : IsEither None None None) where
   either_passing : (b : Bool) (o p r : Option R) → IsEither o p r → IsEither (if b then o else None) (if b then p else None) (if b then r else None)
   either_passing true o p r is = is
   either_passing false o p r is = nothing
-
-  few_pass : (rs : List R) → total_rows K (records_passing K passes rs) ≤ total_rows K rs
-  few_pass rs = omega (arith, sum_by-filter_both (λ r. passes (key_of_record K r)) (λ r. not (passes (key_of_record K r))) (λ r. refl) K.row_count rs)
 
   combines_passing : (xs ys zs : List R) → CombinesToSection K IsEither xs ys zs → CombinesToSection K IsEither (records_passing K passes xs) (records_passing K passes ys) (records_passing K passes zs)
   combines_passing xs ys zs made = record {
@@ -43,7 +38,7 @@ module _ {H R : Type 0} (K : RecordKind H R) (passes : DataHash → Bool) (IsEit
           (either_passing (passes q) (with_hash K xs q) (with_hash K ys q) (with_hash K zs q) (made.combined.each q));
       stored = All-filter (λ r. passes (key_of_record K r)) K.IsStored zs made.combined.stored;
     };
-    rows = omega (arith, made.rows, few_pass zs);
+    rows = omega (arith, made.rows, rows_passing K passes zs);
   }
 
 pub unites_within : (F : Option MDBFileInfo → Option MDBFileInfo → Option MDBFileInfo → Type 0) (X : Option MDBXorbInfo → Option MDBXorbInfo → Option MDBXorbInfo → Type 0)
