@@ -14,6 +14,11 @@ has_at xs i x at = (i, slice_get_within xs i x at, get_or_from_slice_get xs i x 
 pub place_of_item : {X : Type 0} (xs : List X) (x : X) → Contains xs x → (i : ℕ) × (slice_get xs i ≡ Some x)
 place_of_item xs x (i, low, is) = (i, slice_get-get_or xs i x low ∙ ap Some is)
 
+-- the only item of a list of one
+pub only_item : {X : Type 0} (x y : X) → Contains (x ∷ []) y → x ≡ y
+only_item x y (zero, low, is) = is
+only_item x y (suc k, low, is) = absurd (omega (arith, low))
+
 -- the items of a mapped list are those of the list, mapped
 pub has_mapped : {X Y : Type 0} (f : X → Y) (xs : List X) (x : X) → Contains xs x → Contains (map f xs) (f x)
 has_mapped f [] x has = absurd (omega (arith, has.1))

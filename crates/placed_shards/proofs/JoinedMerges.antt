@@ -1,5 +1,5 @@
 -- The merge of byte strings that agree has the records of the join of the shards that they have.
-use Rattle.std.proofs.Common.{◌≡◌, inl, inr, ℕ, zero, suc, ◌<◌, List, [], ◌∷◌, length, map, get_or, Option, Some, sym, ap, ◌∙◌, subst, arith}
+use Rattle.std.proofs.Common.{◌≡◌, inl, inr, ℕ, ◌<◌, List, [], ◌∷◌, length, map, get_or, Option, Some, sym, ap, ◌∙◌, subst, arith}
 use Rattle.std.specs.Prelude.{All, Contains}
 use Rattle.std.specs.List.{AllZip}
 use Rattle.std.specs.FinMap.{entries}
@@ -33,6 +33,7 @@ use Rattle.placed_shards.specs.Merging.IsMergeOf.{of_one, of_halves}
 use Rattle.placed_shards.specs.Selections.{OpensSelected}
 use Rattle.placed_shards.specs.Strict.{AreAgreeing, IsJoinedMerge}
 use Rattle.placed_shards.proofs.DifferingFound.{found_under}
+use Rattle.placed_shards.proofs.Items.{only_item}
 use Rattle.placed_shards.proofs.Merges.{content_is, merge_found, shard_in}
 use Rattle.placed_shards.proofs.Selections.{IsSelected, opens_selected_once, selected}
 
@@ -91,10 +92,6 @@ module _ (selection : Selection) where
       let is = selected selection x c opens in
       record { shard = selected_shard x c is formed; opens = subst (OpensSelected selection x) (selected_content x c is key options) opens }
 
-  only : (e d : Content) → Contains (e ∷ []) d → e ≡ d
-  only e d (zero, low, is) = is
-  only e d (suc k, low, is) = absurd (omega (arith, low))
-
   -- all of a list are under the key of their merge
   under_key : (inputs : List (List ℕ)) (made : Content) → IsMergeOf selection inputs made → (cs : List Content) → AreOpened selection inputs cs → (c : Content) → Contains cs c → c.options ≡ keyed_options made.options.key
   under_key inputs made (of_one x is opens) cs opened d at = of cs (subst (λ l. AreOpened selection l cs) is opened) at where
@@ -102,7 +99,7 @@ module _ (selection : Selection) where
     of [] opened at = absurd opened
     of (e ∷ f ∷ cs) opened at = absurd opened.1
     of (e ∷ []) opened at =
-        let there : made ≡ d = opens_selected_once selection x made e opens opened.0 ∙ only e d at in
+        let there : made ≡ d = opens_selected_once selection x made e opens opened.0 ∙ only_item e d at in
         sym (ap (λ (f : Content). f.options) there) ∙ (selected selection x made opens).options_are
   under_key inputs made (of_halves firsts seconds c d halves one other unites) cs opened e at =
       let cut = zipped_parts (OpensSelected selection) firsts seconds cs (subst (λ l. AreOpened selection l cs) halves.are opened) in

@@ -13,15 +13,13 @@ use Rattle.placed_shards.specs.Merging.IsMergeOf.{of_one, of_halves}
 use Rattle.placed_shards.specs.Opening.{Opens}
 use Rattle.placed_shards.specs.Ranges.{ranges_between, AreCuts}
 use Rattle.placed_shards.specs.Selections.{by_scan, by_tables, merged_alone, OpensSelected, OpensWithin}
+use Rattle.placed_shards.proofs.Items.{only_item}
 use Rattle.placed_shards.proofs.OneByTables.{one_by_tables}
 use Rattle.placed_shards.proofs.TablesInARow.{tables_lose_no_record}
 
 -- each input of a merge was opened
 leaf : (selection : Selection) (inputs : List (List ℕ)) (made : Content) → IsMergeOf selection inputs made → (x : List ℕ) → Contains inputs x → (c : Content) × OpensSelected selection x c
-leaf selection inputs made (of_one y is opens) x at = (made, subst (λ z. OpensSelected selection z made) (only (subst (λ l. Contains l x) is at)) opens) where
-  only : Contains (y ∷ []) x → y ≡ x
-  only (zero, low, there) = there
-  only (suc k, low, there) = absurd (omega (arith, low))
+leaf selection inputs made (of_one y is opens) x at = (made, subst (λ z. OpensSelected selection z made) (only_item y x (subst (λ l. Contains l x) is at)) opens)
 leaf selection inputs made (of_halves firsts seconds c d halves one other unites) x at =
     elim (Contains-append_cases firsts seconds x (subst (λ l. Contains l x) halves.are at)) [
       | inl here ↦ leaf selection firsts c one x here

@@ -2,7 +2,7 @@
 use Rattle.std.proofs.Common.{◌≡◌, ◌⊎◌, inl, inr, ℕ, Bool, true, List, [], ◌∷◌, ◌++◌, Ok, Err, refl, sym, ◌∙◌, subst, arith}
 use Rattle.std.specs.Prelude.{All, Contains, IsTrue, MatchResult}
 use Rattle.std.specs.declared.result.Result.{Result}
-use Rattle.std.proofs.lemmas.List.Elements.{All-append, All-cons, All-contains, All-contains_itself, All-nil, All-weaker, Contains-append_cases, Contains-append_left, Contains-append_right, Contains-push, Contains-push_cases}
+use Rattle.std.proofs.lemmas.List.Elements.{All-append, All-cons, All-contains, All-contains_itself, All-nil, All-weaker, Contains-append_cases, Contains-append_left, Contains-append_right, Contains-push}
 use Rattle.xet_base.specs.declared.error.CoreError.{CoreError}
 use Rattle.xet_shards.proofs.Read.Zipped.{zipped_append, zipped_parts}
 use Rattle.placed_shards.specs.declared.placed_shard.PlacedShard.{PlacedShard}
@@ -18,13 +18,8 @@ use Rattle.placed_shards.specs.Steps.Merging.{IsMerged, IsOpenedAlone, NotMerged
 use Rattle.placed_shards.specs.Strict.{AreAgreeing}
 use Rattle.placed_shards.specs.Unions.{Unites, Refuses, IsUnionOf, UnionRefusal}
 use Rattle.placed_shards.proofs.AgreedUnions.{agreed_with, as_refusal, as_union, both_agree, itself, turned}
+use Rattle.placed_shards.proofs.Items.{only_item}
 use Rattle.placed_shards.proofs.Selections.{opens_selected_once, opened_once}
-
-only_member : {X : Type 0} (x y : X) → Contains (x ∷ []) y → x ≡ y
-only_member x y at = of (Contains-push_cases [] x y at) where
-  of : Contains [] y ⊎ (x ≡ y) → x ≡ y
-  of (inl none) = absurd (omega (arith, none.1))
-  of (inr is) = is
 
 -- what holds of all of a list holds of both parts of it
 all_left : {X : Type 0} (P : X → Type 0) (xs ys : List X) → All P (xs ++ ys) → All P xs
@@ -42,9 +37,9 @@ module _ (selection : Selection) where
         contents = c ∷ [];
         opened = subst (λ l. AreOpened selection l (c ∷ [])) (sym is) (opens, tt);
         formed = All-cons HasFormedRecords c [] formed (All-nil HasFormedRecords);
-        agree = λ d e one other. subst (λ p. p) (λ i. AgreeInAll (only_member c d one i) (only_member c e other i)) (itself c);
+        agree = λ d e one other. subst (λ p. p) (λ i. AgreeInAll (only_item c d one i) (only_item c e other i)) (itself c);
       };
-      stands = λ t. (λ all d at. subst (AgreeInAll t) (only_member c d at) all, λ each. each c (Contains-push [] c));
+      stands = λ t. (λ all d at. subst (AgreeInAll t) (only_item c d at) all, λ each. each c (Contains-push [] c));
     }
 
     -- if it agrees, its records are well-formed
