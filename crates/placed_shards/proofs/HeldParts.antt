@@ -22,11 +22,11 @@ use Rattle.xet_core_structures.specs.TwoShards.ByteResults.{keyed_options}
 use Rattle.xet_core_structures.proofs.Records.ListMaps.{values-list_map}
 use Rattle.xet_core_structures.proofs.Records.ShardContents.{section_ascends}
 use Rattle.placed_shards.specs.declared.range.HashRange.{HashRange}
-use Rattle.placed_shards.specs.Content.{Content}
+use Rattle.placed_shards.specs.Content.{Content, content_within, with_all_tables}
 use Rattle.placed_shards.specs.Merging.{HoldsSelected, IsMergeOfList, IsPartOf, shard_content}
 use Rattle.placed_shards.specs.Opening.{Opens}
 use Rattle.placed_shards.specs.Ranges.{all_hashes, is_within}
-use Rattle.placed_shards.specs.Selections.{all_records, by_scan, merged_alone, OpensWithin}
+use Rattle.placed_shards.specs.Selections.{all_records, by_scan, OpensWithin}
 use Rattle.placed_shards.proofs.FileParts.{join_of_parts, parts_agree, zipped_back}
 use Rattle.placed_shards.proofs.Merges.{shard_back, shard_in}
 use Rattle.placed_shards.proofs.Opening.{list_opened}
@@ -57,15 +57,15 @@ module _ (range : HashRange) (key : DataHash) where
     abbrev whole : Content
     whole = shard_content key s
 
-    within_is_part : IsPartOf (is_within range) s (shard_in (merged_alone range whole))
+    within_is_part : IsPartOf (is_within range) s (shard_in (with_all_tables (content_within range whole)))
     within_is_part =
-        subst (λ t. IsPartOf (is_within range) t (shard_in (merged_alone range whole))) (shard_back key s held.shard)
+        subst (λ t. IsPartOf (is_within range) t (shard_in (with_all_tables (content_within range whole)))) (shard_back key s held.shard)
         (part_of_lists (is_within range) (record { files = values s.files; xorbs = values s.xorbs }) (files_ascend s held.shard) (xorbs_ascend s held.shard))
 
-    same_part : shard_in (merged_alone range whole) ≡ part
-    same_part = one_part (is_within range) s (shard_in (merged_alone range whole)) part within_is_part is
+    same_part : shard_in (with_all_tables (content_within range whole)) ≡ part
+    same_part = one_part (is_within range) s (shard_in (with_all_tables (content_within range whole))) part within_is_part is
 
-    part_content : shard_content key part ≡ merged_alone range whole
+    part_content : shard_content key part ≡ with_all_tables (content_within range whole)
     part_content = λ i. record {
       files = (sym (ap (λ (t : Shard). values t.files) same_part) ∙ values-list_map file_records _ (those_ascend file_records (is_within range) (values s.files) (files_ascend s held.shard))) i;
       xorbs = (sym (ap (λ (t : Shard). values t.xorbs) same_part) ∙ values-list_map xorb_records _ (those_ascend xorb_records (is_within range) (values s.xorbs) (xorbs_ascend s held.shard))) i;
@@ -76,7 +76,7 @@ module _ (range : HashRange) (key : DataHash) where
     opens_part = (
       held_content s x held.has,
       held_opens s x held.has,
-      part_content ∙ ap (λ k. merged_alone range (shard_content k s)) (sym held.under),
+      part_content ∙ ap (λ k. with_all_tables (content_within range (shard_content k s))) (sym held.under),
     )
 
     pub part_selected : HoldsSelected (by_scan range) key x part

@@ -9,11 +9,11 @@ use Rattle.xet_core_structures.specs.Records.ByteUnion.{IsEitherFile, IsEitherXo
 use Rattle.xet_core_structures.proofs.TwoShards.Results.{files_unique, xorbs_unique}
 use Rattle.placed_shards.specs.declared.range.HashRange.{HashRange}
 use Rattle.placed_shards.specs.declared.selection.Selection.{Selection}
-use Rattle.placed_shards.specs.Content.{Content, AscendBoth, content_within}
+use Rattle.placed_shards.specs.Content.{Content, AscendBoth, content_within, with_all_tables}
 use Rattle.placed_shards.specs.Merging.{AreHalves, IsMergeOf}
 use Rattle.placed_shards.specs.Merging.IsMergeOf.{of_one, of_halves}
 use Rattle.placed_shards.specs.Ranges.{all_hashes, ranges_between, AreCuts}
-use Rattle.placed_shards.specs.Selections.{all_records, by_scan, merged_alone, OpensSelected}
+use Rattle.placed_shards.specs.Selections.{all_records, by_scan, OpensSelected}
 use Rattle.placed_shards.specs.Unions.{IsUnionOf}
 use Rattle.placed_shards.proofs.Equations.Ranges.{unites_within, whole_in_a_row}
 use Rattle.placed_shards.proofs.Equations.Unions.{unites_once}
@@ -51,10 +51,10 @@ all_pass (x ∷ xs) = ap (λ ys. x ∷ ys) (all_pass xs)
 
 pub merge_within : (range : HashRange) (inputs : List (List ℕ)) (whole : Content) → IsMergeOf all_records inputs whole → IsMergeOf (by_scan range) inputs (content_within range whole)
 merge_within range inputs whole (of_one x is (opened, opens, same)) = of_one x is (opened, opens, within) where
-  within : content_within range whole ≡ merged_alone range opened
+  within : content_within range whole ≡ with_all_tables (content_within range opened)
   within =
       ap (content_within range) same
-      ∙ (λ i. content_within range (record (merged_alone all_hashes opened) { files = all_pass opened.files i; xorbs = all_pass opened.xorbs i }))
+      ∙ (λ i. content_within range (record (with_all_tables (content_within all_hashes opened)) { files = all_pass opened.files i; xorbs = all_pass opened.xorbs i }))
 merge_within range inputs whole (of_halves firsts seconds c d halves one other unites) =
     of_halves firsts seconds (content_within range c) (content_within range d) halves (merge_within range firsts c one) (merge_within range seconds d other)
     (unites_within IsEitherFile IsEitherXorb refl refl range c d whole unites)

@@ -7,12 +7,12 @@ use Rattle.xet_base.specs.declared.merklehash.DataHash.{DataHash}
 use Rattle.placed_shards.specs.declared.range.HashRange.{HashRange}
 use Rattle.placed_shards.specs.declared.selection.Selection.{Selection}
 use Rattle.placed_shards.specs.ByTables.{OpensByTables}
-use Rattle.placed_shards.specs.Content.{Content}
+use Rattle.placed_shards.specs.Content.{Content, content_within, with_all_tables}
 use Rattle.placed_shards.specs.Merging.{IsMergeOf}
 use Rattle.placed_shards.specs.Merging.IsMergeOf.{of_one, of_halves}
 use Rattle.placed_shards.specs.Opening.{Opens}
 use Rattle.placed_shards.specs.Ranges.{ranges_between, AreCuts}
-use Rattle.placed_shards.specs.Selections.{by_scan, by_tables, merged_alone, OpensSelected, OpensWithin}
+use Rattle.placed_shards.specs.Selections.{by_scan, by_tables, OpensSelected, OpensWithin}
 use Rattle.placed_shards.proofs.Items.{only_item}
 use Rattle.placed_shards.proofs.OneByTables.{one_by_tables}
 use Rattle.placed_shards.proofs.TablesInARow.{tables_lose_no_record}
@@ -50,13 +50,13 @@ leaves_of inputs x at (range ∷ ranges) (made ∷ merges) (here, rest) =
 abbrev AreFound : List (List ℕ) → HashRange → Type 0
 AreFound inputs range = (x : List ℕ) → Contains inputs x → (c : Content) → OpensByTables range x c → OpensWithin range x c
 
-as_scanned : (x : List ℕ) (whole : Content) → Opens x whole → (ranges : List HashRange) (parts : List Content) → AllZip (λ range part. OpensByTables range x part) ranges parts → AllZip (λ range part. part ≡ merged_alone range whole) ranges parts
+as_scanned : (x : List ℕ) (whole : Content) → Opens x whole → (ranges : List HashRange) (parts : List Content) → AllZip (λ range part. OpensByTables range x part) ranges parts → AllZip (λ range part. part ≡ with_all_tables (content_within range whole)) ranges parts
     → (range : HashRange) → Contains ranges range → (c : Content) → OpensByTables range x c → OpensWithin range x c
 as_scanned x whole opens [] [] found are range at c by = absurd (omega (arith, at.1))
 as_scanned x whole opens [] (part ∷ parts) found are range at c by = absurd found
 as_scanned x whole opens (r ∷ ranges) [] found are range at c by = absurd found
 as_scanned x whole opens (r ∷ ranges) (part ∷ parts) (here, rest) (is, more) range (zero, low, there) c by =
-    (whole, opens, one_by_tables range x c part by (subst (λ r. OpensByTables r x part) there here) ∙ is ∙ ap (λ r. merged_alone r whole) there)
+    (whole, opens, one_by_tables range x c part by (subst (λ r. OpensByTables r x part) there here) ∙ is ∙ ap (λ r. with_all_tables (content_within r whole)) there)
 as_scanned x whole opens (r ∷ ranges) (part ∷ parts) (here, rest) (is, more) range (suc k, low, there) c by =
     as_scanned x whole opens ranges parts rest more range (k, omega (arith, low), there) c by
 

@@ -38,8 +38,7 @@ use Rattle.xet_core_structures.specs.TwoShards.ByteResults.{keyed_options}
 use Rattle.xet_core_structures.proofs.Records.ShardContents.{rows_handed}
 use Rattle.placed_shards.specs.declared.range.HashRange.{HashRange}
 use Rattle.placed_shards.specs.ByTables.{HasByTable, OpensByTables, IsTableOf, HasOwnTables, IsCutByWord, IsCutByWords}
-use Rattle.placed_shards.specs.Content.{Content}
-use Rattle.placed_shards.specs.Selections.{merged_alone}
+use Rattle.placed_shards.specs.Content.{Content, content_within, with_all_tables}
 use Rattle.placed_shards.specs.Opening.{Opens}
 use Rattle.placed_shards.specs.Ranges.{is_from, is_before, is_within, records_passing}
 use Rattle.placed_shards.specs.Tables.{bisection, word_in, row_in, row_from, first_row, end_row, file_table, xorb_table, last_file_row, last_xorb_row}
@@ -380,5 +379,5 @@ module _ (range : HashRange) (bytes : List ℕ) (whole : Content) (opens : Opens
       opened_by_own xorb_records (λ r stored. (xorb_laws.header_fits r stored).xorb_hash.word0) whole.xorbs list.writable.stored list.writable.rows (xorb_table bytes info) (last_xorb_row info)
       own.xorbs list.writable.ascends xorb_laws (xorbs_at bytes info) list range cut.xorbs.0 cut.xorbs.1 cut.order
 
-  pub own_tables_open : OpensByTables range bytes (merged_alone range whole)
+  pub own_tables_open : OpensByTables range bytes (with_all_tables (content_within range whole))
   own_tables_open = record { info = info; ends = opens.ends; files = files_open; xorbs = xorbs_open; options_are = ap (λ o. keyed_options o.key) opens.options_are }

@@ -24,18 +24,18 @@ use Rattle.placed_shards.specs.declared.selection.Access.{Access}
 use Rattle.placed_shards.specs.declared.selection.Access.TheVariants.{Scan, Tables}
 use Rattle.placed_shards.specs.declared.selection.Selection.{Selection}
 use Rattle.placed_shards.specs.ByTables.{OpensByTables, ByTablesRefusal}
-use Rattle.placed_shards.specs.Content.{Content, AscendBoth}
+use Rattle.placed_shards.specs.Content.{Content, AscendBoth, content_within, with_all_tables}
 use Rattle.placed_shards.specs.Findings.{AreOpened}
 use Rattle.placed_shards.specs.Opening.{Opens}
 use Rattle.placed_shards.specs.Ranges.{is_within}
-use Rattle.placed_shards.specs.Selections.{merged_alone, OpensWithin, OpensBy, OpensSelected, RefusalBy, SelectedRefusal}
+use Rattle.placed_shards.specs.Selections.{OpensWithin, OpensBy, OpensSelected, RefusalBy, SelectedRefusal}
 use Rattle.placed_shards.proofs.OneByTables.{one_by_tables, rows_by_tables}
 use Rattle.placed_shards.proofs.Opening.{opened_ascend, opened_shard, opens_once, read_well}
 use Rattle.placed_shards.proofs.Within.{rows_passing, those_ascend}
 
 -- bytes have one list of files and one of xorbs that are selected
 opens_within_once : (range : HashRange) (x : List ℕ) (c d : Content) → OpensWithin range x c → OpensWithin range x d → c ≡ d
-opens_within_once range x c d one other = one.2 ∙ ap (merged_alone range) (opens_once x one.0 other.0 one.1 other.1) ∙ sym other.2
+opens_within_once range x c d one other = one.2 ∙ ap (λ e. with_all_tables (content_within range e)) (opens_once x one.0 other.0 one.1 other.1) ∙ sym other.2
 
 opens_by_once : (access : Access) (range : HashRange) (x : List ℕ) (c d : Content) → OpensBy access range x c → OpensBy access range x d → c ≡ d
 opens_by_once Scan range x c d one other = opens_within_once range x c d one other
@@ -78,7 +78,7 @@ pub record IsSelected (x : List ℕ) (c : Content) : Type 0 where
   pub fit : All FitsRecord c.files
   pub few : 48 * (total_rows file_records c.files + total_rows xorb_records c.xorbs) ≤ 2 * length x
 
-within_is : (range : HashRange) (x : List ℕ) (whole : Content) → Opens x whole → IsSelected x (merged_alone range whole)
+within_is : (range : HashRange) (x : List ℕ) (whole : Content) → Opens x whole → IsSelected x (with_all_tables (content_within range whole))
 within_is range x whole opens =
     let ascend = opened_ascend x whole opens in
     let files = rows_passing file_records (is_within range) whole.files in

@@ -32,8 +32,7 @@ use Rattle.xet_core_structures.proofs.Records.RecordsAsRead.{all_handed}
 use Rattle.xet_core_structures.proofs.Records.ShardContents.{rows_handed}
 use Rattle.placed_shards.specs.declared.range.HashRange.{HashRange}
 use Rattle.placed_shards.specs.ByTables.{HasByTable, OpensByTables}
-use Rattle.placed_shards.specs.Content.{Content}
-use Rattle.placed_shards.specs.Selections.{merged_alone}
+use Rattle.placed_shards.specs.Content.{Content, content_within, with_all_tables}
 use Rattle.placed_shards.specs.Opening.{Opens}
 use Rattle.placed_shards.specs.Ranges.{is_from, is_within, ranges_between, AreCuts, records_passing}
 use Rattle.placed_shards.specs.Tables.{first_row, end_row, file_table, xorb_table, last_file_row, last_xorb_row}
@@ -164,7 +163,7 @@ module _ (bytes : List ℕ) where
     module _ (whole : Content) (options_are : whole.options ≡ options_of info) where
       -- each part is that of the whole in its range
       each_is : (ranges : List HashRange) (parts : List Content) → AllOpen ranges parts → AllZip (λ range found. records_passing file_records (is_within range) whole.files ≡ found) ranges (files_in parts)
-          → AllZip (λ range found. records_passing xorb_records (is_within range) whole.xorbs ≡ found) ranges (xorbs_in parts) → AllZip (λ range part. part ≡ merged_alone range whole) ranges parts
+          → AllZip (λ range found. records_passing xorb_records (is_within range) whole.xorbs ≡ found) ranges (xorbs_in parts) → AllZip (λ range part. part ≡ with_all_tables (content_within range whole)) ranges parts
       each_is [] [] all files xorbs = tt
       each_is [] (c ∷ cs) all files xorbs = absurd all
       each_is (range ∷ ranges) [] all files xorbs = absurd all
@@ -193,7 +192,7 @@ module _ (bytes : List ℕ) where
         options_are = refl;
       }
 
-      pub parts_of_one : (c : Content) × Opens bytes c × AllZip (λ range part. part ≡ merged_alone range c) all_cut parts
+      pub parts_of_one : (c : Content) × Opens bytes c × AllZip (λ range part. part ≡ with_all_tables (content_within range c)) all_cut parts
       parts_of_one = (
         whole,
         opens_whole,
@@ -204,7 +203,7 @@ module _ (bytes : List ℕ) where
 
   -- header and footer are those of the first part
   pub tables_lose_no_record : (cuts : List DataHash) (parts : List Content) → AreCuts None cuts None → AllOpen (ranges_between None cuts None) parts
-      → (whole : Content) × Opens bytes whole × AllZip (λ range part. part ≡ merged_alone range whole) (ranges_between None cuts None) parts
+      → (whole : Content) × Opens bytes whole × AllZip (λ range part. part ≡ with_all_tables (content_within range whole)) (ranges_between None cuts None) parts
   tables_lose_no_record [] [] are_cuts all = absurd all
   tables_lose_no_record [] (c ∷ cs) are_cuts (here, on) = parts_of_one here.info here.ends [] (c ∷ cs) are_cuts (here, on)
   tables_lose_no_record (k ∷ ks) [] are_cuts all = absurd all

@@ -10,6 +10,7 @@ use Rattle.xet_records.specs.XorbRecord.{xorb_records}
 use Rattle.xet_shards.specs.declared.shard_format.ends.options.LayoutOptions.{LayoutOptions}
 use Rattle.xet_shards.specs.Write.Layout.{layout_of}
 use Rattle.xet_shards.specs.Write.WithOptions.{Ascends}
+use Rattle.xet_core_structures.specs.TwoShards.ByteResults.{keyed_options}
 use Rattle.placed_shards.specs.declared.placed_shard.PlacedShard.{PlacedShard}
 use Rattle.placed_shards.specs.declared.range.HashRange.{HashRange}
 use Rattle.placed_shards.specs.Ranges.{is_within, records_passing}
@@ -54,3 +55,7 @@ content_within range c =
       files = records_passing file_records (is_within range) c.files;
       xorbs = records_passing xorb_records (is_within range) c.xorbs;
     }
+
+-- the records of a shard, with all tables, its key, creation 0 and no expiry
+abbrev pub with_all_tables : Content → Content
+with_all_tables c = record c { options = keyed_options c.options.key }

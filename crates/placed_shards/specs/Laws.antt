@@ -13,14 +13,9 @@ use Rattle.xet_shards.specs.Write.Tables.{chunk_table}
 use Rattle.xet_shards.specs.Write.WithOptions.{FitsSection}
 use Rattle.xet_core_structures.specs.Records.RecordPairs.{with_hash}
 use Rattle.xet_core_structures.specs.Trees.ExportTrees.{FitsOptions}
-use Rattle.xet_core_structures.specs.TwoShards.ByteResults.{keyed_options}
 use Rattle.placed_shards.specs.Agreement.{AgreeIfBoth}
 use Rattle.placed_shards.specs.Content.{Content, AscendBoth, HasFilesIn, options_in}
 use Rattle.placed_shards.specs.Findings.{HasFormedRecords}
-
--- the records of a shard, with all tables, its key, creation 0 and no expiry
-abbrev pub with_all_tables : Content → Content
-with_all_tables c = record c { options = keyed_options c.options.key }
 
 -- the records of a shard, with the chunk hashes of its xorbs under a key
 abbrev pub with_keyed_hashes : DataHash → Content → Content

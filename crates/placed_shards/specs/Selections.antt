@@ -1,13 +1,12 @@
 -- What is opened of bytes where some of their records are selected.
 use Rattle.std.specs.Prelude.{◌≡◌, ℕ, List}
 use Rattle.xet_base.specs.declared.error.CoreError.{CoreError}
-use Rattle.xet_core_structures.specs.TwoShards.ByteResults.{keyed_options}
 use Rattle.placed_shards.specs.declared.range.HashRange.{HashRange}
 use Rattle.placed_shards.specs.declared.selection.Access.{Access}
 use Rattle.placed_shards.specs.declared.selection.Access.TheVariants.{Scan, Tables}
 use Rattle.placed_shards.specs.declared.selection.Selection.{Selection}
 use Rattle.placed_shards.specs.ByTables.{OpensByTables, ByTablesRefusal}
-use Rattle.placed_shards.specs.Content.{Content, content_within}
+use Rattle.placed_shards.specs.Content.{Content, content_within, with_all_tables}
 use Rattle.placed_shards.specs.Opening.{Opens, ShardRefusal}
 use Rattle.placed_shards.specs.Ranges.{all_hashes}
 
@@ -23,14 +22,11 @@ by_tables range = record { range = range; access = Tables }
 abbrev pub all_records : Selection
 all_records = by_scan all_hashes
 
--- the records of a shard that are in a range, with all tables, its key, creation 0 and no expiry
-abbrev pub merged_alone : HashRange → Content → Content
-merged_alone range c = record (content_within range c) { options = keyed_options c.options.key }
-
 -- bytes hold a shard, of which these are the records in a range, with all tables, its key, creation
 -- 0 and no expiry
 abbrev pub OpensWithin : HashRange → List ℕ → Content → Type 0
-OpensWithin range x c = (whole : Content) × Opens x whole × (c ≡ merged_alone range whole)
+OpensWithin range x c =
+    (whole : Content) × Opens x whole × (c ≡ with_all_tables (content_within range whole))
 
 -- bytes have these records in a range, as they are found
 abbrev pub OpensBy : Access → HashRange → List ℕ → Content → Type 0

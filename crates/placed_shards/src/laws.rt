@@ -11,8 +11,7 @@ ghost use Rattle.xet_shards.specs.Write.Section.{total_rows};
 ghost use Rattle.xet_shards.specs.Write.WithOptions.{FitsSection};
 ghost use Rattle.placed_shards.specs.declared.range.HashRange.{HashRange};
 ghost use Rattle.placed_shards.specs.ByTables.{OpensByTables, HasOwnTables, IsCutByWords};
-ghost use Rattle.placed_shards.specs.Content.{Content, content_layout, options_in};
-ghost use Rattle.placed_shards.specs.Selections.{merged_alone};
+ghost use Rattle.placed_shards.specs.Content.{Content, content_layout, options_in, content_within, with_all_tables};
 ghost use Rattle.placed_shards.specs.Opening.{Opens};
 ghost use Rattle.placed_shards.specs.Ranges.{ranges_between, AreCuts};
 
@@ -31,7 +30,7 @@ pub fn tables_lose_no_record()
         → AreCuts None cuts None
         → AllZip (λ range part. OpensByTables range bytes part) (ranges_between None cuts None)
         parts → (whole : Content) × Opens bytes whole
-        × AllZip (λ range part. part ≡ merged_alone range whole) (ranges_between None cuts None)
+        × AllZip (λ range part. part ≡ with_all_tables (content_within range whole)) (ranges_between None cuts None)
         parts }
 {}
 
@@ -54,7 +53,7 @@ pub fn tables_find_one_part()
 pub fn own_tables_find_records()
     ensures opened { (range : HashRange) → (bytes : List ℕ) → (whole : Content)
         → (opens : Opens bytes whole) → HasOwnTables bytes opens.info whole
-        → IsCutByWords range whole → OpensByTables range bytes (merged_alone range whole) }
+        → IsCutByWords range whole → OpensByTables range bytes (with_all_tables (content_within range whole)) }
     ensures written { (version : FormatVersion) → (c : Content) → FitsSection file_records c.files
         → FitsSection xorb_records c.xorbs → c.options.file_table ≡ true
         → c.options.xorb_table ≡ true

@@ -11,8 +11,7 @@ use Rattle.xet_core_structures.specs.Records.ByteUnion.{IsByteUnion, IsEitherFil
 use Rattle.xet_core_structures.specs.Records.RecordPairs.{with_hash}
 use Rattle.xet_core_structures.proofs.LawProofs.UnionSizes.{union_of_same}
 use Rattle.xet_core_structures.proofs.Records.ListMaps.{combined_maps, values-list_map}
-use Rattle.placed_shards.specs.Content.{Content, AscendBoth}
-use Rattle.placed_shards.specs.Laws.{with_all_tables}
+use Rattle.placed_shards.specs.Content.{Content, AscendBoth, with_all_tables}
 use Rattle.placed_shards.specs.Sets.{IsLeft}
 use Rattle.placed_shards.specs.Unions.{Unites, IsUnionOf}
 use Rattle.placed_shards.proofs.Merges.{shard_in}

@@ -9,9 +9,9 @@ ghost use Rattle.xet_records.specs.FileRecord.{file_records};
 ghost use Rattle.xet_records.specs.XorbRecord.{xorb_records};
 ghost use Rattle.xet_shards.specs.Write.WithOptions.{FitsSection};
 ghost use Rattle.xet_core_structures.specs.Records.RecordPairs.{with_hash};
-ghost use Rattle.placed_shards.specs.Content.{Content, AscendBoth};
+ghost use Rattle.placed_shards.specs.Content.{Content, AscendBoth, with_all_tables};
 ghost use Rattle.placed_shards.specs.Findings.{AgreeInAll};
-ghost use Rattle.placed_shards.specs.Laws.{with_all_tables, with_keyed_hashes, IsWellFormedShard, HasFlagsOf};
+ghost use Rattle.placed_shards.specs.Laws.{with_keyed_hashes, IsWellFormedShard, HasFlagsOf};
 ghost use Rattle.placed_shards.specs.Unions.{IsUnionOf, IsDifferenceOf};
 
 /// Does nothing. Its contract says that two shards have at most one union and at most one
