@@ -1,5 +1,6 @@
 pub mod AgreedUnions
 pub mod Agreeing
+pub mod AgreeingLists
 pub mod Ascending
 pub mod Bisection
 pub mod ByTables

@@ -30,8 +30,8 @@ pub fn tables_lose_no_record()
         → AreCuts None cuts None
         → AllZip (λ range part. OpensByTables range bytes part) (ranges_between None cuts None)
         parts → (whole : Content) × Opens bytes whole
-        × AllZip (λ range part. part ≡ with_all_tables (content_within range whole)) (ranges_between None cuts None)
-        parts }
+        × AllZip (λ range part. part ≡ with_all_tables (content_within range whole))
+        (ranges_between None cuts None) parts }
 {}
 
 /// Does nothing. Its contract says that [`open_by_tables`](crate::by_tables::open_by_tables) has
@@ -53,7 +53,8 @@ pub fn tables_find_one_part()
 pub fn own_tables_find_records()
     ensures opened { (range : HashRange) → (bytes : List ℕ) → (whole : Content)
         → (opens : Opens bytes whole) → HasOwnTables bytes opens.info whole
-        → IsCutByWords range whole → OpensByTables range bytes (with_all_tables (content_within range whole)) }
+        → IsCutByWords range whole
+        → OpensByTables range bytes (with_all_tables (content_within range whole)) }
     ensures written { (version : FormatVersion) → (c : Content) → FitsSection file_records c.files
         → FitsSection xorb_records c.xorbs → c.options.file_table ≡ true
         → c.options.xorb_table ≡ true

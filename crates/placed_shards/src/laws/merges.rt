@@ -1,18 +1,24 @@
 //! Laws of merges of lists.
 
-ghost use Rattle.std.specs.Prelude.{◌≡◌, ◌<◌, ℕ, List, flat_map, length, Contains, None};
+ghost use Rattle.std.specs.Prelude.{◌≡◌, ◌<◌, ℕ, List, flat_map, length, Contains, None, true};
 ghost use Rattle.std.specs.List.{AllZip};
+ghost use Rattle.xet_base.specs.declared.error.CoreError.{CoreError};
 ghost use Rattle.xet_base.specs.declared.merklehash.DataHash.{DataHash};
 ghost use Rattle.xet_shards.specs.Content.Joins.{IsJoinOf, AgreePairwise};
 ghost use Rattle.xet_shards.specs.Content.Shard.{Shard};
 ghost use Rattle.xet_core_structures.specs.Records.ShardContents.{HoldsShard};
+ghost use Rattle.xet_core_structures.specs.Trees.MergeTrees.{MergeRefused};
+ghost use Rattle.placed_shards.specs.declared.placed_shard.PlacedShard.{PlacedShard};
 ghost use Rattle.placed_shards.specs.declared.range.HashRange.{HashRange};
 ghost use Rattle.placed_shards.specs.declared.selection.Selection.{Selection};
+ghost use Rattle.placed_shards.specs.declared.strict.Agreed.{Agreed};
+ghost use Rattle.placed_shards.specs.declared.strict.Agreed.TheVariants.{Made};
 ghost use Rattle.placed_shards.specs.ByTables.{OpensByTables};
-ghost use Rattle.placed_shards.specs.Content.{Content, content_within};
-ghost use Rattle.placed_shards.specs.Merging.{HoldsSelected, IsMergeOf, IsMergeOfList, IsPartOf};
+ghost use Rattle.placed_shards.specs.Content.{Content, content, content_within};
+ghost use Rattle.placed_shards.specs.Merging.{HoldsSelected, IsMergeOf, MergeRefusal, IsMergeOfList, IsPartOf, shard_content};
 ghost use Rattle.placed_shards.specs.Ranges.{is_within, ranges_between, AreCuts};
 ghost use Rattle.placed_shards.specs.Selections.{all_records, by_scan, by_tables, OpensWithin};
+ghost use Rattle.placed_shards.specs.Strict.{AreAgreeing, IsAgreedOr, AgreedRefusal, IsJoinedMerge};
 
 /// Does nothing. Its contract says what a merge selects by a scan of bytes that hold well-formed
 /// shards under one key: of each, its records in the range (`one`). If the shards agree pairwise, so
@@ -32,6 +38,27 @@ pub fn held_shards_are_selected()
         → (join : Shard) → 0 < length inputs → AllZip (HoldsShard key) shards inputs
         → AgreePairwise (Contains shards) → IsJoinOf (Contains shards) join
         → IsMergeOfList all_records key inputs shards join }
+{}
+
+/// Does nothing. Its contract says that strict merges have one value too for shards that agree
+/// pairwise, in a list of the kind that `one_byte_string` of [`merge`](crate::merge::merge) wants.
+/// The records of the inputs are well-formed and agree (`agree`). So of what
+/// [`merge_agreeing`](crate::strict::merge_agreeing) may return it returns what it made, never
+/// disagreements or a malformed record, and that has the records of the join (`made`). An error says
+/// that these have too many rows, or is memory's (`refused`).
+pub fn lists_that_agree_are_joined()
+    ensures agree { (selection : Selection) → (key : DataHash) → (inputs : List (List ℕ))
+        → (parts : List Shard) → (join : Shard) → IsMergeOfList selection key inputs parts join
+        → AreAgreeing selection inputs }
+    ensures made { (selection : Selection) → (key : DataHash) → (inputs : List (List ℕ))
+        → (parts : List Shard) → (join : Shard) → IsMergeOfList selection key inputs parts join
+        → (agreed : Agreed PlacedShard) → IsAgreedOr selection inputs
+        (λ made. (made.as_read ≡ true) × IsJoinedMerge selection inputs (content made)) agreed
+        → (made : PlacedShard) × (agreed ≡ Made made) × (content made ≡ shard_content key join) }
+    ensures refused { (selection : Selection) → (key : DataHash) → (inputs : List (List ℕ))
+        → (parts : List Shard) → (join : Shard) → IsMergeOfList selection key inputs parts join
+        → (e : CoreError) → AgreedRefusal selection inputs (MergeRefusal selection inputs) e
+        → MergeRefused join e }
 {}
 
 /// Does nothing. Its contract says of merges by tables, for ranges that follow one another and leave
