@@ -45,22 +45,9 @@ module _ {H R : Type 0} (K : RecordKind H R) where
         last = λ s ascends. neighbours rs r s (subst (Ascends K) (append_assoc rs (r ∷ []) (s ∷ [])) ascends);
       }
 
-bare_invalid : (e : CoreError) → IsBareInvalidShard e → IsInvalidShard e
-bare_invalid (InvalidShard text) is = tt
-bare_invalid _ is = absurd is
-
 module _ {H R : Type 0} (K : RecordKind H R) (version : FormatVersion) (bytes : List ℕ) (rs : List R) (rest : List ℕ) (left : ℕ) (taken : HasTaken (in_version K version) bytes rs rest left) (before : Option DataHash)
     (so_far : AscendsTo K rs before) where
-  -- the next record was not taken
-  pub ascending_stops : (e : CoreError) → StopsBefore (in_version K version) rest left e → SectionRefusal K version bytes e
-  ascending_stops e (inl stops) =
-      let front : BeginsInOrder (in_version K version) bytes rs rest = record { records = holds (in_version K version) bytes rs rest left taken; ascends = so_far.ascends } in
-      inr (inl (stops.0, (rs, rest, front, subst (λ n. EndsEarly (in_version K version) n rest) (rows_left_are (in_version K version) bytes rs rest left taken) stops.1)))
-  ascending_stops e (inr stops) =
-      let front : BeginsInOrder (in_version K version) bytes rs rest = record { records = holds (in_version K version) bytes rs rest left taken; ascends = so_far.ascends } in
-      inr (inr (bare_invalid e stops.0, inl (rs, rest, front, subst (λ n. BeginsRefused (in_version K version) n rest) (rows_left_are (in_version K version) bytes rs rest left taken) stops.1)))
-
-  -- it was, and does not come after the others
+  -- the next record was taken, and does not come after the others
   pub descends : (e : CoreError) (r : R) (others : List ℕ) (after : ℕ) → IsInvalidShard e → TakesRecord (in_version K version) rest left after r others → ¬ IfSome before (λ b. hash_cmp b (key_of_record K r) ≡ Less)
       → SectionRefusal K version bytes e
   descends e r others after invalid next not_after =

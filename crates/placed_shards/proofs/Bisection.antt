@@ -36,9 +36,6 @@ module _ (passes : ℕ → Bool) where
     pub within : low + size ≤ count
     pub same : bisected passes size low size ≡ bisection passes count
 
-  pub starts_bisecting : (count : ℕ) → IsBisecting count 0 count
-  starts_bisecting count = record { within = omega arith; same = refl }
-
   module _ (count low : ℕ) where
     behind_middle : (n : ℕ) → passes (low + n / 2) ≡ true → bisected passes (n - n / 2) (low + (n / 2 + 1)) (n - n / 2) ≡ bisected passes (suc n) low (suc n)
     behind_middle n test =
@@ -62,9 +59,6 @@ module _ (passes : ℕ → Bool) where
         within = omega (arith, bisecting.within, size_is);
         same = before_middle n test ∙ (λ i. bisected passes (sym size_is i) low (sym size_is i)) ∙ bisecting.same;
       }
-
-    pub ends_bisecting : (size : ℕ) → IsBisecting count low size → size ≡ 0 → low ≡ bisection passes count
-    ends_bisecting size bisecting none = sym (ap (λ n. bisected passes n low n) none) ∙ bisecting.same
 
 -- a test of order
 pub is_below : (a b : ℕ) → a < b → nat_lt a b ≡ true

@@ -12,6 +12,7 @@ use Rattle.xet_base.specs.Hash.{hash_cmp}
 use Rattle.xet_base.proofs.HashOrder.{same_key}
 use Rattle.xet_records.specs.RecordKind.{RecordKind}
 use Rattle.xet_shards.specs.Write.WithOptions.{Ascends}
+use Rattle.xet_shards.proofs.Content.MappedShards.{unmapped_member}
 use Rattle.xet_core_structures.specs.Records.RecordPairs.{key_of_record, with_hash}
 use Rattle.xet_core_structures.proofs.Records.ListMaps.{with_hash_of}
 use Rattle.placed_shards.specs.declared.differing.Differing.{Differing}
@@ -19,7 +20,7 @@ use Rattle.placed_shards.specs.declared.places.Place.{Place}
 use Rattle.placed_shards.specs.Agreement.{AgreeIfBoth}
 use Rattle.placed_shards.specs.Steps.Differing.{record_at, AgreeAt, AgreeWithin, ComparesRun, DifferWithin, FindsDiffering, HasPlaces, IsPlace, IsRun}
 use Rattle.placed_shards.proofs.HashRuns.{ascends_more, in_list, less_apart, list_there}
-use Rattle.placed_shards.proofs.Items.{below_or_from, has_at, mapped_back, place_of_item}
+use Rattle.placed_shards.proofs.Items.{below_or_from, has_at, place_of_item}
 
 -- what a list has under a hash is one of its records, and has this hash
 pub found_under : {H R : Type 0} (K : RecordKind H R) (rs : List R) (q : DataHash) (r : R) → with_hash K rs q ≡ Some r → Contains rs r × (key_of_record K r ≡ q)
@@ -112,7 +113,7 @@ module _ {R : Type 0} (agree : R → R → Type 0) (lists : List (List R)) (plac
 
       below : (h : DataHash) → Contains (hashes found) h → hash_cmp h d.hash ≡ Less
       below h has =
-          let e = mapped_back (λ (x : Differing). x.hash) found h has in
+          let e = unmapped_member (λ (x : Differing). x.hash) found h has in
           let before = compared.each e.0 e.1 in
           subst (λ k. hash_cmp k d.hash ≡ Less) (before.hashes.1 ∙ e.2)
           (subst (λ k. hash_cmp before.other.hash k ≡ Less) differ.hashes.1 (compared.apart before.j differ.j before.other differ.other before.is_other.1 differ.is_other.0 before.is_other.2 differ.is_other.2))

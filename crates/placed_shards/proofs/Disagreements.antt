@@ -18,6 +18,7 @@ use Rattle.xet_records.specs.RecordKind.{RecordKind, KindLaws}
 use Rattle.xet_records.specs.XorbRecord.{xorb_records}
 use Rattle.xet_records.proofs.RecordKinds.{file_laws, xorb_laws}
 use Rattle.xet_shards.specs.Write.WithOptions.{Ascends}
+use Rattle.xet_shards.proofs.Content.MappedShards.{mapped_member, unmapped_member}
 use Rattle.xet_core_structures.specs.Records.RecordPairs.{key_of_record, with_hash}
 use Rattle.xet_core_structures.proofs.Records.ShardContents.{stored_ascend}
 use Rattle.placed_shards.specs.declared.differing.Differing.{Differing}
@@ -30,7 +31,7 @@ use Rattle.placed_shards.specs.Content.{Content, content}
 use Rattle.placed_shards.specs.Findings.{record_hash_cmp, AgreeUnder, DoDisagree, HasAllDisagreements}
 use Rattle.placed_shards.specs.Steps.Differing.{disagreement_of, AgreeAsRead, FindsDiffering, IsReadInOrder}
 use Rattle.placed_shards.proofs.Contents.{files_read, xorbs_read}
-use Rattle.placed_shards.proofs.Items.{has_at, has_mapped, mapped_back}
+use Rattle.placed_shards.proofs.Items.{has_at}
 
 abbrev hashes : List Differing → List DataHash
 hashes found = map (λ d. d.hash) found
@@ -73,7 +74,7 @@ module _ {H R : Type 0} (K : RecordKind H R) (laws : KindLaws K) (agree : R → 
 
     pub lists_ascend : ((s : PlacedShard) → IsReadInOrder s → Ascends K (of_content (content s))) → (l : List R) → Contains (map listed shards) l → Ascends K l
     lists_ascend ascend l has =
-        let s = mapped_back listed shards l has in
+        let s = unmapped_member listed shards l has in
         subst (Ascends K) s.2 (stored_ascend K laws (listed s.0) (of_content (content s.0)) (are s.0 (is_read s.0 s.1)) (ascend s.0 (is_read s.0 s.1)))
 
     module _ (found : List Differing) (finds : FindsDiffering K (AgreeAsRead K agree) (map listed shards) found) where
@@ -102,13 +103,13 @@ module _ {H R : Type 0} (K : RecordKind H R) (laws : KindLaws K) (agree : R → 
 
       others_here : (q : DataHash) → ¬ Contains (hashes found) q → (c e : Content) → Contains (map content shards) c → Contains (map content shards) e → AgreeHere q c e
       others_here q none c e c_has e_has =
-          let one = mapped_back content shards c c_has in
-          let other = mapped_back content shards e e_has in
+          let one = unmapped_member content shards c c_has in
+          let other = unmapped_member content shards e e_has in
           let s = one.0 in
           let t = other.0 in
           subst (λ p. p) (λ i. AgreeHere q (one.2 i) (other.2 i))
           (subst (λ p. p) (λ i. AgreeIfBoth agree (under s one.1 q i) (under t other.1 q i))
-          (as_read_to (with_hash K (listed s) q) (with_hash K (listed t) q) (finds.others q none (listed s) (listed t) (has_mapped listed shards s one.1) (has_mapped listed shards t other.1))))
+          (as_read_to (with_hash K (listed s) q) (with_hash K (listed t) q) (finds.others q none (listed s) (listed t) (mapped_member listed shards s one.1) (mapped_member listed shards t other.1))))
 
 files_in : (s : PlacedShard) → IsReadInOrder s → map as_read s.files.items ≡ (content s).files
 files_in s is = files_read s is.as_read
@@ -163,19 +164,19 @@ module _ (shards : List PlacedShard) (read : All IsReadInOrder shards) where
     each d has = of (Contains-append_cases (map (disagreement_of File) files) (map (disagreement_of Xorb) xorbs) d has) where
       of : Contains (map (disagreement_of File) files) d ⊎ Contains (map (disagreement_of Xorb) xorbs) d → DoDisagree (map content shards) d
       of (inl in_files) =
-          let x = mapped_back (disagreement_of File) files d in_files in
+          let x = unmapped_member (disagreement_of File) files d in_files in
           let two = each_here file_records file_laws Agree (λ s. s.files.items) (λ c. c.files) files_in shards read files files_differ x.0 x.1 in
           subst (DoDisagree (map content shards)) x.2 (record { one = two.0; other = two.1; is_first = two.2; is_second = two.3; differ = two.4 })
       of (inr in_xorbs) =
-          let x = mapped_back (disagreement_of Xorb) xorbs d in_xorbs in
+          let x = unmapped_member (disagreement_of Xorb) xorbs d in_xorbs in
           let two = each_here xorb_records xorb_laws AreEqual (λ s. s.xorbs.items) (λ c. c.xorbs) xorbs_in shards read xorbs xorbs_differ x.0 x.1 in
           subst (DoDisagree (map content shards)) x.2 (record { one = two.0; other = two.1; is_first = two.2; is_second = two.3; differ = two.4 })
 
     others : (h : RecordHash) → ¬ Contains (record_hashes found) h → (c e : Content) → Contains (map content shards) c → Contains (map content shards) e → AgreeUnder h c e
     others (File q) none = others_here file_records file_laws Agree (λ s. s.files.items) (λ c. c.files) files_in shards read files files_differ q
-        (λ has. none (subst (λ hs. Contains hs (File q)) (sym hashes_are) (Contains-append_left (map File (hashes files)) (map Xorb (hashes xorbs)) (File q) (has_mapped File (hashes files) q has))))
+        (λ has. none (subst (λ hs. Contains hs (File q)) (sym hashes_are) (Contains-append_left (map File (hashes files)) (map Xorb (hashes xorbs)) (File q) (mapped_member File (hashes files) q has))))
     others (Xorb q) none = others_here xorb_records xorb_laws AreEqual (λ s. s.xorbs.items) (λ c. c.xorbs) xorbs_in shards read xorbs xorbs_differ q
-        (λ has. none (subst (λ hs. Contains hs (Xorb q)) (sym hashes_are) (Contains-append_right (map File (hashes files)) (map Xorb (hashes xorbs)) (Xorb q) (has_mapped Xorb (hashes xorbs) q has))))
+        (λ has. none (subst (λ hs. Contains hs (Xorb q)) (sym hashes_are) (Contains-append_right (map File (hashes files)) (map Xorb (hashes xorbs)) (Xorb q) (mapped_member Xorb (hashes xorbs) q has))))
 
     pub all_disagreements : HasAllDisagreements (map content shards) found
     all_disagreements = record {

@@ -21,9 +21,6 @@ segments_decide a b = search rules
 pub hash_rows_decide : (a b : HashRow) → Decides ((hash_row_eq.TheImpl.ghosts).eq a b) (a ≡ b)
 hash_rows_decide a b = search rules
 
-pub chunks_decide : (a b : XorbChunkSequenceEntry) → Decides ((chunk_eq.TheImpl.ghosts).eq a b) (a ≡ b)
-chunks_decide a b = search rules
-
 -- a row that may be there, as a list
 option_is : {X : Type 0} (o p : Option X) → option_to_list o ≡ option_to_list p → o ≡ p
 option_is None None same = refl

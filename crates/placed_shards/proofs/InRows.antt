@@ -66,12 +66,7 @@ module _ {H R : Type 0} (K : RecordKind H R) (laws : KindLaws K) (range : HashRa
   pub one_taken : (left one other : ℕ) (bytes : List ℕ) (r s : R) (x y : List ℕ) → TakesRecord K bytes left one r x → TakesRecord K bytes left other s y → (s ≡ r) × (y ≡ x)
   one_taken left one other bytes r s x y first second = laws.front s r y x second.stored first.stored (sym second.bytes_are ∙ first.bytes_are)
 
-  -- so none is if its hash is not above the one before it, or not in the range
-  pub none_follows : (before : Option DataHash) (left count : ℕ) (bytes : List ℕ) (r : R) (rest : List ℕ) → TakesRecord K bytes left count r rest
-      → ¬ IfSome before (λ b. hash_cmp b (hash_in K r) ≡ Less) → NoneInRange before left bytes
-  none_follows before left count bytes r rest taken falls after s other next =
-      falls (subst (λ t. IfSome before (λ b. hash_cmp b (hash_in K t) ≡ Less)) (one_taken left count after bytes r s rest other taken next.taken).0 next.follows)
-
+  -- so none is if its hash is not in the range
   pub none_within : (before : Option DataHash) (left count : ℕ) (bytes : List ℕ) (r : R) (rest : List ℕ) → TakesRecord K bytes left count r rest
       → ¬ (is_within range (hash_in K r) ≡ true) → NoneInRange before left bytes
   none_within before left count bytes r rest taken out after s other next =

@@ -19,17 +19,6 @@ pub only_item : {X : Type 0} (x y : X) → Contains (x ∷ []) y → x ≡ y
 only_item x y (zero, low, is) = is
 only_item x y (suc k, low, is) = absurd (omega (arith, low))
 
--- the items of a mapped list are those of the list, mapped
-pub has_mapped : {X Y : Type 0} (f : X → Y) (xs : List X) (x : X) → Contains xs x → Contains (map f xs) (f x)
-has_mapped f [] x has = absurd (omega (arith, has.1))
-has_mapped f (y ∷ xs) x (zero, low, at) = (0, omega arith, ap f at)
-has_mapped f (y ∷ xs) x (suc i, low, at) = let rest = has_mapped f xs x (i, omega (arith, low), at) in (suc rest.0, omega (arith, rest.1), rest.2)
-
-pub mapped_back : {X Y : Type 0} (f : X → Y) (xs : List X) (y : Y) → Contains (map f xs) y → (x : X) × Contains xs x × (f x ≡ y)
-mapped_back f [] y has = absurd (omega (arith, has.1))
-mapped_back f (x ∷ xs) y (zero, low, at) = (x, (0, omega arith, refl), at)
-mapped_back f (x ∷ xs) y (suc i, low, at) = let rest = mapped_back f xs y (i, omega (arith, low), at) in (rest.0, (suc rest.1.0, omega (arith, rest.1.1), rest.1.2), rest.2)
-
 pub below_or_at : (i n : ℕ) → i < n + 1 → (i < n) ⊎ (i ≡ n)
 below_or_at i n low = of (cases_order i n) where
   of : (i ≡ n) ⊎ ((i < n) ⊎ (n < i)) → (i < n) ⊎ (i ≡ n)

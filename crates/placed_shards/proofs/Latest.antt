@@ -40,10 +40,6 @@ module _ {H R : Type 0} (K : RecordKind H R) (IsFormed : R → Type 0) where
     can = subst (λ (m : FinMap hash_cmp R). CanInsertAll K IsFormed empty all ↔ CanInsertAll K IsFormed m all) (sym no_entries) (λ yes. yes, λ yes. yes);
   }
 
-  -- a record that no shard may have
-  pub ill_formed : (all rest : List R) (r : R) (es : List (DataHash × R)) (rows : ℕ) → IsLatest all (r ∷ rest) es rows → (IsFormed r → ⊥) → CanInsertAll K IsFormed empty all → ⊥
-  ill_formed all rest r es rows before not can = not ((before.can.0 can).0)
-
   -- one more record
   module _ (all rest : List R) (r : R) (es fs : List (DataHash × R)) (rows new replaced : ℕ) (before : IsLatest all (r ∷ rest) es rows) (put : fs ≡ insert_entry hash_cmp es (hash_in K r) r)
       (replaced_is : replaced ≡ unwrap_or (option_map K.row_count (lookup (is_at (hash_cmp (hash_in K r))) es)) 0) (new_is : new + replaced ≡ rows + K.row_count r) where
@@ -125,9 +121,6 @@ module _ {H R : Type 0} (K : RecordKind H R) (IsFormed : R → Type 0) where
       formed = subst (All (λ e. IsFormed e.1)) entries_are before.formed;
       rows = subst (λ (m : FinMap hash_cmp R). total_rows K (values m) ≤ MAX_ROWS) (sym before.same) (omega (arith, before.few, before.rows_are));
     }
-
-    pub can_all : CanInsertAll K IsFormed empty all
-    can_all = before.can.1 tt
 
   pub formed_values : (m : FinMap hash_cmp R) → HoldsRecords K IsFormed m → All IsFormed (values m)
   formed_values m holds = All-map IsFormed (λ (e : DataHash × R). e.1) (entries m) holds.formed

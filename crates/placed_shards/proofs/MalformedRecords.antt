@@ -20,6 +20,7 @@ use Rattle.xet_records.proofs.RecordKinds.{file_laws}
 use Rattle.xet_shards.specs.Steps.FileStore.{AreClear}
 use Rattle.xet_shards.specs.Write.WithOptions.{Ascends}
 use Rattle.xet_shards.proofs.Write.StoredParts.{clear_parts}
+use Rattle.xet_shards.proofs.Content.MappedShards.{mapped_member}
 use Rattle.xet_core_structures.specs.Records.RecordPairs.{key_of_record, with_hash}
 use Rattle.xet_core_structures.proofs.Records.ListMaps.{with_hash_of}
 use Rattle.placed_shards.specs.declared.findings.RecordHash.TheVariants.{File, Xorb}
@@ -28,7 +29,7 @@ use Rattle.placed_shards.specs.Content.{content, AscendBoth}
 use Rattle.placed_shards.specs.Findings.{HasFormedRecords, HasMalformed}
 use Rattle.placed_shards.specs.Steps.Malformed.{FindsMalformed}
 use Rattle.placed_shards.proofs.Contents.{files_read, xorbs_read}
-use Rattle.placed_shards.proofs.Items.{has_at, has_mapped}
+use Rattle.placed_shards.proofs.Items.{has_at}
 
 -- a file that was read has no reserved words in the rows of its parts
 pub file_clear : (r : MDBFileInfo) → AreClear (optional_rows (as_read r))
@@ -78,7 +79,7 @@ module _ {H R : Type 0} (K : RecordKind H R) (IsFormed : R → Type 0) (rs : Lis
   few_rows i r at few = let has = has_at rs i r at in omega (arith, few, get_or-le-sum_by K.row_count rs has.0 r has.1, ap K.row_count has.2)
 
   pub malformed_found : (i : ℕ) (r : R) (q : DataHash) → slice_get rs i ≡ Some r → q ≡ key_of_record K (K.as_read r) → ¬ IsFormed (K.as_read r) → FindsMalformed K IsFormed rs (Some q)
-  malformed_found i r q at hash bad = (K.as_read r, has_mapped K.as_read rs r (has_at rs i r at), sym hash, bad)
+  malformed_found i r q at hash bad = (K.as_read r, mapped_member K.as_read rs r (has_at rs i r at), sym hash, bad)
 
   pub all_formed : All (λ r. IsFormed (K.as_read r)) rs → FindsMalformed K IsFormed rs None
   all_formed all = All-map IsFormed K.as_read rs all

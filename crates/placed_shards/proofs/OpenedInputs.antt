@@ -45,9 +45,6 @@ module _ (selection : Selection) (Is : Content → Type 0) where
     pub opened : AreOpened selection (take i inputs) shards
     pub hold : All Is shards
 
-  pub none_opened : (inputs : List (List ℕ)) → AreOpenedUpTo inputs 0
-  none_opened inputs = record { shards = []; opened = tt; hold = λ k c below. absurd (omega (arith, below)) }
-
   module _ (inputs : List (List ℕ)) (i : ℕ) (before : AreOpenedUpTo inputs i) (x : List ℕ) (at : slice_get inputs i ≡ Some x) where
     pub one_more_opened : (c : Content) → OpensSelected selection x c → Is c → AreOpenedUpTo inputs (i + 1)
     one_more_opened c opens is = record {

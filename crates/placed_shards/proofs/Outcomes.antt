@@ -11,7 +11,3 @@ pub if_written : {Z : Type 0} (A B : List ℕ → Type 0) (R S : CoreError → T
 if_written A B R S (Ok written) made refused is = made written.items is
 if_written A B R S (Err e) made refused is = refused e is
 
-pub if_filled : (A B : List ℕ → Type 0) (R S : CoreError → Type 0) (old new : List ℕ) (r : Result ℕ CoreError) → ((bytes : List ℕ) → A bytes → B bytes) → ((e : CoreError) → R e → S e)
-    → FillsWith A R old new r → FillsWith B S old new r
-if_filled A B R S old new (Ok size) made refused (bytes, is, fills) = (bytes, made bytes is, fills)
-if_filled A B R S old new (Err e) made refused (is, stays) = (refused e is, stays)

@@ -95,11 +95,6 @@ module _ {H R : Type 0} (K : RecordKind H R) (laws : KindLaws K) where
         let ys_are : so_far.before_2 ≡ ys = sym (so_far.second_is ∙ ap (λ rs. so_far.before_2 ++ rs) qs_none ∙ append-nil so_far.before_2) in
         (subst (λ p. p) (λ i. Combines K IsLeft (xs_are i) (ys_are i) left) so_far.fronts.combined, omega (arith, so_far.rows))
 
-  pub fewer_to_read : (ps qs : List R) (kept : Option R) (ps' qs' : List R) → Passes K ps qs kept ps' qs' → length ps' + length qs' < length ps + length qs
-  fewer_to_read ps qs kept ps' qs' (passes_first g ps_is qs_is before none) = omega (arith, ap length ps_is, ap length qs_is)
-  fewer_to_read ps qs kept ps' qs' (passes_second h qs_is ps_is before some) = omega (arith, ap length ps_is, ap length qs_is)
-  fewer_to_read ps qs kept ps' qs' (passes_both g h ps_is qs_is same none) = omega (arith, ap length ps_is, ap length qs_is)
-
   -- which record is passed
   module _ (xs ys : List R) (i j : ℕ) where
     abbrev firsts : ℕ → List R

@@ -6,7 +6,7 @@ use Rattle.std.proofs.lemmas.List.{map_push}
 use Rattle.std.proofs.lemmas.Option.{none-some, slice_get_cases}
 use Rattle.std.proofs.lemmas.List.Sorted.{Contains-permutation, IsPermutation-sym}
 use Rattle.xet_base.specs.declared.merklehash.DataHash.{DataHash}
-use Rattle.placed_shards.proofs.Items.{has_mapped, mapped_back}
+use Rattle.xet_shards.proofs.Content.MappedShards.{mapped_member, unmapped_member}
 use Rattle.xet_core_structures.specs.Shard.{xorb_hash_of}
 use Rattle.xet_core_structures.specs.declared.xorb_structs.MDBXorbInfo.{MDBXorbInfo}
 use Rattle.xet_core_structures.specs.MinimalShard.{MinimalShard}
@@ -33,6 +33,6 @@ pub known_has : (m : MinimalShard) (hashes sorted : List DataHash) → hashes �
     → (hash : DataHash) → Contains sorted hash ↔ HasXorb m hash
 known_has m hashes sorted are moved hash =
     let same = sorted_has hashes sorted moved hash in (
-      λ has. mapped_back xorb_hash_of m.xorbs hash (subst (λ hs. Contains hs hash) are (same.0 has)),
-      λ (x, among, is). same.1 (subst (λ hs. Contains hs hash) (sym are) (subst (Contains (map xorb_hash_of m.xorbs)) is (has_mapped xorb_hash_of m.xorbs x among))),
+      λ has. unmapped_member xorb_hash_of m.xorbs hash (subst (λ hs. Contains hs hash) are (same.0 has)),
+      λ (x, among, is). same.1 (subst (λ hs. Contains hs hash) (sym are) (subst (Contains (map xorb_hash_of m.xorbs)) is (mapped_member xorb_hash_of m.xorbs x among))),
     )
