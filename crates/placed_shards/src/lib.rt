@@ -31,7 +31,7 @@ mod places;
 mod putting;
 pub mod range;
 pub mod records;
-mod section;
+pub mod section;
 pub mod selection;
 pub mod sets;
 pub mod sink;
