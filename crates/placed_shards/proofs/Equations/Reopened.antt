@@ -24,7 +24,7 @@ all_twice [] = refl
 all_twice (f ∷ fs) = λ i. handed_twice f i ∷ all_twice fs i
 
 -- the version of a section has the files that are stored in it
-has_files : (version : FormatVersion) (c : Content) → All (file_records_in version).IsStored c.files → HasFilesIn version c
+pub has_files : (version : FormatVersion) (c : Content) → All (file_records_in version).IsStored c.files → HasFilesIn version c
 has_files V2 c stored = list_any_none (λ (r : MDBFileInfo). has_aux_ext r.metadata.file_flags) c.files (λ k r below. (stored k r below).1)
 has_files V3 c stored = tt
 
