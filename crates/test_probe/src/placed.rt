@@ -26,18 +26,8 @@ impl Probe {
         out: &mut Vec<u8>,
     ) -> std::result::Result<bool, Stop> {
         match words {
-            ["placed_merge", name, version, from, to, names @ ..] => {
-                self.merge_selected(name, parse_version(version)?, parse_scan(from, to)?, names)
-            }
-            [
-                "placed_merge_by_tables",
-                name,
-                version,
-                from,
-                to,
-                names @ ..,
-            ] => {
-                let selection = parse_by_tables(from, to)?;
+            ["placed_merge", name, version, how, from, to, names @ ..] => {
+                let selection = parse_selection(how, from, to)?;
                 self.merge_selected(name, parse_version(version)?, selection, names)
             }
             ["placed_by_tables", name, from, to, input] => {
@@ -124,19 +114,17 @@ fn parse_version(word: &str) -> std::result::Result<FormatVersion, Stop> {
     FormatVersion::of_number(parse_u64(word)?).ok_or(Stop::Unreadable)
 }
 
-/// The range from a hash on and below another, by a scan; `-` is no bound.
-pub fn parse_scan(from: &str, to: &str) -> std::result::Result<Selection, Stop> {
+/// The records from a hash on and below another, found by a `scan` or by the lookup `tables`; `-` is
+/// no bound.
+pub fn parse_selection(how: &str, from: &str, to: &str) -> std::result::Result<Selection, Stop> {
+    let access = match how {
+        "scan" => Access::Scan,
+        "tables" => Access::Tables,
+        _ => return Err(Stop::Unreadable),
+    };
     Ok(Selection {
         range: parse_range(from, to)?,
-        access: Access::Scan,
-    })
-}
-
-/// The same by lookup tables.
-pub fn parse_by_tables(from: &str, to: &str) -> std::result::Result<Selection, Stop> {
-    Ok(Selection {
-        range: parse_range(from, to)?,
-        access: Access::Tables,
+        access,
     })
 }
 

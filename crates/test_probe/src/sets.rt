@@ -1,6 +1,6 @@
 //! Unions of many buffers, by a tree, whether buffers agree, and what a check of one finds.
 
-use crate::placed::{parse_by_tables, parse_scan};
+use crate::placed::parse_selection;
 use crate::probe::Probe;
 use crate::stop::Stop;
 use placed_shards::findings::{find_disagreements, find_malformed};
@@ -19,19 +19,16 @@ impl Probe {
     pub fn run_on_sets(&mut self, words: &[&str], out: &mut Vec<u8>) -> Result<bool, Stop> {
         match words {
             ["set_tree", name, words @ ..] => self.unite(name, words),
-            ["set_agreeing", name, from, to, names @ ..] => {
-                self.unite_agreeing(name, parse_scan(from, to)?, names, out)
-            }
-            ["set_agreeing_by_tables", name, from, to, names @ ..] => {
-                self.unite_agreeing(name, parse_by_tables(from, to)?, names, out)
+            ["set_agreeing", name, how, from, to, names @ ..] => {
+                self.unite_agreeing(name, parse_selection(how, from, to)?, names, out)
             }
             ["disagreements", names @ ..] => self.show_disagreements(Selection::ALL, names, out),
-            ["disagreements_in", from, to, names @ ..] => {
-                self.show_disagreements(parse_scan(from, to)?, names, out)
+            ["disagreements_in", how, from, to, names @ ..] => {
+                self.show_disagreements(parse_selection(how, from, to)?, names, out)
             }
             ["malformed", names @ ..] => self.show_malformed(Selection::ALL, names, out),
-            ["malformed_in", from, to, names @ ..] => {
-                self.show_malformed(parse_scan(from, to)?, names, out)
+            ["malformed_in", how, from, to, names @ ..] => {
+                self.show_malformed(parse_selection(how, from, to)?, names, out)
             }
             ["check", name] => self.show_findings(name, out),
             _ => return Ok(false),
