@@ -1,6 +1,6 @@
 -- Findings that are added one after another, and the report that they make.
 use Rattle.std.proofs.Common.{◌≡◌, ◌≢◌, ◌⊎◌, ◌↔◌, Bool, true, false, inl, inr, Ok, Err, ℕ, zero, suc, ◌+◌, ◌-◌, ◌<◌, List, [], ◌∷◌, ◌++◌, length, map, take, drop, slice_index_or, refl, sym, ap, ◌∙◌, subst, arith, append-nil, rules}
-use Rattle.std.specs.Prelude.{All, Contains, IsTrue, OnOk, if◌then◌else◌}
+use Rattle.std.specs.Prelude.{◌^◌, All, Contains, IsTrue, OnOk, if◌then◌else◌}
 use Rattle.std.specs.List.Sorted.{IsStrictlySortedBy}
 use Rattle.std.specs.declared.cmp.Ordering.TheVariants.{Less}
 use Rattle.std.specs.declared.result.Result.{Result}
@@ -9,7 +9,7 @@ use Rattle.std.proofs.lemmas.List.{append_assoc, take-append-drop}
 use Rattle.std.proofs.Math.Seq.{take-append_seam, drop-append_seam}
 use Rattle.std.proofs.lemmas.List.Elements.{All-nil, All-cons, All-append, All-weaker, All-head, All-take, All-drop, Contains-push, Contains-append_left, Contains-append_right}
 use Rattle.xet_core_structures.specs.declared.error.CoreError.{CoreError}
-use Rattle.xet_core_structures.specs.declared.error.CoreError.TheVariants.{InvalidShard}
+use Rattle.xet_core_structures.specs.declared.error.CoreError.TheVariants.{InvalidArguments, InvalidShard, OutOfMemory}
 use Rattle.xet_core_structures.specs.declared.file_structs.MDBFileInfo.{MDBFileInfo}
 use Rattle.xet_core_structures.specs.declared.xorb_structs.MDBXorbInfo.{MDBXorbInfo}
 use Rattle.xet_core_structures.specs.declared.merklehash.DataHash.{DataHash}
@@ -18,22 +18,26 @@ use Rattle.xet_core_structures.specs.declared.shard_format.MDBShardInfo.{MDBShar
 use Rattle.xet_core_structures.specs.Ends.{HasHeader, HasHeaderAndFooter}
 use Rattle.xet_core_structures.specs.Errors.{IsInvalidShard, IsEndOfInput}
 use Rattle.xet_core_structures.specs.FileRecord.{IsWellFormed, file_records, file_records_in}
-use Rattle.xet_core_structures.specs.Hash.{hash_cmp}
+use Rattle.xet_core_structures.specs.Hash.{IsHash, hash_cmp}
 use Rattle.xet_core_structures.specs.WithOptions.{FitsSection, Ascends}
-use Rattle.xet_core_structures.specs.Layout.{footer_value, layout_of}
+use Rattle.xet_core_structures.specs.Layout.{footer_value, info_of, layout_of}
 use Rattle.xet_core_structures.specs.SectionReading.{SectionCase}
 use Rattle.xet_core_structures.specs.SectionReading.SectionCase.{not_read, passes_limit}
 use Rattle.xet_core_structures.specs.Source.ReadCase.{out_of_memory, out_of_bytes}
+use Rattle.xet_core_structures.specs.TwoShards.ByteResults.{LoadRefusal}
 use Rattle.xet_core_structures.specs.XorbRecord.{IsXorb, xorb_records}
-use Rattle.xet_shards.specs.Read.SectionsBehindHeader.{HasSections, options_of}
+use Rattle.xet_shards.specs.Export.Rewriting.{options_of}
 use Rattle.xet_shards.specs.Write.Tables.{hash_in}
 use Rattle.xet_core_structures.specs.KeyedHash.{no_key}
 use Rattle.xet_shards.proofs.Ends.EndsUnique.{only_info, not_unsupported, not_too_short}
 use Rattle.xet_shards.proofs.Read.SectionHashes.{ascend_adjacent}
-use Rattle.xet_shards.proofs.Read.WholeSections.{files_not_cut, files_not_refused, xorbs_not_cut, xorbs_not_refused}
 use Rattle.xet_shards.proofs.Ends.Loading.{header_of, one_version}
 use Rattle.xet_shards.proofs.Export.Rewriting.{only_sections, sections_fit, is_layout}
+use Rattle.xet_shards.proofs.Read.WholeSections.{files_not_cut, files_not_refused, layout_ends, xorbs_not_cut, xorbs_not_refused}
+use Rattle.placed_shards.specs.Content.{HasFilesIn}
+use Rattle.placed_shards.proofs.Equations.Reopened.{has_files}
 use Rattle.shard_bytes.proofs.Formats.{unsupported_so}
+use Rattle.shard_bytes.proofs.Walks.{not_refused}
 use Rattle.shard_bytes.proofs.Reordered.{front_more, put_together, ends_alike, rows_found}
 use Rattle.shard_bytes.specs.declared.check.Section.{Section}
 use Rattle.shard_bytes.specs.declared.check.Section.TheVariants.{Files, Xorbs}
@@ -256,28 +260,57 @@ module _ (bytes : List ℕ) (info : MDBShardInfo) (written : List ℕ) (footer :
       (λ n. (each_part Alike n.0.0.0.0.0.0.0 n.0.0.0.0.0.0.1 n.0.0.0.0.0.1 n.0.0.0.0.1 n.0.0.0.1 n.0.0.1 n.0.1, n.1))
       (adds_as _ _ OfAll IsOne l0 l8 to_one from_one s8)
 
--- bytes whose parts are those of the library's are whole, and intact if the rows of its chunk table stand in another order
-module _ (bytes : List ℕ) (info : MDBShardInfo) (files : List MDBFileInfo) (xorbs : List MDBXorbInfo) (ends : HasHeaderAndFooter bytes info) (have : HasSections bytes files xorbs)
-    (files_ascend : Ascends file_records files) (xorbs_ascend : Ascends xorb_records xorbs) (files_formed : All IsWellFormed files) (xorbs_formed : All IsXorb xorbs) where
-  version_is : have.header.version ≡ (options_of info).version
+-- what the library writes of the records in bytes that can be read
+module _ (bytes : List ℕ) (info : MDBShardInfo) (files : List MDBFileInfo) (xorbs : List MDBXorbInfo) (read : IsReadAs bytes info files xorbs) where
+  version_is : read.sections.header.version ≡ (options_of info).version
   version_is =
-      one_version bytes have.header
-      (header_of bytes (drop 48 bytes) info.header (sym (take-append-drop 48 bytes) ∙ ap (λ bs. bs ++ drop 48 bytes) ends.header) ends.header_version)
+      one_version bytes read.sections.header
+      (header_of bytes (drop 48 bytes) info.header (sym (take-append-drop 48 bytes) ∙ ap (λ bs. bs ++ drop 48 bytes) read.ends.header) read.ends.header_version)
 
+  pub files_fit : FitsSection (file_records_in (options_of info).version) files
+  files_fit = subst (λ v. FitsSection (file_records_in v) files) version_is (sections_fit bytes files xorbs read.sections).0
+
+  pub xorbs_fit : FitsSection xorb_records xorbs
+  xorbs_fit = (sections_fit bytes files xorbs read.sections).1
+
+  pub key_fits : IsHash (options_of info).key
+  key_fits = read.ends.footer_widths.key
+
+  pub creation_fits : (options_of info).creation < 2 ^ 64
+  creation_fits = read.ends.footer_widths.timestamps 0 0 (omega arith)
+
+  pub expiry_fits : (options_of info).expiry < 2 ^ 64
+  expiry_fits = read.ends.footer_widths.timestamps 1 0 (omega arith)
+
+  written_ends : HasHeaderAndFooter (layout_of files xorbs (options_of info)) (info_of files xorbs (options_of info))
+  written_ends = layout_ends files xorbs (options_of info) files_fit xorbs_fit key_fits creation_fits expiry_fits
+
+  -- it is written and read again, unless an allocation fails
+  pub written_unless : (e : CoreError) → (e ≡ OutOfMemory) ⊎ ((e ≡ InvalidArguments) × (¬ HasFilesIn (options_of info).version (record { files = files; xorbs = xorbs; options = options_of info }))) → e ≡ OutOfMemory
+  written_unless e (inl is) = is
+  written_unless e (inr (is, none)) = absurd (none (has_files (options_of info).version (record { files = files; xorbs = xorbs; options = options_of info }) files_fit.stored))
+
+  pub never_refused : (e : CoreError) → ¬ LoadRefusal (layout_of files xorbs (options_of info)) e
+  never_refused = not_refused (layout_of files xorbs (options_of info)) (info_of files xorbs (options_of info)) written_ends
+
+  pub footer_read : (other : MDBShardInfo) → HasHeaderAndFooter (layout_of files xorbs (options_of info)) other → other.metadata ≡ footer_value files xorbs (options_of info)
+  footer_read other there = ap (λ (i : MDBShardInfo). i.metadata) (only_info (layout_of files xorbs (options_of info)) other (info_of files xorbs (options_of info)) there written_ends)
+
+-- bytes whose parts are those of the library's are whole, and intact if the rows of its chunk table stand in another order
+module _ (bytes : List ℕ) (info : MDBShardInfo) (files : List MDBFileInfo) (xorbs : List MDBXorbInfo) (read : IsReadAs bytes info files xorbs)
+    (files_ascend : Ascends file_records files) (xorbs_ascend : Ascends xorb_records xorbs) (files_formed : All IsWellFormed files) (xorbs_formed : All IsXorb xorbs) where
   content : IsContent files xorbs (options_of info)
-  content =
-      let fit = sections_fit bytes files xorbs have in
-      record {
-        files_fit = subst (λ v. FitsSection (file_records_in v) files) version_is fit.0;
-        xorbs_fit = fit.1;
-        files_ascend = files_ascend;
-        xorbs_ascend = xorbs_ascend;
-        files_formed = files_formed;
-        xorbs_formed = xorbs_formed;
-        key = ends.footer_widths.key;
-        creation = ends.footer_widths.timestamps 0 0 (omega arith);
-        expiry = ends.footer_widths.timestamps 1 0 (omega arith);
-      }
+  content = record {
+    files_fit = files_fit bytes info files xorbs read;
+    xorbs_fit = xorbs_fit bytes info files xorbs read;
+    files_ascend = files_ascend;
+    xorbs_ascend = xorbs_ascend;
+    files_formed = files_formed;
+    xorbs_formed = xorbs_formed;
+    key = key_fits bytes info files xorbs read;
+    creation = creation_fits bytes info files xorbs read;
+    expiry = expiry_fits bytes info files xorbs read;
+  }
 
   abbrev all_written : List ℕ
   all_written = layout_of files xorbs (options_of info)
@@ -291,7 +324,7 @@ module _ (bytes : List ℕ) (info : MDBShardInfo) (files : List MDBFileInfo) (xo
     xorbs = xorbs;
     options = options_of info;
     content = content;
-    bytes_are = is_layout bytes info files xorbs (options_of info) ends (same.0 Footer) same.1 (same.0 Header) (same.0 FileSection) (same.0 XorbSection) (same.0 FileTable) (same.0 XorbTable)
+    bytes_are = is_layout bytes info files xorbs (options_of info) read.ends (same.0 Footer) same.1 (same.0 Header) (same.0 FileSection) (same.0 XorbSection) (same.0 FileTable) (same.0 XorbTable)
         (same.0 ChunkTable);
   }
 
@@ -306,7 +339,7 @@ module _ (bytes : List ℕ) (info : MDBShardInfo) (files : List MDBFileInfo) (xo
         (alike.0 XorbTable)
 
     end_same : drop all_footer.footer_offset bytes ≡ drop all_footer.footer_offset all_written
-    end_same = ends_alike bytes info files xorbs (options_of info) ends (alike.0 Footer) alike.1
+    end_same = ends_alike bytes info files xorbs (options_of info) read.ends (alike.0 Footer) alike.1
 
     pub intact : IsIntact bytes
     intact =
@@ -326,104 +359,99 @@ abbrev pub header_in : (bytes : List ℕ) (info : MDBShardInfo) → HasHeaderAnd
 header_in bytes info ends = header_of bytes (drop 48 bytes) info.header (sym (take-append-drop 48 bytes) ∙ ap (λ bs. bs ++ drop 48 bytes) ends.header) ends.header_version
 
 -- a report of bytes that can be read, from the findings on the order of each section and the differences
-module _ (bytes : List ℕ) (info : MDBShardInfo) (ends : HasHeaderAndFooter bytes info) where
-  module _ (fs xs : List DataHash) (files : List MDBFileInfo) (xorbs : List MDBXorbInfo) (have : HasSections bytes files xorbs)
-      (fs_are : fs ≡ map (hash_in file_records) files) (xs_are : xs ≡ map (hash_in xorb_records) xorbs) where
-    abbrev written_all : List ℕ
-    written_all = layout_of files xorbs (options_of info)
+module _ (bytes : List ℕ) (info : MDBShardInfo) (files : List MDBFileInfo) (xorbs : List MDBXorbInfo) (read_so : IsReadAs bytes info files xorbs) where
+  abbrev written_all : List ℕ
+  written_all = layout_of files xorbs (options_of info)
 
-    abbrev footer_all : MDBShardFileFooter
-    footer_all = footer_value files xorbs (options_of info)
+  abbrev footer_all : MDBShardFileFooter
+  footer_all = footer_value files xorbs (options_of info)
 
-    abbrev Disorder : Section → List DataHash → Finding → Type 0
-    Disorder section hashes f = (n : ℕ) × (f ≡ OutOfOrder section n) × IsOutOfOrder n hashes
+  abbrev fs : List DataHash
+  fs = map (hash_in file_records) files
 
-    abbrev BadFile : Finding → Type 0
-    BadFile f = (n : ℕ) × (f ≡ Malformed Files n) × IsMalformedAt IsWellFormed files n
+  abbrev xs : List DataHash
+  xs = map (hash_in xorb_records) xorbs
 
-    abbrev BadXorb : Finding → Type 0
-    BadXorb f = (n : ℕ) × (f ≡ Malformed Xorbs n) × IsMalformedAt IsXorb xorbs n
+  abbrev Disorder : Section → List DataHash → Finding → Type 0
+  Disorder section hashes f = (n : ℕ) × (f ≡ OutOfOrder section n) × IsOutOfOrder n hashes
 
-    -- what is wrong with the records; and what is wrong beside
-    abbrev OfRecords : Finding → Type 0
-    OfRecords f = (Disorder Files fs f ⊎ Disorder Xorbs xs f) ⊎ (BadFile f ⊎ BadXorb f)
+  abbrev BadFile : Finding → Type 0
+  BadFile f = (n : ℕ) × (f ≡ Malformed Files n) × IsMalformedAt IsWellFormed files n
 
-    abbrev Any : Finding → Type 0
-    Any f = OfRecords f ⊎ IsDifference bytes info written_all footer_all f
+  abbrev BadXorb : Finding → Type 0
+  BadXorb f = (n : ℕ) × (f ≡ Malformed Xorbs n) × IsMalformedAt IsXorb xorbs n
 
-    read_so : IsReadAs bytes info files xorbs
-    read_so = record { ends = ends; sections = have }
+  -- what is wrong with the records; and what is wrong beside
+  abbrev OfRecords : Finding → Type 0
+  OfRecords f = (Disorder Files fs f ⊎ Disorder Xorbs xs f) ⊎ (BadFile f ⊎ BadXorb f)
 
-    to_finding : (f : Finding) → Any f → IsFinding bytes f
-    to_finding f (inl (inl (inl (n, is, out)))) = subst (IsFinding bytes) (sym is) (info, files, xorbs, read_so, subst (IsOutOfOrder n) fs_are out)
-    to_finding f (inl (inl (inr (n, is, out)))) = subst (IsFinding bytes) (sym is) (info, files, xorbs, read_so, subst (IsOutOfOrder n) xs_are out)
-    to_finding f (inl (inr (inl (n, is, bad)))) = subst (IsFinding bytes) (sym is) (info, files, xorbs, read_so, bad)
-    to_finding f (inl (inr (inr (n, is, bad)))) = subst (IsFinding bytes) (sym is) (info, files, xorbs, read_so, bad)
-    to_finding f (inr (inl (part, is, differs))) = subst (IsFinding bytes) (sym is) (info, files, xorbs, read_so, differs)
-    to_finding f (inr (inr (inl (is, alike, differs)))) = subst (IsFinding bytes) (sym is) (info, files, xorbs, read_so, (alike, differs))
-    to_finding f (inr (inr (inr (is, differs)))) = subst (IsFinding bytes) (sym is) (info, files, xorbs, read_so, (refl, differs))
+  abbrev Any : Finding → Type 0
+  Any f = OfRecords f ⊎ IsDifference bytes info written_all footer_all f
 
-    -- however the bytes are read
-    module _ (other : MDBShardInfo) (gs : List MDBFileInfo) (ys : List MDBXorbInfo) (read : IsReadAs bytes other gs ys) where
-      same_info : other ≡ info
-      same_info = only_info bytes other info read.ends ends
+  to_finding : (f : Finding) → Any f → IsFinding bytes f
+  to_finding f (inl (inl (inl (n, is, out)))) = subst (IsFinding bytes) (sym is) (info, files, xorbs, read_so, out)
+  to_finding f (inl (inl (inr (n, is, out)))) = subst (IsFinding bytes) (sym is) (info, files, xorbs, read_so, out)
+  to_finding f (inl (inr (inl (n, is, bad)))) = subst (IsFinding bytes) (sym is) (info, files, xorbs, read_so, bad)
+  to_finding f (inl (inr (inr (n, is, bad)))) = subst (IsFinding bytes) (sym is) (info, files, xorbs, read_so, bad)
+  to_finding f (inr (inl (part, is, differs))) = subst (IsFinding bytes) (sym is) (info, files, xorbs, read_so, differs)
+  to_finding f (inr (inr (inl (is, alike, differs)))) = subst (IsFinding bytes) (sym is) (info, files, xorbs, read_so, (alike, differs))
+  to_finding f (inr (inr (inr (is, differs)))) = subst (IsFinding bytes) (sym is) (info, files, xorbs, read_so, (refl, differs))
 
-      same_both : (gs ≡ files) × (ys ≡ xorbs)
-      same_both = only_sections bytes gs files ys xorbs read.sections have
+  -- however the bytes are read
+  module _ (other : MDBShardInfo) (gs : List MDBFileInfo) (ys : List MDBXorbInfo) (read : IsReadAs bytes other gs ys) where
+    same_info : other ≡ info
+    same_info = only_info bytes other info read.ends read_so.ends
 
-      same_written : layout_of gs ys (options_of other) ≡ written_all
-      same_written = λ i. layout_of (same_both.0 i) (same_both.1 i) (options_of (same_info i))
+    same_both : (gs ≡ files) × (ys ≡ xorbs)
+    same_both = only_sections bytes gs files ys xorbs read.sections read_so.sections
 
-      -- what is said of the bytes and of those that are written is said of the same
-      said_too : (Says : MDBShardInfo → List ℕ → MDBShardFileFooter → Type 0) → Says other (layout_of gs ys (options_of other)) (footer_value gs ys (options_of other)) → Says info written_all footer_all
-      said_too Says says = subst (λ p. p) (λ i. Says (same_info i) (same_written i) (footer_value (same_both.0 i) (same_both.1 i) (options_of (same_info i)))) says
+    same_written : layout_of gs ys (options_of other) ≡ written_all
+    same_written = λ i. layout_of (same_both.0 i) (same_both.1 i) (options_of (same_info i))
 
-    from_finding : (f : Finding) → IsFinding bytes f → Any f
-    from_finding (Unsupported reason) so = absurd (not_unsupported bytes info ends (unsupported_so bytes reason so))
-    from_finding TooShort so = absurd (not_too_short bytes info ends so)
-    from_finding (Cut Files) (i, e, header, cut) = absurd (files_not_cut bytes files xorbs have header cut)
-    from_finding (Cut Xorbs) (i, e, header, (gs, there, cut)) = absurd (xorbs_not_cut bytes files xorbs have header gs there cut)
-    from_finding (Refused Files) (i, e, header, over) = absurd (files_not_refused bytes files xorbs have header over)
-    from_finding (Refused Xorbs) (i, e, header, (gs, there, over)) = absurd (xorbs_not_refused bytes files xorbs have header gs there over)
-    from_finding (OutOfOrder Files n) (other, gs, ys, read, out) =
-        inl (inl (inl (n, refl, subst (IsOutOfOrder n) (ap (map (hash_in file_records)) (same_both other gs ys read).0 ∙ sym fs_are) out)))
-    from_finding (OutOfOrder Xorbs n) (other, gs, ys, read, out) =
-        inl (inl (inr (n, refl, subst (IsOutOfOrder n) (ap (map (hash_in xorb_records)) (same_both other gs ys read).1 ∙ sym xs_are) out)))
-    from_finding (Malformed Files n) (other, gs, ys, read, bad) = inl (inr (inl (n, refl, subst (λ rs. IsMalformedAt IsWellFormed rs n) (same_both other gs ys read).0 bad)))
-    from_finding (Malformed Xorbs n) (other, gs, ys, read, bad) = inl (inr (inr (n, refl, subst (λ rs. IsMalformedAt IsXorb rs n) (same_both other gs ys read).1 bad)))
-    from_finding (Differs part) (other, gs, ys, read, differs) = inr (inl (part, refl, said_too other gs ys read (λ i w f. ¬ IsAlikePart part bytes i w f) differs))
-    from_finding Reordered (other, gs, ys, read, (alike, differs)) =
-        inr (inr (inl (refl, said_too other gs ys read (λ i w f. IsAlikePart ChunkTable bytes i w f) alike, said_too other gs ys read (λ i w f. ¬ IsSamePart ChunkTable bytes i w f) differs)))
-    from_finding (Size n) (other, gs, ys, read, (is, differs)) =
-        let size : n ≡ length written_all = is ∙ ap length (same_written other gs ys read) in
-        inr (inr (inr (ap Size size, λ same. differs (same ∙ sym size))))
+    -- what is said of the bytes and of those that are written is said of the same
+    said_too : (Says : MDBShardInfo → List ℕ → MDBShardFileFooter → Type 0) → Says other (layout_of gs ys (options_of other)) (footer_value gs ys (options_of other)) → Says info written_all footer_all
+    said_too Says says = subst (λ p. p) (λ i. Says (same_info i) (same_written i) (footer_value (same_both.0 i) (same_both.1 i) (options_of (same_info i)))) says
 
-    pub report_of : (l1 l2 l3 l4 l5 : List Finding) → AddsDisorder Files fs [] l1 → AddsDisorder Xorbs xs l1 l2 → AddsMalformed Files IsWellFormed files l2 l3 → AddsMalformed Xorbs IsXorb xorbs l3 l4
-        → AddsDifferences bytes info files xorbs l4 l5 → IsReport bytes l5
-    report_of l1 l2 l3 l4 l5 files_order xorbs_order bad_files bad_xorbs compares =
-        let order = adds_then FilesAscend FilesAscend XorbsAscend XorbsAscend (Disorder Files fs) (Disorder Xorbs xs) [] l1 l2 files_order xorbs_order in
-        let bad = adds_then (All IsWellFormed files) (All IsWellFormed files) (All IsXorb xorbs) (All IsXorb xorbs) BadFile BadXorb l2 l3 l4 bad_files bad_xorbs in
-        let records = adds_then _ _ _ _ _ (λ f. BadFile f ⊎ BadXorb f) [] l2 l4 order bad in
-        let both = adds_then _ _ (IsSame bytes info written_all footer_all) (IsAlike bytes info written_all footer_all) _ (IsDifference bytes info written_all footer_all) [] l4 l5 records compares in
-        let found = adds_as _ _ Any (IsFinding bytes) [] l5 to_finding from_finding both in
-        record {
-          each = subst (All (IsFinding bytes)) (sym found.added) found.each;
-          all = λ f so. subst (λ fs. Contains fs f) (sym found.added) (found.all f so);
-          none = λ empty. let n = found.none (sym found.added ∙ empty) in whole bytes info files xorbs ends have (ascend_files n.0.0.0) (ascend_xorbs n.0.0.1) n.0.1.0 n.0.1.1 n.1;
-          notes = λ all. let n = found.notes (subst (All IsNote) found.added all) in intact bytes info files xorbs ends have (ascend_files n.0.0.0) (ascend_xorbs n.0.0.1) n.0.1.0 n.0.1.1 n.1;
-        }
-      where
-        FilesAscend : Type 0
-        FilesAscend = IsStrictlySortedBy hash_cmp fs
+  from_finding : (f : Finding) → IsFinding bytes f → Any f
+  from_finding (Unsupported reason) so = absurd (not_unsupported bytes info read_so.ends (unsupported_so bytes reason so))
+  from_finding TooShort so = absurd (not_too_short bytes info read_so.ends so)
+  from_finding (Cut Files) (i, e, header, cut) = absurd (files_not_cut bytes files xorbs read_so.sections header cut)
+  from_finding (Cut Xorbs) (i, e, header, (gs, there, cut)) = absurd (xorbs_not_cut bytes files xorbs read_so.sections header gs there cut)
+  from_finding (Refused Files) (i, e, header, over) = absurd (files_not_refused bytes files xorbs read_so.sections header over)
+  from_finding (Refused Xorbs) (i, e, header, (gs, there, over)) = absurd (xorbs_not_refused bytes files xorbs read_so.sections header gs there over)
+  from_finding (OutOfOrder Files n) (other, gs, ys, read, out) =
+      inl (inl (inl (n, refl, subst (IsOutOfOrder n) (ap (map (hash_in file_records)) (same_both other gs ys read).0) out)))
+  from_finding (OutOfOrder Xorbs n) (other, gs, ys, read, out) =
+      inl (inl (inr (n, refl, subst (IsOutOfOrder n) (ap (map (hash_in xorb_records)) (same_both other gs ys read).1) out)))
+  from_finding (Malformed Files n) (other, gs, ys, read, bad) = inl (inr (inl (n, refl, subst (λ rs. IsMalformedAt IsWellFormed rs n) (same_both other gs ys read).0 bad)))
+  from_finding (Malformed Xorbs n) (other, gs, ys, read, bad) = inl (inr (inr (n, refl, subst (λ rs. IsMalformedAt IsXorb rs n) (same_both other gs ys read).1 bad)))
+  from_finding (Differs part) (other, gs, ys, read, differs) = inr (inl (part, refl, said_too other gs ys read (λ i w f. ¬ IsAlikePart part bytes i w f) differs))
+  from_finding Reordered (other, gs, ys, read, (alike, differs)) =
+      inr (inr (inl (refl, said_too other gs ys read (λ i w f. IsAlikePart ChunkTable bytes i w f) alike, said_too other gs ys read (λ i w f. ¬ IsSamePart ChunkTable bytes i w f) differs)))
+  from_finding (Size n) (other, gs, ys, read, (is, differs)) =
+      let size : n ≡ length written_all = is ∙ ap length (same_written other gs ys read) in
+      inr (inr (inr (ap Size size, λ same. differs (same ∙ sym size))))
 
-        XorbsAscend : Type 0
-        XorbsAscend = IsStrictlySortedBy hash_cmp xs
+  pub report_of : (l1 l2 l3 l4 l5 : List Finding) → AddsDisorder Files fs [] l1 → AddsDisorder Xorbs xs l1 l2 → AddsMalformed Files IsWellFormed files l2 l3 → AddsMalformed Xorbs IsXorb xorbs l3 l4
+      → AddsDifferences bytes info files xorbs l4 l5 → IsReport bytes l5
+  report_of l1 l2 l3 l4 l5 files_order xorbs_order bad_files bad_xorbs compares =
+      let order = adds_then FilesAscend FilesAscend XorbsAscend XorbsAscend (Disorder Files fs) (Disorder Xorbs xs) [] l1 l2 files_order xorbs_order in
+      let bad = adds_then (All IsWellFormed files) (All IsWellFormed files) (All IsXorb xorbs) (All IsXorb xorbs) BadFile BadXorb l2 l3 l4 bad_files bad_xorbs in
+      let records = adds_then _ _ _ _ _ (λ f. BadFile f ⊎ BadXorb f) [] l2 l4 order bad in
+      let both = adds_then _ _ (IsSame bytes info written_all footer_all) (IsAlike bytes info written_all footer_all) _ (IsDifference bytes info written_all footer_all) [] l4 l5 records compares in
+      let found = adds_as _ _ Any (IsFinding bytes) [] l5 to_finding from_finding both in
+      record {
+        each = subst (All (IsFinding bytes)) (sym found.added) found.each;
+        all = λ f so. subst (λ fs. Contains fs f) (sym found.added) (found.all f so);
+        none = λ empty. let n = found.none (sym found.added ∙ empty) in whole bytes info files xorbs read_so n.0.0.0 n.0.0.1 n.0.1.0 n.0.1.1 n.1;
+        notes = λ all. let n = found.notes (subst (All IsNote) found.added all) in intact bytes info files xorbs read_so n.0.0.0 n.0.0.1 n.0.1.0 n.0.1.1 n.1;
+      }
+    where
+      FilesAscend : Type 0
+      FilesAscend = IsStrictlySortedBy hash_cmp fs
 
-        ascend_files : IsStrictlySortedBy hash_cmp fs → Ascends file_records files
-        ascend_files sorted = subst (IsStrictlySortedBy hash_cmp) fs_are sorted
-
-        ascend_xorbs : IsStrictlySortedBy hash_cmp xs → Ascends xorb_records xorbs
-        ascend_xorbs sorted = subst (IsStrictlySortedBy hash_cmp) xs_are sorted
+      XorbsAscend : Type 0
+      XorbsAscend = IsStrictlySortedBy hash_cmp xs
 
 -- one finding that is true, and no other is
 pub one_finding : (bytes : List ℕ) (f : Finding) (findings : List Finding) → (¬ IsNote f) → IsFinding bytes f → ((g : Finding) → IsFinding bytes g → g ≡ f) → findings ≡ f ∷ [] → IsReport bytes findings

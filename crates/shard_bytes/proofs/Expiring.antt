@@ -1,5 +1,5 @@
 -- The bytes of a shard with another expiry.
-use Rattle.std.proofs.Common.{◌≡◌, inl, inr, ℕ, ◌-◌, List, ◌++◌, length, take, Some, sym, ap, ◌∙◌, subst, refl, length-append, arith}
+use Rattle.std.proofs.Common.{◌≡◌, ℕ, ◌-◌, List, ◌++◌, length, take, Some, sym, ap, ◌∙◌, subst, refl, length-append, arith}
 use Rattle.std.specs.FinMap.{values}
 use Rattle.std.proofs.Math.Seq.{take-append_seam}
 use Rattle.xet_core_structures.specs.declared.file_structs.MDBFileInfo.{MDBFileInfo}
@@ -13,11 +13,12 @@ use Rattle.xet_core_structures.specs.XorbRecord.{xorb_records}
 use Rattle.xet_shards.specs.declared.shard_writer.LayoutOptions.{LayoutOptions}
 use Rattle.xet_shards.specs.Write.Section.{section_bytes}
 use Rattle.xet_shards.specs.Write.Tables.{table_bytes, chunk_table_bytes}
-use Rattle.xet_shards.proofs.Ends.EndsUnique.{only_info, not_unsupported, not_too_short, ends_of_bytes, bytes_without_expiry}
+use Rattle.xet_shards.proofs.Ends.EndsUnique.{only_info, ends_of_bytes, bytes_without_expiry}
 use Rattle.xet_shards.proofs.Write.Layouts.{length-shard_footer_bytes}
 use Rattle.xet_core_structures.specs.declared.error.CoreError.{CoreError}
 use Rattle.xet_core_structures.specs.TwoShards.ByteResults.{LoadRefusal}
 use Rattle.shard_bytes.specs.Expiry.{HasNewExpiry}
+use Rattle.shard_bytes.proofs.Walks.{not_refused as never_refused}
 
 -- all but the last bytes, which are as many
 front_of : (n : ℕ) (front back : List ℕ) → length back ≡ n → take (length (front ++ back) - n) (front ++ back) ≡ front
@@ -56,8 +57,4 @@ expiry_of_shard s expiry bytes changed is new =
 
 -- header and footer of a shard's bytes are read
 pub not_refused : (s : Shard) (bytes given : List ℕ) (e : CoreError) → given ≡ bytes → IsBytesWithoutExpiry s bytes → ¬ LoadRefusal given e
-not_refused s bytes given e same is refusal = no_refusal (subst (λ bs. LoadRefusal bs e) same refusal)
-  where
-    no_refusal : ¬ LoadRefusal bytes e
-    no_refusal (inl (so, unsupported)) = not_unsupported bytes _ (ends_of_bytes s bytes (bytes_without_expiry is)) unsupported
-    no_refusal (inr (so, short)) = not_too_short bytes _ (ends_of_bytes s bytes (bytes_without_expiry is)) short
+not_refused s bytes given e same is refusal = never_refused bytes _ (ends_of_bytes s bytes (bytes_without_expiry is)) e (subst (λ bs. LoadRefusal bs e) same refusal)

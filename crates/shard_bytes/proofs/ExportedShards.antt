@@ -11,7 +11,6 @@ use Rattle.xet_core_structures.specs.declared.error.CoreError.TheVariants.{OutOf
 use Rattle.xet_core_structures.specs.declared.file_structs.MDBFileInfo.{MDBFileInfo}
 use Rattle.xet_core_structures.specs.declared.xorb_structs.MDBXorbInfo.{MDBXorbInfo}
 use Rattle.xet_core_structures.specs.declared.shard_format.MDBShardInfo.{MDBShardInfo}
-use Rattle.xet_core_structures.specs.TwoShards.ByteResults.{LoadRefusal}
 use Rattle.xet_core_structures.specs.Ends.{HasHeaderAndFooter}
 use Rattle.xet_core_structures.specs.Ends.FormatCase.{unsupported_format, too_few_bytes}
 use Rattle.xet_core_structures.specs.Errors.{IsWriteError}
@@ -44,7 +43,7 @@ use Rattle.xet_shards.proofs.Content.KeyedHashes.{keyed_section}
 use Rattle.xet_shards.proofs.Content.KeyedShards.{keyed_is_shard, values-keyed}
 use Rattle.xet_shards.proofs.Content.Maps.{values-empty}
 use Rattle.xet_shards.proofs.Content.ShardsWithoutAux.{values-without_aux, without_aux-is_shard}
-use Rattle.xet_shards.proofs.Ends.EndsUnique.{only_info, not_unsupported, not_too_short}
+use Rattle.xet_shards.proofs.Ends.EndsUnique.{only_info}
 use Rattle.xet_shards.proofs.Export.Rewriting.{only_sections}
 use Rattle.xet_shards.proofs.Read.Readback.{file_section_in, xorb_section_in}
 use Rattle.xet_shards.proofs.Read.WholeSections.{layout_ends, files_not_cut, files_not_refused, xorbs_not_cut, xorbs_not_refused}
@@ -54,6 +53,7 @@ use Rattle.shard_bytes.specs.Exporting.{ExportsBytes, FollowsHeader, HoldsExport
 use Rattle.shard_bytes.specs.Sizes.{IsRewriteSize}
 use Rattle.shard_bytes.specs.Versions.{AreBytesIn3}
 use Rattle.shard_bytes.proofs.Checking.{header_in}
+use Rattle.shard_bytes.proofs.Walks.{not_refused}
 use Rattle.shard_bytes.proofs.RewriteSizes.{size_of_export}
 
 -- reading a file and leaving out its auxiliary row can be exchanged
@@ -199,13 +199,9 @@ module _ (s : Shard) (bytes : List ℕ) (follows : FollowsHeader s bytes) where
     abbrev ends : HasHeaderAndFooter bytes info
     ends = holds.has.ends
 
-    not_refused : (e : CoreError) → ¬ LoadRefusal bytes e
-    not_refused e (inl (is, unsupported)) = not_unsupported bytes info ends unsupported
-    not_refused e (inr (is, short)) = not_too_short bytes info ends short
-
     pub only_out_of_memory : (e : CoreError) → RefusesExport x bytes e → e ≡ OutOfMemory
     only_out_of_memory e (inl is) = is
-    only_out_of_memory e (inr (read, inl load)) = absurd (not_refused e load)
+    only_out_of_memory e (inr (read, inl load)) = absurd (not_refused bytes info ends e load)
     only_out_of_memory e (inr (read, inr (other, there, inl (is, inl keyed)))) =
         absurd (keyed (ap (λ (i : MDBShardInfo). i.metadata.chunk_hash_hmac_key) (only_info bytes other info there ends) ∙ holds.under))
     only_out_of_memory e (inr (read, inr (other, there, inl (is, inr late)))) = absurd (omega (arith, fits, late))

@@ -1,39 +1,27 @@
 -- Each record in bytes that no shard may have is found.
-use Rattle.std.proofs.Common.{◌≡◌, ◌⊎◌, ◌↔◌, inl, inr, Bool, ℕ, ◌+◌, ◌*◌, ◌<◌, ◌≤◌, List, [], ◌∷◌, ◌++◌, length, flat_map, take, drop, get_or, Some, refl, sym, ap, ◌∙◌, subst, append_assoc, append-nil, arith}
+use Rattle.std.proofs.Common.{◌≡◌, ◌⊎◌, ◌↔◌, inl, inr, Bool, ℕ, ◌+◌, ◌<◌, ◌≤◌, List, [], ◌∷◌, ◌++◌, length, flat_map, get_or, Some, refl, sym, ap, ◌∙◌, subst, append_assoc, append-nil, arith}
 use Rattle.std.specs.Prelude.{All, IsTrue, slice_get, if◌then◌else◌}
-use Rattle.std.proofs.lemmas.List.{length-append}
 use Rattle.std.proofs.lemmas.List.Elements.{All-nil, All-cons, All-drop}
-use Rattle.std.proofs.lemmas.List.Sums.{get_or-le-sum_by}
-use Rattle.std.proofs.lemmas.Option.{get_or_from_slice_get, same_Some, slice_get_within, slice_get-get_or}
+use Rattle.std.proofs.lemmas.Option.{same_Some, slice_get_within, slice_get-get_or}
 use Rattle.xet_base.specs.declared.merklehash.DataHash.{DataHash}
 use Rattle.xet_base.specs.Bytes.{u64_bytes}
 use Rattle.xet_base.specs.Hash.{hash_bytes}
-use Rattle.xet_base.proofs.Lists.{front_is, rest_is}
 use Rattle.xet_records.specs.declared.file_structs.rows.HashRow.{HashRow}
-use Rattle.xet_records.specs.FileRow.{FitsHashRow, hash_row, segment_row}
+use Rattle.xet_records.specs.FileRow.{FitsHashRow, hash_row}
 use Rattle.xet_records.specs.Limits.{MAX_ROWS}
 use Rattle.xet_records.specs.Part.{optional_rows}
-use Rattle.xet_records.specs.RecordKind.{RecordKind, KindLaws}
-use Rattle.xet_records.proofs.Lengths.{length-hash_row, length-segment_rows}
+use Rattle.xet_records.proofs.Lengths.{length-hash_row}
 use Rattle.xet_records.proofs.Unique.{hash_row-injective}
-use Rattle.xet_core_structures.specs.declared.file_structs.FileDataSequenceHeader.{FileDataSequenceHeader}
 use Rattle.xet_core_structures.specs.declared.file_structs.MDBFileInfo.{MDBFileInfo}
-use Rattle.xet_core_structures.specs.declared.xorb_structs.MDBXorbInfo.{MDBXorbInfo}
-use Rattle.xet_core_structures.specs.declared.xorb_structs.XorbChunkSequenceHeader.{XorbChunkSequenceHeader}
-use Rattle.xet_core_structures.specs.FileRecord.{IsPlainHeader, IsWellFormed, file_records, file_rows_bytes}
-use Rattle.xet_core_structures.specs.XorbRecord.{IsXorb, size_of_chunks, xorb_records}
+use Rattle.xet_core_structures.specs.FileRecord.{IsPlainHeader, IsStored, IsWellFormed, row_count}
 use Rattle.placed_shards.proofs.FrontRows.{FirstOf, first_of, none_left}
 use Rattle.placed_shards.proofs.Items.{below_or_at}
-use Rattle.xet_shards.specs.declared.shard_writer.PlacedRecord.{PlacedRecord}
-use Rattle.xet_shards.specs.declared.shard_writer.StoredSection.{StoredSection}
-use Rattle.xet_shards.specs.Read.StoredSection.{StoresRecord, StoresSection}
 use Rattle.xet_shards.specs.Steps.FileStore.{AreClear}
-use Rattle.xet_shards.proofs.Read.Zipped.{zip_at}
 use Rattle.shard_bytes.specs.declared.check.Section.{Section}
 use Rattle.shard_bytes.specs.declared.check.Finding.{Finding}
 use Rattle.shard_bytes.specs.declared.check.Finding.TheVariants.{Malformed}
 use Rattle.shard_bytes.specs.Checking.{IsMalformedAt}
-use Rattle.shard_bytes.specs.Steps.Checking.{AddsFaults, AddsMalformed, HasRows}
+use Rattle.shard_bytes.specs.Steps.Checking.{AddsFaults, AddsMalformed}
 use Rattle.shard_bytes.proofs.Checking.{adds_as, adds_well, adds_then, adds_none, adds_if}
 
 -- what is added of the first records of a list
@@ -92,72 +80,20 @@ module _ {R : Type 0} (IsFormed : R → Type 0) (rs : List R) (section : Section
       all : FormedBefore n → All IsFormed rs
       all formed k d below = formed k (get_or rs k d) (omega (arith, past, below)) (slice_get-get_or rs k d below)
 
--- the record at an index, and the bytes of its rows
-module _ {H R : Type 0} (K : RecordKind H R) (laws : KindLaws K) where
-  rows_size : (p : PlacedRecord H) (r : R) → StoresRecord K p r → length (K.bytes_after r) ≡ 48 * K.rows_after p.header
-  rows_size p r here = laws.size_after r here.is_stored ∙ ap (λ h. 48 * K.rows_after h) (sym here.header_is)
-
-  pub has_rows : (p : PlacedRecord H) (r : R) (rows : List ℕ) → StoresRecord K p r → K.row_count r ≤ MAX_ROWS → rows ≡ take (48 * K.rows_after p.header) p.rows.now → HasRows K p.header rows r
-  has_rows p r rows here few rows_are = record {
-    is_stored = here.is_stored;
-    few = few;
-    header_is = here.header_is;
-    rows_are = rows_are ∙ front_is (48 * K.rows_after p.header) p.rows.now (K.bytes_after r) here.rest (rows_size p r here) here.rows_are;
-  }
-
-  pub rows_within : (p : PlacedRecord H) (r : R) → StoresRecord K p r → 48 * K.rows_after p.header ≤ length p.rows.now
-  rows_within p r here = omega (arith, rows_size p r here, ap length here.rows_are, length-append (K.bytes_after r) here.rest)
-
--- the record at an index of a section
-module _ {H R : Type 0} (K : RecordKind H R) (section : StoredSection H) (rs : List R) (stores : StoresSection K section rs) (i : ℕ) (p : PlacedRecord H) (at : slice_get section.records.items i ≡ Some p) where
-  pub stored_there : (r : R) × (slice_get rs i ≡ Some r) × StoresRecord K p r
-  stored_there = zip_at (StoresRecord K) section.records.items rs i p stores.records at
-
-  pub few_there : K.row_count stored_there.0 ≤ MAX_ROWS
-  few_there =
-      let within = slice_get_within rs i stored_there.0 stored_there.1 in
-      let same = get_or_from_slice_get rs i stored_there.0 stored_there.0 stored_there.1 in
-      omega (arith, get_or-le-sum_by K.row_count rs i stored_there.0 within, ap K.row_count same, stores.fits.rows)
-
 -- a file is well-formed exactly if its header is plain and the rows of its parts have no reserved words
-module _ (header : FileDataSequenceHeader) (rows : List ℕ) (r : MDBFileInfo) (has : HasRows file_records header rows r) where
-  pub plain_if_formed : IsWellFormed r → IsPlainHeader header
-  plain_if_formed formed = subst IsPlainHeader (sym has.header_is) (formed.known_flags, formed.reserved)
-
-  pub formed_if : IsPlainHeader header → AreClear (optional_rows r) → IsWellFormed r
-  formed_if plain clear =
-      let plain_too = subst IsPlainHeader has.header_is plain in
-      record {
-        is_file = has.is_stored.is_file;
-        known_flags = plain_too.0;
-        reserved = plain_too.1;
-        whole = has.is_stored.whole;
-        clear = clear;
-        rows = has.few;
-        widths = has.is_stored.widths;
-      }
-
-  abbrev segments : List ℕ
-  segments = flat_map segment_row r.segments
-
-  segments_size : length segments ≡ 48 * header.num_entries
-  segments_size =
-      length-segment_rows r.segments ∙ ap (λ n. 48 * n) (has.is_stored.whole.segments ∙ ap (λ (h : FileDataSequenceHeader). h.num_entries) (sym has.header_is))
-
-  rows_split : rows ≡ segments ++ flat_map hash_row (optional_rows r)
-  unfolding file_rows_bytes
-  rows_split = has.rows_are
-
-  pub enough_segments : 48 * header.num_entries ≤ length rows
-  enough_segments = omega (arith, segments_size, ap length rows_split, length-append segments (flat_map hash_row (optional_rows r)))
-
-  pub optional_are : drop (48 * header.num_entries) rows ≡ flat_map hash_row (optional_rows r)
-  optional_are = rest_is (48 * header.num_entries) rows segments (flat_map hash_row (optional_rows r)) segments_size rows_split
-
--- a xorb is well-formed exactly if its chunks have few bytes
-module _ (header : XorbChunkSequenceHeader) (rows : List ℕ) (r : MDBXorbInfo) (has : HasRows xorb_records header rows r) where
-  pub xorb_formed_if : size_of_chunks r ≤ 4294967295 → IsXorb r
-  xorb_formed_if few_bytes = record { is_xorb = has.is_stored.is_xorb; count = has.is_stored.count; rows = has.few; bytes = few_bytes; widths = has.is_stored.widths }
+pub file_formed : (r : MDBFileInfo) → IsStored r → row_count r ≤ MAX_ROWS → (IsPlainHeader r.metadata × AreClear (optional_rows r)) ↔ IsWellFormed r
+file_formed r is few = (
+  λ plain. record {
+    is_file = is.is_file;
+    known_flags = plain.0.0;
+    reserved = plain.0.1;
+    whole = is.whole;
+    clear = plain.1;
+    rows = few;
+    widths = is.widths;
+  },
+  λ formed. ((formed.known_flags, formed.reserved), formed.clear),
+)
 
 -- the row of an optional part, from its hash and its reserved words
 pub joined_row : (hash : DataHash) (first second : ℕ) (bytes after_hash after_first after : List ℕ) → bytes ≡ hash_bytes hash ++ after_hash → after_hash ≡ u64_bytes first ++ after_first

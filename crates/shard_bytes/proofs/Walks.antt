@@ -151,7 +151,7 @@ module _ (bytes : List ℕ) (info : MDBShardInfo) (ends : HasHeaderAndFooter byt
   pub said_of : (Says : MDBShardInfo → Type 0) → WithEnds bytes Says → Says info
   said_of Says (other, there, says) = subst Says (only_info bytes other info there ends) says
 
-  not_refused : (e : CoreError) → ¬ LoadRefusal bytes e
+  pub not_refused : (e : CoreError) → ¬ LoadRefusal bytes e
   not_refused e (inl (is, unsupported)) = not_unsupported bytes info ends unsupported
   not_refused e (inr (is, short)) = not_too_short bytes info ends short
 

@@ -1,19 +1,19 @@
 //! Checks of a shard: would the library write the same bytes for its records?
 
-ghost use Rattle.std.specs.Prelude.{◌≡◌, ◌↔◌, [], ◌∷◌, ◌++◌, List, map, All, Contains, MatchOption, MatchResult, OnOk, IfOk, IfErr, IsTrue, if◌then◌else◌};
+ghost use Rattle.std.specs.Prelude.{◌≡◌, ◌↔◌, [], ◌∷◌, ◌++◌, map, All, Contains, MatchOption, MatchResult, OnOk, IfOk, IfErr, IsTrue, if◌then◌else◌};
 ghost use Rattle.std.specs.List.{slice_range};
 ghost use Rattle.std.specs.List.Sorted.{IsStrictlySortedBy};
 ghost use Rattle.std.specs.declared.cmp.Ordering.TheVariants.{Less};
-ghost use Rattle.xet_core_structures.specs.declared.file_structs.MDBFileInfo.{MDBFileInfo};
-ghost use Rattle.xet_core_structures.specs.declared.xorb_structs.MDBXorbInfo.{MDBXorbInfo};
-ghost use Rattle.xet_shards.specs.Read.StoredSection.{StoresSections};
 ghost use Rattle.xet_core_structures.specs.declared.shard_format.MDBShardInfo.{MDBShardInfo};
 ghost use Rattle.xet_core_structures.specs.Ends.{HasHeaderAndFooter};
 ghost use Rattle.xet_core_structures.specs.TwoShards.ByteResults.{LoadRefusal};
 ghost use Rattle.xet_core_structures.specs.Hash.{hash_cmp};
+ghost use Rattle.xet_shards.specs.Export.Rewriting.{options_of};
+ghost use Rattle.xet_shards.specs.Write.Tables.{hash_in};
+ghost use Rattle.placed_shards.specs.Content.{content};
 ghost use Rattle.shard_bytes.specs.declared.check.Finding.{Finding};
-ghost use Rattle.shard_bytes.specs.Checking.{IsWhole, IsIntact, IsFinding, IsNote, IsOutOfOrder, IsSamePart, HoldsSomeShard};
-ghost use Rattle.shard_bytes.specs.Steps.Checking.{IsReport, IsUnloaded, IsUnreadable, AddsPart, AddsTable, FindsInTable, AddsSize, AddsDisorder, AddsDifferences, Compares, hashes_at, IsWritten, IsWrittenTable};
+ghost use Rattle.shard_bytes.specs.Checking.{IsWhole, IsIntact, IsFinding, IsNote, IsOutOfOrder, IsReadAs, IsSamePart, HoldsSomeShard};
+ghost use Rattle.shard_bytes.specs.Steps.Checking.{IsReport, IsUnloaded, IsUnreadable, AddsPart, AddsTable, FindsInTable, AddsSize, AddsDisorder, AddsDifferences, Compares, IsWritten, IsWrittenTable};
 
 mod malformed;
 mod reordered;
@@ -21,18 +21,18 @@ mod reordered;
 use crate::format::{Format, unsupported_for};
 use crate::load::load_bytes;
 use malformed::push_malformed;
+use placed_shards::placed_file::PlacedFile;
+use placed_shards::placed_record::PlacedRecord;
+use placed_shards::placed_shard::PlacedShard;
+use placed_shards::placed_xorb::PlacedXorb;
+use placed_shards::section::read_section;
 use reordered::is_reordered;
 use std::alloc::Global;
 use std::cmp::Ordering;
 use xet_core_structures::error::{CoreError, Result};
-use xet_core_structures::file_structs::MDBFileInfo;
-use xet_core_structures::record_reader::{FormatVersion, SectionRecord};
+use xet_core_structures::record_reader::FormatVersion;
 use xet_core_structures::shard_format::{HEADER_SIZE, MDBShardFileFooter, MDBShardInfo};
-use xet_core_structures::shard_writer::{
-    LayoutOptions, PlacedRecord, StoredSection, StoredShard, bytes_from, end_of_section,
-    read_stored_section, write_again,
-};
-use xet_core_structures::xorb_structs::MDBXorbInfo;
+use xet_core_structures::shard_writer::{LayoutOptions, bytes_from};
 
 /// One of the two sections of a shard.
 #[derive(Clone, Copy, Debug, PartialEq, Eq)]
@@ -140,22 +140,28 @@ fn check_sections(alloc: Global, bytes: &[u8], info: &MDBShardInfo) -> Result<Ve
 {
     let version = FormatVersion::of_header(info.header.version);
     let from_files = bytes_from(bytes, HEADER_SIZE);
-    let files = match read_stored_section::<MDBFileInfo>(alloc, from_files, version) {
+    let files = match read_section::<PlacedFile<'_>>(alloc, from_files, version) {
         Ok(files) => files,
         Err(error) => return section_findings(alloc, Section::Files, error),
     };
     // The xorb section comes next, whatever the footer says.
-    let from_xorbs = bytes_from(from_files, end_of_section(&files));
-    let xorbs = match read_stored_section::<MDBXorbInfo>(alloc, from_xorbs, FormatVersion::V3) {
+    let xorbs = match read_section::<PlacedXorb<'_>>(alloc, files.rest, FormatVersion::V3) {
         Ok(xorbs) => xorbs,
         Err(error) => return section_findings(alloc, Section::Xorbs, error),
     };
-    let shard = StoredShard { files, xorbs };
+    let shard = PlacedShard {
+        options: LayoutOptions::of_info(info),
+        as_read: false,
+        files: files.records,
+        xorbs: xorbs.records,
+    };
+    let files = shard.files.as_slice();
+    let xorbs = shard.xorbs.as_slice();
     let mut findings = Vec::new(alloc);
-    push_disorder::<MDBFileInfo>(&mut findings, Section::Files, &shard.files)?;
-    push_disorder::<MDBXorbInfo>(&mut findings, Section::Xorbs, &shard.xorbs)?;
-    push_malformed::<MDBFileInfo>(&mut findings, Section::Files, &shard.files)?;
-    push_malformed::<MDBXorbInfo>(&mut findings, Section::Xorbs, &shard.xorbs)?;
+    push_disorder(&mut findings, Section::Files, files)?;
+    push_disorder(&mut findings, Section::Xorbs, xorbs)?;
+    push_malformed(&mut findings, Section::Files, files)?;
+    push_malformed(&mut findings, Section::Xorbs, xorbs)?;
     push_differences(alloc, &mut findings, bytes, info, &shard)?;
     Ok(findings)
 }
@@ -182,29 +188,29 @@ fn single_finding(alloc: Global, finding: Finding) -> Result<Vec<Finding>>
 }
 
 // Adds the first record that is out of order, if there is one.
-fn push_disorder<R: SectionRecord>(
+fn push_disorder<'a, P: PlacedRecord<'a>>(
     findings: &mut Vec<Finding>,
     section: Section,
-    stored: &StoredSection<'_, R::Header>,
+    records: &[P],
 ) -> Result<()>
     ensures added { OnOk result
-        (AddsDisorder section (hashes_at R.kind stored.now) findings.old.items findings.new.items) }
+        (AddsDisorder section (map (hash_in P.kind) records.now) findings.old.items
+        findings.new.items) }
     ensures causes { IfErr result (λ e. e ≡ CoreError.OutOfMemory) }
 {
-    if let Some(index) = first_out_of_order::<R>(stored.records.as_slice()) {
+    if let Some(index) = first_out_of_order(records) {
         findings.push(Finding::OutOfOrder(section, index))?;
     }
     Ok(())
 }
 
 // The index of the first record whose hash is not greater than that of the record before it.
-fn first_out_of_order<R: SectionRecord>(records: &[PlacedRecord<'_, R::Header>]) -> Option<usize>
-    ensures { MatchOption result
-        (IsStrictlySortedBy hash_cmp (map (λ p. R.kind.hash_of p.header) records.now))
-        (λ index. IsOutOfOrder index (map (λ p. R.kind.hash_of p.header) records.now)) }
+fn first_out_of_order<'a, P: PlacedRecord<'a>>(records: &[P]) -> Option<usize>
+    ensures { MatchOption result (IsStrictlySortedBy hash_cmp (map (hash_in P.kind) records.now))
+        (λ index. IsOutOfOrder index (map (hash_in P.kind) records.now)) }
 {
     for index in 1..records.len() {
-        if !ascend::<R>(&records[index - 1], &records[index]) {
+        if !ascend(&records[index - 1], &records[index]) {
             return Some(index);
         }
     }
@@ -212,14 +218,11 @@ fn first_out_of_order<R: SectionRecord>(records: &[PlacedRecord<'_, R::Header>])
 }
 
 // Whether the second record's hash is greater than that of the first.
-fn ascend<R: SectionRecord>(
-    first: &PlacedRecord<'_, R::Header>,
-    second: &PlacedRecord<'_, R::Header>,
-) -> bool
+fn ascend<'a, P: PlacedRecord<'a>>(first: &P, second: &P) -> bool
     ensures { IsTrue result
-        ↔ (hash_cmp (R.kind.hash_of first.now.header) (R.kind.hash_of second.now.header) ≡ Less) }
+        ↔ (hash_cmp (hash_in P.kind first.now) (hash_in P.kind second.now) ≡ Less) }
 {
-    R::hash(&first.header).cmp(&R::hash(&second.header)) == Ordering::Less
+    first.hash().cmp(&second.hash()) == Ordering::Less
 }
 
 // Adds what differs from the shard of the same records as the library writes it.
@@ -228,18 +231,23 @@ fn push_differences(
     findings: &mut Vec<Finding>,
     bytes: &[u8],
     info: &MDBShardInfo,
-    shard: &StoredShard<'_>,
+    shard: &PlacedShard<'_>,
 ) -> Result<()>
-    requires { (files : List MDBFileInfo) × (xorbs : List MDBXorbInfo)
-        × StoresSections shard.now.files shard.now.xorbs files xorbs }
-    ensures added { OnOk result ((files : List MDBFileInfo) → (xorbs : List MDBXorbInfo)
-        → StoresSections shard.now.files shard.now.xorbs files xorbs
-        → AddsDifferences bytes.now info.now files xorbs findings.old.items findings.new.items) }
+    requires read { IsReadAs bytes.now info.now shard.now.files.items shard.now.xorbs.items }
+    requires made { content shard.now ≡ record {
+      files = shard.now.files.items;
+      xorbs = shard.now.xorbs.items;
+      options = options_of info.now;
+    } }
+    ensures added { OnOk result
+        (AddsDifferences bytes.now info.now shard.now.files.items shard.now.xorbs.items
+        findings.old.items findings.new.items) }
     ensures causes { IfErr result (λ e. e ≡ CoreError.OutOfMemory) }
 {
-    let options = LayoutOptions::of_info(info);
-    let (written, footer) = write_again(alloc, shard, &options)?;
-    compare(alloc, findings, bytes, info, written.as_slice(), &footer)
+    let written = shard.to_bytes(alloc, shard.options.version)?;
+    let written = written.as_slice();
+    let footer = load_bytes(alloc, written)?.metadata;
+    compare(alloc, findings, bytes, info, written, &footer)
 }
 
 // Adds each part that differs from the one that was written, which has this footer, and the size.

@@ -1,5 +1,5 @@
 -- Steps towards what `Checking` defines, which only contracts inside the crate speak of.
-use Rattle.std.specs.Prelude.{◌≡◌, ◌≢◌, ◌⊎◌, ℕ, ◌<◌, ◌≤◌, List, [], ◌∷◌, ◌++◌, length, map, flat_map, All, Contains, Option, MatchOption}
+use Rattle.std.specs.Prelude.{◌≡◌, ◌≢◌, ◌⊎◌, ℕ, ◌<◌, List, [], ◌∷◌, ◌++◌, length, flat_map, All, Contains, Option, MatchOption}
 use Rattle.std.specs.List.Sorted.{IsPermutation, IsSortedBy, IsStrictlySortedBy}
 use Rattle.std.specs.Ordering.{is_lt}
 use Rattle.xet_core_structures.specs.declared.error.CoreError.{CoreError}
@@ -15,11 +15,8 @@ use Rattle.xet_core_structures.specs.Hash.{hash_cmp}
 use Rattle.xet_core_structures.specs.Layout.{footer_value, layout_of}
 use Rattle.xet_core_structures.specs.WithOptions.{FitsSection}
 use Rattle.xet_core_structures.specs.XorbRecord.{xorb_records}
-use Rattle.xet_records.specs.Limits.{MAX_ROWS}
-use Rattle.xet_records.specs.RecordKind.{RecordKind}
 use Rattle.xet_shards.specs.declared.shard_writer.LayoutOptions.{LayoutOptions}
-use Rattle.xet_shards.specs.Read.SectionsBehindHeader.{options_of}
-use Rattle.xet_shards.specs.declared.shard_writer.StoredSection.{StoredSection}
+use Rattle.xet_shards.specs.Export.Rewriting.{options_of}
 use Rattle.xet_shards.specs.Read.TableReading.{FitsTriple, triple_of}
 use Rattle.xet_shards.specs.declared.shard_writer.ChunkTableRow.{ChunkTableRow}
 use Rattle.xet_shards.specs.Write.Tables.{chunk_table_bytes, chunk_table_row_bytes, chunk_table_row_cmp}
@@ -71,18 +68,6 @@ abbrev pub AddsDisorder : Section → List DataHash → List Finding → List Fi
 AddsDisorder section hashes =
     AddsFaults (IsStrictlySortedBy hash_cmp hashes)
     (λ f. (n : ℕ) × (f ≡ OutOfOrder section n) × IsOutOfOrder n hashes)
-
--- the hashes of the records of a section in memory
-abbrev pub hashes_at : {H R : Type 0} → RecordKind H R → StoredSection H → List DataHash
-hashes_at K section = map (λ p. K.hash_of p.header) section.records.items
-
--- a record of a section has this header, and these are the bytes of the rows after it
-pub record HasRows {H R : Type 0} (K : RecordKind H R) (header : H) (rows : List ℕ) (r : R)
-    : Type 0 where
-  pub is_stored : K.IsStored r
-  pub few : K.row_count r ≤ MAX_ROWS
-  pub header_is : header ≡ K.header_of r
-  pub rows_are : rows ≡ K.bytes_after r
 
 -- each record that no shard may have was added
 abbrev pub AddsMalformed : {R : Type 0} → Section → (R → Type 0) → List R → List Finding

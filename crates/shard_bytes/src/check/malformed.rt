@@ -9,71 +9,58 @@ ghost use Rattle.xet_core_structures.specs.FileRecord.{IsWellFormed};
 ghost use Rattle.xet_core_structures.specs.XorbRecord.{IsXorb};
 ghost use Rattle.xet_records.specs.declared.file_structs.rows.HashRow.{HashRow};
 ghost use Rattle.xet_records.specs.FileRow.{FitsHashRow, hash_row};
-ghost use Rattle.xet_shards.specs.Steps.FileStore.{AreClear};
 ghost use Rattle.xet_records.specs.Limits.{MAX_ROWS};
-ghost use Rattle.xet_shards.specs.Read.StoredSection.{StoresRecord, StoresSection};
-ghost use Rattle.shard_bytes.specs.Steps.Checking.{AddsMalformed, HasRows};
+ghost use Rattle.xet_shards.specs.Steps.FileStore.{AreClear};
+ghost use Rattle.xet_shards.specs.Write.Section.{total_rows};
+ghost use Rattle.shard_bytes.specs.Steps.Checking.{AddsMalformed};
 
 use super::{Finding, Section, push_unless};
+use placed_shards::placed_file::PlacedFile;
+use placed_shards::placed_record::PlacedRecord;
+use placed_shards::placed_xorb::PlacedXorb;
 use placed_shards::well_formed::have_few_bytes;
 use xet_core_structures::error::Result;
 use xet_core_structures::fields::{split_hash, split_u64};
-use xet_core_structures::file_structs::{FileDataSequenceHeader, MDBFileInfo};
-use xet_core_structures::record_reader::SectionRecord;
 use xet_core_structures::rows::ROW_SIZE;
-use xet_core_structures::shard_writer::{PlacedRecord, StoredSection};
-use xet_core_structures::xorb_structs::{MDBXorbInfo, XorbChunkSequenceHeader};
 
-/// A record that is judged by its header and the bytes of the rows after it.
-pub(super) trait Judged: SectionRecord {
+/// A record that is judged as it is stored.
+pub(super) trait Judged<'a>: PlacedRecord<'a> {
     ghost formed: { Self → Type 0 };
 
     /// Whether a shard may have the record.
-    fn is_formed(header: &Self::Header, rows: &[u8]) -> bool
-        requires { (r : Self) × HasRows Self.kind header.now rows.now r }
-        ensures { (r : Self) → HasRows Self.kind header.now rows.now r
-            → IsTrue result ↔ formed r };
+    fn is_formed(&self) -> bool
+        requires { Self.kind.row_count self.now ≤ MAX_ROWS }
+        ensures { IsTrue result ↔ formed self.now };
 }
 
 /// Adds each record of a section that no shard may have.
-pub(super) fn push_malformed<R: Judged>(
+pub(super) fn push_malformed<'a, P: Judged<'a>>(
     findings: &mut Vec<Finding>,
     section: Section,
-    stored: &StoredSection<'_, R::Header>,
+    records: &[P],
 ) -> Result<()>
-    requires { (rs : List R) × StoresSection R.kind stored.now rs }
-    ensures added { OnOk result ((rs : List R) → StoresSection R.kind stored.now rs
-        → AddsMalformed section R.formed rs findings.old.items findings.new.items) }
+    requires { total_rows P.kind records.now ≤ MAX_ROWS }
+    ensures added { OnOk result
+        (AddsMalformed section P.formed records.now findings.old.items findings.new.items) }
     ensures causes { IfErr result (λ e. e ≡ CoreError.OutOfMemory) }
 {
-    let records = stored.records.as_slice();
     for index in 0..records.len() {
-        let formed = is_formed_at::<R>(&records[index]);
+        let formed = records[index].is_formed();
         push_unless(findings, formed, Finding::Malformed(section, index))?;
     }
     Ok(())
 }
 
-// Whether a shard may have the record at a place.
-fn is_formed_at<R: Judged>(placed: &PlacedRecord<'_, R::Header>) -> bool
-    requires { (r : R) × StoresRecord R.kind placed.now r × (R.kind.row_count r ≤ MAX_ROWS) }
-    ensures { (r : R) → StoresRecord R.kind placed.now r → R.kind.row_count r ≤ MAX_ROWS
-        → IsTrue result ↔ R.formed r }
-{
-    R::laws();
-    let size = ROW_SIZE * R::rows_after(&placed.header) as usize;
-    R::is_formed(&placed.header, &placed.rows[..size])
-}
-
-impl Judged for MDBFileInfo {
+impl<'a> Judged<'a> for PlacedFile<'a> {
     ghost formed = { IsWellFormed };
 
-    fn is_formed(header: &FileDataSequenceHeader, rows: &[u8]) -> bool {
-        if !header.is_plain() {
-            return false;
-        }
-        let (_segments, optional) = rows.split_at(ROW_SIZE * header.num_entries as usize);
-        are_clear(optional)
+    fn is_formed(&self) -> bool {
+        self.is_stored();
+        let header = self.header();
+        let (_fixed, optional) = self
+            .bytes()
+            .split_at(ROW_SIZE * (1 + header.num_entries as usize));
+        header.is_plain() && are_clear(optional)
     }
 }
 
@@ -112,10 +99,12 @@ fn are_zero(first: u64, second: u64) -> bool
     first == 0 && second == 0
 }
 
-impl Judged for MDBXorbInfo {
+impl<'a> Judged<'a> for PlacedXorb<'a> {
     ghost formed = { IsXorb };
 
-    fn is_formed(_header: &XorbChunkSequenceHeader, rows: &[u8]) -> bool {
-        have_few_bytes(rows)
+    fn is_formed(&self) -> bool {
+        self.is_stored();
+        let (_header, chunks) = self.bytes().split_at(ROW_SIZE);
+        have_few_bytes(chunks)
     }
 }
