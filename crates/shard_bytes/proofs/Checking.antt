@@ -26,7 +26,7 @@ use Rattle.xet_core_structures.specs.SectionReading.SectionCase.{not_read, passe
 use Rattle.xet_core_structures.specs.Source.ReadCase.{out_of_memory, out_of_bytes}
 use Rattle.xet_core_structures.specs.TwoShards.ByteResults.{LoadRefusal}
 use Rattle.xet_core_structures.specs.XorbRecord.{IsXorb, xorb_records}
-use Rattle.xet_shards.specs.Export.Rewriting.{options_of}
+use Rattle.xet_shards.specs.Read.SectionsBehindHeader.{options_of}
 use Rattle.xet_shards.specs.Write.Tables.{hash_in}
 use Rattle.xet_core_structures.specs.KeyedHash.{no_key}
 use Rattle.xet_shards.proofs.Ends.EndsUnique.{only_info, not_unsupported, not_too_short}

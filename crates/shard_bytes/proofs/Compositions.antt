@@ -25,11 +25,8 @@ use Rattle.placed_shards.specs.Content.{Content, content, HasFilesIn, content_la
 use Rattle.shard_bytes.specs.declared.export.Export.{Export}
 use Rattle.shard_bytes.specs.Exporting.{ExportsBytes, IsExportOf, exported_content, options_of_export}
 use Rattle.shard_bytes.specs.Sizes.{IsRewriteSize}
-use Rattle.shard_bytes.specs.Steps.Versions.{IsLayoutWith}
-use Rattle.shard_bytes.specs.Steps.Versions.{has_new_files}
-use Rattle.shard_bytes.specs.Versions.{have_aux_rows, AreBytesIn3, LaidOutIn, NotLaidOutIn, IsWrittenIn, NotWrittenIn, IsInVersion}
+use Rattle.shard_bytes.specs.Versions.{AreMadeIn3, LaidOutIn, NotLaidOutIn, IsWrittenIn, NotWrittenIn, IsInVersion}
 use Rattle.shard_bytes.proofs.ExportedShards.{export_in_3}
-use Rattle.shard_bytes.proofs.InVersions.{laid_out, not_laid_out, not_laid_out_for}
 use Rattle.shard_bytes.proofs.RewriteSizes.{size_of_version}
 
 -- what is written of a shard in a version, and why nothing is
@@ -39,30 +36,31 @@ IsWritten version made out = HasFilesIn version made × (out ≡ content_layout 
 abbrev pub IsNotWritten : FormatVersion → Content → CoreError → Type 0
 IsNotWritten version made e = (e ≡ OutOfMemory) ⊎ ((e ≡ InvalidArguments) × (¬ HasFilesIn version made))
 
-layout_with : (version : FormatVersion) (made : Content) (out : List ℕ) → IsWritten version made out → IsLayoutWith version made.files made.xorbs made.options out
-layout_with V2 made out (has, is) = (has, is)
-layout_with V3 made out (has, is) = (refl, is)
+-- what is made, in a version
+module _ (version : FormatVersion) (IsMade : Content → Type 0) (made : Content) (is_made : IsMade made) where
+  pub written_of : (out : List ℕ) → IsWritten version made out → IsWrittenIn version IsMade out
+  written_of out (has, is) = (made, is_made, has, is)
 
-too_new : (version : FormatVersion) (made : Content) → ¬ HasFilesIn version made → has_new_files version made.files ≡ true
-too_new V2 made none = either (have_aux_rows made.files) none
-  where
-    either : (b : Bool) → ¬ (b ≡ false) → b ≡ true
-    either true none = refl
-    either false none = absurd (none refl)
-too_new V3 made none = absurd (none tt)
+  pub not_written_of : (Refuses : CoreError → Type 0) → Refuses OutOfMemory → (e : CoreError) → IsNotWritten version made e → NotWrittenIn version IsMade Refuses e
+  not_written_of Refuses memory e (inl is) = inl (subst Refuses (sym is) memory)
+  not_written_of Refuses memory e (inr (invalid, none)) = inr (invalid, (made, is_made, none))
 
 -- in a version, of a shard whose layout in version 3 a call makes
 module _ (Makes : List ℕ → Type 0) (Refuses : CoreError → Type 0) (version : FormatVersion) (made : Content) (makes : Makes (content_layout V3 made)) (fit : FitsSection file_records made.files) where
-  in_3 : AreBytesIn3 made.files made.xorbs made.options (content_layout V3 made)
-  in_3 = record { fit = fit; bytes_are = refl }
-
   pub made_in : (out : List ℕ) → IsWritten version made out → LaidOutIn version Makes out
-  made_in out is = laid_out Makes Refuses (content_layout V3 made) makes made.files made.xorbs made.options in_3 version out (layout_with version made out is)
+  made_in out = of version
+    where
+      of : (v : FormatVersion) → IsWritten v made out → LaidOutIn v Makes out
+      of V2 is = written_of V2 (AreMadeIn3 Makes) made (makes, fit) out is
+      of V3 (has, is) = subst Makes (sym is) makes
 
   pub refused_in : Refuses OutOfMemory → (e : CoreError) → IsNotWritten version made e → NotLaidOutIn version Makes Refuses e
-  refused_in memory e (inl is) = not_laid_out_for Makes Refuses version e (subst Refuses (sym is) memory)
-  refused_in memory e (inr (invalid, none)) =
-      not_laid_out Makes Refuses (content_layout V3 made) makes made.files made.xorbs made.options in_3 version e (invalid, too_new version made none)
+  refused_in memory e = of version
+    where
+      of : (v : FormatVersion) → IsNotWritten v made e → NotLaidOutIn v Makes Refuses e
+      of V2 why = not_written_of V2 (AreMadeIn3 Makes) made (makes, fit) Refuses memory e why
+      of V3 (inl is) = subst Refuses (sym is) memory
+      of V3 (inr (invalid, none)) = absurd (none tt)
 
 -- a result, outcome by outcome
 pub both_outcomes : {T E : Type 0} (r : Result T E) (P Q : T → Type 0) (R S : E → Type 0) → ((v : T) → P v → Q v) → ((e : E) → R e → S e) → MatchResult r P R → MatchResult r Q S
@@ -142,16 +140,7 @@ module _ (x : Export) (bytes : List ℕ) (made : Content) (is : IsExportOf x byt
   exports_made = subst (λ c. ExportsBytes x bytes (content_layout V3 c)) (sym is.made_is) exports
 
   pub export_fits : FitsSection file_records made.files
-  export_fits = subst (λ (c : Content). FitsSection file_records c.files) (sym is.made_is) (export_in_3 x bytes (content_layout V3 (exported_content x is.files is.xorbs)) exports).fit
-
--- what is made, in a version
-module _ (version : FormatVersion) (IsMade : Content → Type 0) (made : Content) (is_made : IsMade made) where
-  pub written_of : (out : List ℕ) → IsWritten version made out → IsWrittenIn version IsMade out
-  written_of out (has, is) = (made, is_made, has, is)
-
-  pub not_written_of : (Refuses : CoreError → Type 0) → Refuses OutOfMemory → (e : CoreError) → IsNotWritten version made e → NotWrittenIn version IsMade Refuses e
-  not_written_of Refuses memory e (inl is) = inl (subst Refuses (sym is) memory)
-  not_written_of Refuses memory e (inr (invalid, none)) = inr (invalid, (made, is_made, none))
+  export_fits = subst (λ (c : Content). FitsSection file_records c.files) (sym is.made_is) (export_in_3 x bytes (content_layout V3 (exported_content x is.files is.xorbs)) exports)
 
 -- how large the same shard in a version is
 pub size_in_version : (version : FormatVersion) (bytes out : List ℕ) → IsInVersion version bytes out → IsRewriteSize bytes (length out)

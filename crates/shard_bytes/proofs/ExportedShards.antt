@@ -51,7 +51,6 @@ use Rattle.xet_shards.proofs.Write.Sections.{fits_ever}
 use Rattle.shard_bytes.specs.declared.export.Export.{Export}
 use Rattle.shard_bytes.specs.Exporting.{ExportsBytes, FollowsHeader, HoldsExport, RefusesExport, exported_shard, shard_with_files_if}
 use Rattle.shard_bytes.specs.Sizes.{IsRewriteSize}
-use Rattle.shard_bytes.specs.Versions.{AreBytesIn3}
 use Rattle.shard_bytes.proofs.Checking.{header_in}
 use Rattle.shard_bytes.proofs.Walks.{not_refused}
 use Rattle.shard_bytes.proofs.RewriteSizes.{size_of_export}
@@ -215,7 +214,7 @@ follows_by_footer s bytes has files_at xorbs_at = record {
   xorbs = subst (λ n. IsSectionOf xorb_records (drop n bytes) s.xorbs) xorbs_at has.holds.xorbs;
 }
 
--- the bytes of an export are a layout in version 3
+-- the files of an export, and its size
 module _ (x : Export) (bytes out : List ℕ) (e : ExportsBytes x bytes out) where
   abbrev pub files_out : List MDBFileInfo
   files_out = if_included x.parts.files (all_with_aux_if x.parts.aux_ext e.files)
@@ -226,11 +225,11 @@ module _ (x : Export) (bytes out : List ℕ) (e : ExportsBytes x bytes out) wher
   abbrev pub options_out : LayoutOptions
   options_out = export_options x.key x.now x.valid_seconds x.parts.files x.parts.xorb_table x.parts.chunk_table
 
-  pub export_in_3 : AreBytesIn3 files_out xorbs_out options_out out
+  pub export_in_3 : FitsSection file_records files_out
   export_in_3 =
       let read = fits_ever file_records e.header.version e.files (record { stored = e.file_section.records.are_stored; rows = e.file_section.records.rows }) in
       let fit = included_fits x.parts.files (all_with_aux_if x.parts.aux_ext e.files) (section-with_aux_if x.parts.aux_ext e.files read) in
-      record { fit = record { stored = fit.stored; rows = fit.rows }; bytes_are = e.written }
+      record { stored = fit.stored; rows = fit.rows }
 
   pub export_size : IsRewriteSize bytes (length out)
   export_size =

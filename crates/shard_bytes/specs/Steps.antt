@@ -1,5 +1,4 @@
 -- Words that only contracts inside the crate and proofs speak of.
 
 pub mod Checking
-pub mod Versions
 pub mod Walking

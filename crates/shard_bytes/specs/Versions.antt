@@ -1,6 +1,5 @@
 -- What is made in a version of the format, and a shard's bytes in a version, from those in either.
-use Rattle.std.specs.Prelude.{◌≡◌, ◌⊎◌, ℕ, Bool, true, false, List}
-use Rattle.std.specs.List.{list_any}
+use Rattle.std.specs.Prelude.{◌≡◌, ◌⊎◌, ℕ, List}
 use Rattle.xet_core_structures.specs.declared.error.CoreError.{CoreError}
 use Rattle.xet_core_structures.specs.declared.error.CoreError.TheVariants.{InvalidArguments}
 use Rattle.xet_core_structures.specs.declared.file_structs.MDBFileInfo.{MDBFileInfo}
@@ -8,21 +7,15 @@ use Rattle.xet_core_structures.specs.declared.xorb_structs.MDBXorbInfo.{MDBXorbI
 use Rattle.xet_core_structures.specs.declared.shard_format.MDBShardInfo.{MDBShardInfo}
 use Rattle.xet_core_structures.specs.TwoShards.ByteResults.{LoadRefusal}
 use Rattle.xet_core_structures.specs.Ends.{HasHeaderAndFooter}
-use Rattle.xet_core_structures.specs.FileRecord.{file_records, has_aux_ext}
+use Rattle.xet_core_structures.specs.FileRecord.{file_records}
 use Rattle.xet_core_structures.specs.KeyedExport.{ExportCase}
-use Rattle.xet_core_structures.specs.Layout.{layout_of}
 use Rattle.xet_core_structures.specs.WithOptions.{FitsSection}
 use Rattle.xet_records.specs.declared.record_reader.FormatVersion.{FormatVersion}
 use Rattle.xet_records.specs.declared.record_reader.FormatVersion.TheVariants.{V2, V3}
-use Rattle.xet_shards.specs.declared.shard_writer.LayoutOptions.{LayoutOptions}
 use Rattle.xet_shards.specs.Read.SectionsBehindHeader.{options_of}
 use Rattle.placed_shards.specs.Content.{Content, HasFilesIn, content_layout}
 use Rattle.shard_bytes.specs.Checking.{IsReadAs}
 use Rattle.shard_bytes.specs.Outcomes.{InMemory}
-
--- whether one of the files has an auxiliary row
-abbrev pub have_aux_rows : List MDBFileInfo → Bool
-have_aux_rows files = list_any (λ r. has_aux_ext r.metadata.file_flags) files
 
 -- what is made is written in a version, which has its files, as these bytes
 abbrev pub IsWrittenIn : FormatVersion → (Content → Type 0) → List ℕ → Type 0
@@ -63,41 +56,19 @@ abbrev pub RefusesVersion : FormatVersion → List ℕ → CoreError → Type 0
 RefusesVersion version bytes =
     NotWrittenIn version (IsSameShard bytes) (RefusesSameShard bytes)
 
--- the bytes are those of files and xorbs in version 3, and a file section may hold the files
-pub record AreBytesIn3 (files : List MDBFileInfo) (xorbs : List MDBXorbInfo) (options : LayoutOptions)
-    (bytes : List ℕ) : Type 0 where
-  pub fit : FitsSection file_records files
-  pub bytes_are : bytes ≡ layout_of files xorbs (record options { version = V3 })
-
--- the bytes are those of records in version 3, and the others those of the same records in version
--- 2, which has the files
-pub record HaveSameRecords (bytes out : List ℕ) : Type 0 where
-  pub files : List MDBFileInfo
-  pub xorbs : List MDBXorbInfo
-  pub options : LayoutOptions
-  pub in_3 : AreBytesIn3 files xorbs options bytes
-  pub none : have_aux_rows files ≡ false
-  pub in_2 : out ≡ layout_of files xorbs (record options { version = V2 })
-
--- the bytes are those of records in version 3, and a file has an auxiliary row
-pub record HaveNewFiles (bytes : List ℕ) : Type 0 where
-  pub files : List MDBFileInfo
-  pub xorbs : List MDBXorbInfo
-  pub options : LayoutOptions
-  pub in_3 : AreBytesIn3 files xorbs options bytes
-  pub some : have_aux_rows files ≡ true
+-- these are the records of bytes in version 3 that a call makes, and a file section may hold the files
+abbrev pub AreMadeIn3 : (List ℕ → Type 0) → Content → Type 0
+AreMadeIn3 Makes made = Makes (content_layout V3 made) × FitsSection file_records made.files
 
 -- what is made in a version by a call that lays out records in any order, with any tables: its
 -- bytes in version 3, those of the same records in version 2
 abbrev pub LaidOutIn : FormatVersion → (List ℕ → Type 0) → List ℕ → Type 0
 LaidOutIn V3 Makes out = Makes out
-LaidOutIn V2 Makes out = (bytes : List ℕ) × Makes bytes × HaveSameRecords bytes out
+LaidOutIn V2 Makes out = IsWrittenIn V2 (AreMadeIn3 Makes) out
 
 -- why such a call makes nothing in a version: for a cause that is none of versions, or the version
 -- does not have the files of what would be made
 abbrev pub NotLaidOutIn : FormatVersion → (List ℕ → Type 0) → (CoreError → Type 0) → CoreError
     → Type 0
 NotLaidOutIn V3 Makes Refuses e = Refuses e
-NotLaidOutIn V2 Makes Refuses e =
-    Refuses e
-    ⊎ ((e ≡ InvalidArguments) × ((bytes : List ℕ) × Makes bytes × HaveNewFiles bytes))
+NotLaidOutIn V2 Makes Refuses e = NotWrittenIn V2 (AreMadeIn3 Makes) Refuses e

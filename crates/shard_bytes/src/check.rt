@@ -8,7 +8,7 @@ ghost use Rattle.xet_core_structures.specs.declared.shard_format.MDBShardInfo.{M
 ghost use Rattle.xet_core_structures.specs.Ends.{HasHeaderAndFooter};
 ghost use Rattle.xet_core_structures.specs.TwoShards.ByteResults.{LoadRefusal};
 ghost use Rattle.xet_core_structures.specs.Hash.{hash_cmp};
-ghost use Rattle.xet_shards.specs.Export.Rewriting.{options_of};
+ghost use Rattle.xet_shards.specs.Read.SectionsBehindHeader.{options_of};
 ghost use Rattle.xet_shards.specs.Write.Tables.{hash_in};
 ghost use Rattle.placed_shards.specs.Content.{content};
 ghost use Rattle.shard_bytes.specs.declared.check.Finding.{Finding};

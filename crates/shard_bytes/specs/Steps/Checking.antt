@@ -16,7 +16,7 @@ use Rattle.xet_core_structures.specs.Layout.{footer_value, layout_of}
 use Rattle.xet_core_structures.specs.WithOptions.{FitsSection}
 use Rattle.xet_core_structures.specs.XorbRecord.{xorb_records}
 use Rattle.xet_shards.specs.declared.shard_writer.LayoutOptions.{LayoutOptions}
-use Rattle.xet_shards.specs.Export.Rewriting.{options_of}
+use Rattle.xet_shards.specs.Read.SectionsBehindHeader.{options_of}
 use Rattle.xet_shards.specs.Read.TableReading.{FitsTriple, triple_of}
 use Rattle.xet_shards.specs.declared.shard_writer.ChunkTableRow.{ChunkTableRow}
 use Rattle.xet_shards.specs.Write.Tables.{chunk_table_bytes, chunk_table_row_bytes, chunk_table_row_cmp}

@@ -4,7 +4,7 @@ use Rattle.xet_core_structures.specs.declared.error.CoreError.TheVariants.{Inval
 use Rattle.xet_core_structures.specs.Ends.{HasHeaderAndFooter}
 use Rattle.xet_core_structures.specs.Layout.{layout_of}
 use Rattle.xet_core_structures.specs.TwoShards.ByteResults.{LoadRefusal}
-use Rattle.xet_shards.specs.Export.Rewriting.{options_of}
+use Rattle.xet_shards.specs.Read.SectionsBehindHeader.{options_of}
 use Rattle.placed_shards.specs.Content.{Content, HasFilesIn, content_layout}
 use Rattle.shard_bytes.specs.Steps.Checking.{Compares}
 use Rattle.shard_bytes.proofs.Checking.{footer_read, never_refused, written_unless, xorbs_fit}
