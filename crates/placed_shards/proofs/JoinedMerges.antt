@@ -1,5 +1,5 @@
 -- The merge of byte strings that agree has the records of the join of the shards that they have.
-use Rattle.std.proofs.Common.{◌≡◌, inl, inr, ℕ, ◌<◌, List, [], ◌∷◌, length, map, get_or, Option, Some, sym, ap, ◌∙◌, subst, arith}
+use Rattle.std.proofs.Common.{◌≡◌, inl, inr, ℕ, ◌<◌, ◌≤◌, List, [], ◌∷◌, length, map, get_or, Option, Some, sym, ap, ◌∙◌, subst, arith}
 use Rattle.std.specs.Prelude.{All, Contains}
 use Rattle.std.specs.List.{AllZip}
 use Rattle.std.specs.FinMap.{entries}
@@ -7,6 +7,7 @@ use Rattle.std.proofs.lemmas.List.Elements.{All-contains, Contains-append_cases,
 use Rattle.xet_base.specs.declared.merklehash.DataHash.{DataHash}
 use Rattle.xet_base.proofs.HashOrder.{hash_cmp-IsTotalOrder, hash_cmp-IsAntisymmetric}
 use Rattle.xet_records.specs.FileRecord.{file_records, IsWellFormed}
+use Rattle.xet_records.specs.Limits.{MAX_ROWS}
 use Rattle.xet_records.specs.Merging.{Agree}
 use Rattle.xet_records.specs.RecordKind.{RecordKind}
 use Rattle.xet_records.specs.XorbRecord.{xorb_records, IsXorb}
@@ -28,6 +29,7 @@ use Rattle.placed_shards.specs.declared.selection.Selection.{Selection}
 use Rattle.placed_shards.specs.Agreement.{AgreeIfBoth, AreEqual}
 use Rattle.placed_shards.specs.Content.{Content, AscendBoth}
 use Rattle.placed_shards.specs.Findings.{AgreeInAll, AreOpened, HasFormedRecords}
+use Rattle.placed_shards.specs.Laws.{IsWellFormedShard}
 use Rattle.placed_shards.specs.Merging.{IsMergeOf, HoldsSelected, IsMergeOfList, shard_content}
 use Rattle.placed_shards.specs.Merging.IsMergeOf.{of_one, of_halves}
 use Rattle.placed_shards.specs.Selections.{OpensSelected}
@@ -38,7 +40,7 @@ use Rattle.placed_shards.proofs.Merges.{content_is, merge_found, shard_in}
 use Rattle.placed_shards.proofs.Selections.{IsSelected, opens_selected_once, selected}
 
 -- what holds of each record of a list holds of the entries of its map
-pub entries_of_list : {H R : Type 0} (K : RecordKind H R) (Is : R → Type 0) (rs : List R) → Ascends K rs → All Is rs → All (λ e. Is e.1) (entries (list_map K rs))
+entries_of_list : {H R : Type 0} (K : RecordKind H R) (Is : R → Type 0) (rs : List R) → Ascends K rs → All Is rs → All (λ e. Is e.1) (entries (list_map K rs))
 entries_of_list {R = R} K Is rs ascends all = λ k e below.
     let es : List (DataHash × R) = entries (list_map K rs) in
     let here : DataHash × R = get_or es k e in
@@ -60,21 +62,25 @@ keyed_entries {R = R} K rs ascends =
     all_of_map hash_cmp-IsTotalOrder hash_cmp-IsAntisymmetric (λ (e : DataHash × R). e.0 ≡ key_of_record K e.1) (list_map K rs)
     (λ q r at. sym (found_under K rs q r (sym (get-list_map K rs ascends q) ∙ at)).1)
 
+-- the records of a well-formed shard
+pub as_shard : (c : Content) → IsWellFormedShard c → IsShard (shard_in c)
+as_shard c well = record {
+  files = record {
+    keyed = keyed_entries file_records c.files well.ascend.files;
+    well_formed = entries_of_list file_records IsWellFormed c.files well.ascend.files well.formed.files;
+  };
+  file_rows = subst (λ rs. total_rows file_records rs ≤ MAX_ROWS) (sym (values-list_map file_records c.files well.ascend.files)) well.file_rows;
+  xorbs = record {
+    keyed = keyed_entries xorb_records c.xorbs well.ascend.xorbs;
+    well_formed = entries_of_list xorb_records IsXorb c.xorbs well.ascend.xorbs well.formed.xorbs;
+  };
+  xorb_rows = subst (λ rs. total_rows xorb_records rs ≤ MAX_ROWS) (sym (values-list_map xorb_records c.xorbs well.ascend.xorbs)) well.xorb_rows;
+}
+
 -- selected records that may be in a shard are those of one
 module _ (x : List ℕ) (c : Content) (is : IsSelected x c) where
   selected_shard : HasFormedRecords c → IsShard (shard_in c)
-  selected_shard formed = record {
-    files = record {
-      keyed = keyed_entries file_records c.files is.ascend.files;
-      well_formed = entries_of_list file_records IsWellFormed c.files is.ascend.files formed.files;
-    };
-    file_rows = omega (arith, ap (total_rows file_records) (values-list_map file_records c.files is.ascend.files), is.file_rows);
-    xorbs = record {
-      keyed = keyed_entries xorb_records c.xorbs is.ascend.xorbs;
-      well_formed = entries_of_list xorb_records IsXorb c.xorbs is.ascend.xorbs formed.xorbs;
-    };
-    xorb_rows = omega (arith, ap (total_rows xorb_records) (values-list_map xorb_records c.xorbs is.ascend.xorbs), is.xorb_rows);
-  }
+  selected_shard formed = as_shard c (record { ascend = is.ascend; formed = formed; file_rows = is.file_rows; xorb_rows = is.xorb_rows })
 
   selected_content : (key : DataHash) → c.options ≡ keyed_options key → c ≡ shard_content key (shard_in c)
   selected_content key options = λ i. record {

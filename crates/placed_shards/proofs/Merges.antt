@@ -71,6 +71,55 @@ records_of c = record { files = c.files; xorbs = c.xorbs }
 abbrev pub shard_in : Content → Shard
 shard_in c = shard_of (records_of c)
 
+-- the maps of the records of a union
+module _ (c d made : Content) (first : AscendBoth c) (second : AscendBoth d) (union : IsUnionOf c d made) where
+  pub made_ascends : AscendBoth made
+  made_ascends = record { files = union.files.combined.ascends; xorbs = union.xorbs.combined.ascends }
+
+  pub as_byte_union : IsByteUnion (shard_in c) (shard_in d) (shard_in made)
+  as_byte_union = record {
+    files = combined_maps file_records IsEitherFile c.files d.files made.files first.files second.files union.files.combined;
+    xorbs = combined_maps xorb_records IsEitherXorb c.xorbs d.xorbs made.xorbs first.xorbs second.xorbs union.xorbs.combined;
+  }
+
+pub few_rows : (c d made : Content) → IsUnionOf c d made → RowsFitU32 (shard_in made)
+few_rows c d made union = record {
+  files = subst (λ rs. total_rows file_records rs ≤ 4294967295) (sym (values-list_map file_records made.files union.files.combined.ascends)) union.files.rows;
+  xorbs = subst (λ rs. total_rows xorb_records rs ≤ 4294967295) (sym (values-list_map xorb_records made.xorbs union.xorbs.combined.ascends)) union.xorbs.rows;
+}
+
+-- two shards that agree have a union if its rows fit
+module _ (c d : Content) (whole : Shard) (first : AscendBoth c) (second : AscendBoth d) (c_is : IsShard (shard_in c)) (d_is : IsShard (shard_in d)) (agree : ShardsAgree (shard_in c) (shard_in d))
+    (union : IsUnion (shard_in c) (shard_in d) whole) (same : c.options.key ≡ d.options.key) where
+  pub has_union : RowsFitU32 whole → IsUnionOf c d (shard_content c.options.key whole)
+  has_union few =
+      let shard = union_is_shard (shard_in c) (shard_in d) whole c_is d_is agree union few in
+      let made = union_is_byte_union (shard_in c) (shard_in d) whole c_is d_is agree union in
+      record {
+        same_key = same;
+        files = record {
+          combined = record {
+            ascends = files_ascend whole shard;
+            each = λ q. subst (λ p. p)
+                (λ i. IsEitherFile (get-list_map file_records c.files first.files q i) (get-list_map file_records d.files second.files q i) (sym (values_under file_records whole.files shard.files.keyed q) i))
+                (made.files q);
+            stored = (files_fit whole shard).stored;
+          };
+          rows = few.files;
+        };
+        xorbs = record {
+          combined = record {
+            ascends = xorbs_ascend whole shard;
+            each = λ q. subst (λ p. p)
+                (λ i. IsEitherXorb (get-list_map xorb_records c.xorbs first.xorbs q i) (get-list_map xorb_records d.xorbs second.xorbs q i) (sym (values_under xorb_records whole.xorbs shard.xorbs.keyed q) i))
+                (made.xorbs q);
+            stored = (xorbs_fit whole shard).stored;
+          };
+          rows = few.xorbs;
+        };
+        options_are = refl;
+      }
+
 -- records whose hashes ascend, those of this shard, with all tables, a key, creation 0 and no expiry
 pub record IsContentOf (key : DataHash) (s : Shard) (c : Content) : Type 0 where
   pub shard : IsShard s
@@ -111,59 +160,23 @@ module _ (key : DataHash) where
   module _ (a b whole : Shard) (c d : Content) (first : IsContentOf key a c) (second : IsContentOf key b d) (agree : ShardsAgree a b) (union : IsUnion a b whole) where
     united_content : (made : Content) → IsUnionOf c d made → IsContentOf key whole made
     united_content made unites =
-        let bytes : IsByteUnion (shard_in c) (shard_in d) (shard_in made) = record {
-          files = combined_maps file_records IsEitherFile c.files d.files made.files first.ascend.files second.ascend.files unites.files.combined;
-          xorbs = combined_maps xorb_records IsEitherXorb c.xorbs d.xorbs made.xorbs first.ascend.xorbs second.ascend.xorbs unites.xorbs.combined;
-        } in
-        let moved = subst (λ p. p) (λ i. IsByteUnion (first.is i) (second.is i) (shard_in made)) bytes in
+        let moved = subst (λ p. p) (λ i. IsByteUnion (first.is i) (second.is i) (shard_in made)) (as_byte_union c d made first.ascend second.ascend unites) in
         let same = union_unique a b (shard_in made) whole (byte_union_is_union a b (shard_in made) first.shard second.shard agree moved) union in
-        let few : RowsFitU32 (shard_in made) = record {
-          files = subst (λ rs. total_rows file_records rs ≤ 4294967295) (sym (values-list_map file_records made.files unites.files.combined.ascends)) unites.files.rows;
-          xorbs = subst (λ rs. total_rows xorb_records rs ≤ 4294967295) (sym (values-list_map xorb_records made.xorbs unites.xorbs.combined.ascends)) unites.xorbs.rows;
-        } in
         record {
-          shard = union_is_shard a b whole first.shard second.shard agree union (subst RowsFitU32 same few);
-          ascend = record { files = unites.files.combined.ascends; xorbs = unites.xorbs.combined.ascends };
+          shard = union_is_shard a b whole first.shard second.shard agree union (subst RowsFitU32 same (few_rows c d made unites));
+          ascend = made_ascends c d made first.ascend second.ascend unites;
           is = same;
           options_are = unites.options_are ∙ ap (λ o. keyed_options o.key) first.options_are;
-        }
-
-    -- there is a union if the rows fit
-    file_under : (q : DataHash) (s : Shard) (u : Content) → IsContentOf key s u → with_hash file_records u.files q ≡ get s.files q
-    file_under q s u found = sym (get-list_map file_records u.files found.ascend.files q) ∙ ap (λ (t : Shard). get t.files q) found.is
-
-    xorb_under : (q : DataHash) (s : Shard) (u : Content) → IsContentOf key s u → with_hash xorb_records u.xorbs q ≡ get s.xorbs q
-    xorb_under q s u found = sym (get-list_map xorb_records u.xorbs found.ascend.xorbs q) ∙ ap (λ (t : Shard). get t.xorbs q) found.is
-
-    has_union : RowsFitU32 whole → IsUnionOf c d (record (shard_content key whole) { options = keyed_options c.options.key })
-    has_union few =
-        let shard = union_is_shard a b whole first.shard second.shard agree union few in
-        let made = union_is_byte_union a b whole first.shard second.shard agree union in
-        record {
-          same_key = ap (λ o. o.key) first.options_are ∙ sym (ap (λ o. o.key) second.options_are);
-          files = record {
-            combined = record {
-              ascends = files_ascend whole shard;
-              each = λ q. subst (λ p. p) (λ i. IsEitherFile (sym (file_under q a c first) i) (sym (file_under q b d second) i) (sym (values_under file_records whole.files shard.files.keyed q) i)) (made.files q);
-              stored = (files_fit whole shard).stored;
-            };
-            rows = few.files;
-          };
-          xorbs = record {
-            combined = record {
-              ascends = xorbs_ascend whole shard;
-              each = λ q. subst (λ p. p) (λ i. IsEitherXorb (sym (xorb_under q a c first) i) (sym (xorb_under q b d second) i) (sym (values_under xorb_records whole.xorbs shard.xorbs.keyed q) i)) (made.xorbs q);
-              stored = (xorbs_fit whole shard).stored;
-            };
-            rows = few.xorbs;
-          };
-          options_are = refl;
         }
 
     united_refused : (e : CoreError) → UnionRefusal c d e → MergeRefused whole e
     united_refused e (inl none) = inl none
     united_refused e (inr (inl (invalid, differ))) = absurd (differ (ap (λ o. o.key) first.options_are ∙ sym (ap (λ o. o.key) second.options_are)))
-    united_refused e (inr (inr (invalid, same, never))) = inr (invalid, λ few. never _ (has_union few))
+    united_refused e (inr (inr (invalid, same, never))) = inr (
+      invalid,
+      λ few. never _ (has_union c d whole first.ascend second.ascend (subst IsShard (sym first.is) first.shard) (subst IsShard (sym second.is) second.shard)
+          (subst (λ p. p) (λ i. ShardsAgree (sym first.is i) (sym second.is i)) agree) (subst (λ p. p) (λ i. IsUnion (sym first.is i) (sym second.is i) whole) union) same few),
+    )
 
   -- lists of shards, each two of which agree
   module _ (selection : Selection) where

@@ -1,74 +1,31 @@
 -- Shards that agree have the same union in any order.
-use Rattle.std.proofs.Common.{◌≡◌, ◌≤◌, Bool, true, false, List, [], ◌∷◌, Some, refl, sym, ap, ◌∙◌, subst, cond, true≢false}
-use Rattle.std.specs.Prelude.{All, is_some}
+use Rattle.std.proofs.Common.{◌≡◌, sym, ap, ◌∙◌, subst}
+use Rattle.std.specs.Prelude.{All}
 use Rattle.std.specs.FinMap.{entries}
-use Rattle.std.specs.Ordering.{eq_by_cmp}
 use Rattle.std.proofs.lemmas.List.Elements.{All-map}
-use Rattle.std.proofs.lemmas.Option.{same_Some}
 use Rattle.xet_base.specs.declared.merklehash.DataHash.{DataHash}
-use Rattle.xet_base.specs.Hash.{hash_cmp}
-use Rattle.xet_base.proofs.HashOrder.{hash_cmp-IsTotalOrder, hash_cmp-IsAntisymmetric, same_key}
+use Rattle.xet_base.proofs.HashOrder.{same_key}
 use Rattle.xet_records.specs.declared.file_structs.MDBFileInfo.{MDBFileInfo}
 use Rattle.xet_records.specs.declared.xorb_structs.MDBXorbInfo.{MDBXorbInfo}
 use Rattle.xet_records.specs.FileRecord.{file_records, IsWellFormed}
-use Rattle.xet_records.specs.Limits.{MAX_ROWS}
-use Rattle.xet_records.specs.RecordKind.{RecordKind}
 use Rattle.xet_records.specs.XorbRecord.{xorb_records, IsXorb}
-use Rattle.xet_shards.specs.Content.SetOperations.{IsUnion, ShardsAgree, RowsFitU32}
+use Rattle.xet_shards.specs.Content.SetOperations.{IsUnion, ShardsAgree}
 use Rattle.xet_shards.specs.Content.Shard.{Shard, IsShard}
-use Rattle.xet_shards.specs.Write.Section.{total_rows}
-use Rattle.xet_shards.specs.Write.WithOptions.{Ascends}
 use Rattle.xet_shards.specs.declared.shard_format.ends.options.LayoutOptions.{LayoutOptions}
 use Rattle.xet_shards.proofs.Content.AgreeingJoins.{union_is_shard}
 use Rattle.xet_shards.proofs.Content.Overlays.{union_exists, united_shard}
 use Rattle.xet_shards.proofs.Content.Unions.{union-assoc, union-comm, union_agrees}
-use Rattle.xet_shards.proofs.ShardInMemory.Sums.{all_of_map}
 use Rattle.xet_core_structures.specs.Records.ByteUnion.{IsByteUnion, IsEitherFile, IsEitherXorb}
-use Rattle.xet_core_structures.specs.Records.RecordPairs.{key_of_record, with_hash}
 use Rattle.xet_core_structures.specs.TwoShards.ByteResults.{keyed_options}
 use Rattle.xet_core_structures.proofs.Records.ByteUnions.{byte_union_is_union, union_is_byte_union}
-use Rattle.xet_core_structures.proofs.Records.ListMaps.{list_map, get-list_map, values-list_map}
+use Rattle.xet_core_structures.proofs.Records.ListMaps.{get-list_map, values-list_map}
 use Rattle.placed_shards.specs.Content.{Content, AscendBoth}
 use Rattle.placed_shards.specs.Findings.{AgreeInAll}
 use Rattle.placed_shards.specs.Laws.{IsWellFormedShard}
 use Rattle.placed_shards.specs.Unions.{IsUnionOf}
 use Rattle.placed_shards.proofs.AgreedUnions as agreed
-use Rattle.placed_shards.proofs.Equations.Unions.{as_byte_union, made_ascends}
-use Rattle.placed_shards.proofs.JoinedMerges.{entries_of_list, shards_agree}
-use Rattle.placed_shards.proofs.Merges.{shard_in}
-
--- what a list has under a hash has this hash
-module _ {H R : Type 0} (K : RecordKind H R) where
-  found_under : (rs : List R) (q : DataHash) (r : R) → with_hash K rs q ≡ Some r → q ≡ key_of_record K r
-  found_under [] q r is = absurd (true≢false (sym (ap is_some is)))
-  found_under (s ∷ rs) q r is = by_test (eq_by_cmp hash_cmp q (key_of_record K s)) refl (found_under rs q r) is where
-    by_test : (b : Bool) → eq_by_cmp hash_cmp q (key_of_record K s) ≡ b → (with_hash K rs q ≡ Some r → q ≡ key_of_record K r) → cond b (Some s) (with_hash K rs q) ≡ Some r → q ≡ key_of_record K r
-    by_test true tied rest is = (same_key q (key_of_record K s)).0 tied ∙ ap (key_of_record K) (same_Some s r is)
-    by_test false apart rest is = rest is
-
-  keyed_entries : (rs : List R) → Ascends K rs → All (λ e. e.0 ≡ key_of_record K e.1) (entries (list_map K rs))
-  keyed_entries rs ascends =
-      all_of_map hash_cmp-IsTotalOrder hash_cmp-IsAntisymmetric (λ e. e.0 ≡ key_of_record K e.1) (list_map K rs) (λ q r at. found_under rs q r (sym (get-list_map K rs ascends q) ∙ at))
-
-pub as_shard : (c : Content) → IsWellFormedShard c → IsShard (shard_in c)
-as_shard c well = record {
-  files = record {
-    keyed = keyed_entries file_records c.files well.ascend.files;
-    well_formed = entries_of_list file_records IsWellFormed c.files well.ascend.files well.formed.files;
-  };
-  file_rows = subst (λ rs. total_rows file_records rs ≤ MAX_ROWS) (sym (values-list_map file_records c.files well.ascend.files)) well.file_rows;
-  xorbs = record {
-    keyed = keyed_entries xorb_records c.xorbs well.ascend.xorbs;
-    well_formed = entries_of_list xorb_records IsXorb c.xorbs well.ascend.xorbs well.formed.xorbs;
-  };
-  xorb_rows = subst (λ rs. total_rows xorb_records rs ≤ MAX_ROWS) (sym (values-list_map xorb_records c.xorbs well.ascend.xorbs)) well.xorb_rows;
-}
-
-pub few_rows : (c d made : Content) → IsUnionOf c d made → RowsFitU32 (shard_in made)
-few_rows c d made union = record {
-  files = subst (λ rs. total_rows file_records rs ≤ MAX_ROWS) (sym (values-list_map file_records made.files union.files.combined.ascends)) union.files.rows;
-  xorbs = subst (λ rs. total_rows xorb_records rs ≤ MAX_ROWS) (sym (values-list_map xorb_records made.xorbs union.xorbs.combined.ascends)) union.xorbs.rows;
-}
+use Rattle.placed_shards.proofs.JoinedMerges.{as_shard, shards_agree}
+use Rattle.placed_shards.proofs.Merges.{as_byte_union, few_rows, made_ascends, shard_in}
 
 -- what is the union of two shards is that of two others, if its records are what they make
 module _ (c d e f made : Content) (union : IsUnionOf c d made) (first : AscendBoth e) (second : AscendBoth f) (key : c.options.key ≡ e.options.key) (same : e.options.key ≡ f.options.key) where

@@ -1,68 +1,23 @@
 -- If the union of three shards that agree is made in one grouping, it can be made in the other.
-use Rattle.std.proofs.Common.{◌≡◌, [], ◌∷◌, refl, sym, ap, ◌∙◌, subst}
+use Rattle.std.proofs.Common.{◌≡◌, [], ◌∷◌, sym, ap, ◌∙◌}
 use Rattle.std.specs.Prelude.{Contains}
 use Rattle.std.proofs.lemmas.List.Elements.{Contains-append_right}
-use Rattle.xet_records.specs.FileRecord.{file_records}
-use Rattle.xet_records.specs.XorbRecord.{xorb_records}
 use Rattle.xet_shards.specs.Content.Joins.{IsJoinOf}
 use Rattle.xet_shards.specs.Content.SetOperations.{IsUnion, ShardsAgree, RowsFitU32}
-use Rattle.xet_shards.specs.Content.Shard.{Shard, IsShard}
+use Rattle.xet_shards.specs.Content.Shard.{IsShard}
 use Rattle.xet_shards.specs.declared.shard_format.ends.options.LayoutOptions.{LayoutOptions}
 use Rattle.xet_shards.proofs.Content.AgreeingJoins.{fewer_if_more, union_is_shard}
 use Rattle.xet_shards.proofs.Content.Joins.{follows_parts, join-append, join-one, union_is_join}
 use Rattle.xet_shards.proofs.Content.Overlays.{union_exists, united_shard}
 use Rattle.xet_shards.proofs.Content.Unions.{union_agrees}
-use Rattle.xet_shards.proofs.Write.Sections.{files_fit, xorbs_fit}
-use Rattle.xet_shards.proofs.Write.WithOptions.{files_ascend, xorbs_ascend}
-use Rattle.xet_core_structures.specs.Records.ByteUnion.{IsEitherFile, IsEitherXorb}
-use Rattle.xet_core_structures.proofs.Records.ByteUnions.{byte_union_is_union, union_is_byte_union}
-use Rattle.xet_core_structures.proofs.Records.ListMaps.{get-list_map}
+use Rattle.xet_core_structures.proofs.Records.ByteUnions.{byte_union_is_union}
 use Rattle.placed_shards.specs.Content.{Content}
 use Rattle.placed_shards.specs.Findings.{AgreeInAll}
 use Rattle.placed_shards.specs.Laws.{IsWellFormedShard}
 use Rattle.placed_shards.specs.Merging.{shard_content}
 use Rattle.placed_shards.specs.Unions.{IsUnionOf}
-use Rattle.placed_shards.proofs.Equations.AnyOrder.{few_rows, as_shard}
-use Rattle.placed_shards.proofs.Equations.Unions.{as_byte_union, made_ascends}
-use Rattle.placed_shards.proofs.JoinedMerges.{shards_agree}
-use Rattle.placed_shards.proofs.Merges.{shard_in, values_under}
-
--- two shards that agree have a union if its rows fit
-module _ (c d : Content) (first : IsWellFormedShard c) (second : IsWellFormedShard d) (agree : AgreeInAll c d) (same : c.options.key ≡ d.options.key) where
-  abbrev both : Shard
-  both = united_shard (shard_in c) (shard_in d)
-
-  shards : ShardsAgree (shard_in c) (shard_in d)
-  shards = shards_agree c d first.ascend second.ascend agree
-
-  has_union : RowsFitU32 both → IsUnionOf c d (shard_content c.options.key both)
-  has_union few =
-      let shard = union_is_shard (shard_in c) (shard_in d) both (as_shard c first) (as_shard d second) shards (union_exists (shard_in c) (shard_in d)) few in
-      let made = union_is_byte_union (shard_in c) (shard_in d) both (as_shard c first) (as_shard d second) shards (union_exists (shard_in c) (shard_in d)) in
-      record {
-        same_key = same;
-        files = record {
-          combined = record {
-            ascends = files_ascend both shard;
-            each = λ q. subst (λ p. p)
-                (λ i. IsEitherFile (get-list_map file_records c.files first.ascend.files q i) (get-list_map file_records d.files second.ascend.files q i) (sym (values_under file_records both.files shard.files.keyed q) i))
-                (made.files q);
-            stored = (files_fit both shard).stored;
-          };
-          rows = few.files;
-        };
-        xorbs = record {
-          combined = record {
-            ascends = xorbs_ascend both shard;
-            each = λ q. subst (λ p. p)
-                (λ i. IsEitherXorb (get-list_map xorb_records c.xorbs first.ascend.xorbs q i) (get-list_map xorb_records d.xorbs second.ascend.xorbs q i) (sym (values_under xorb_records both.xorbs shard.xorbs.keyed q) i))
-                (made.xorbs q);
-            stored = (xorbs_fit both shard).stored;
-          };
-          rows = few.xorbs;
-        };
-        options_are = refl;
-      }
+use Rattle.placed_shards.proofs.JoinedMerges.{as_shard, shards_agree}
+use Rattle.placed_shards.proofs.Merges.{as_byte_union, few_rows, has_union, made_ascends, shard_in}
 
 pub last_united : (a b c ab made : Content) → IsWellFormedShard a → IsWellFormedShard b → IsWellFormedShard c → AgreeInAll a b → AgreeInAll a c → AgreeInAll b c
     → IsUnionOf a b ab → IsUnionOf ab c made → (bc : Content) × IsUnionOf b c bc
@@ -88,4 +43,4 @@ last_united a b c ab made a_well b_well c_well a_b a_c b_c one union =
     let few : RowsFitU32 yz =
     fewer_if_more (Contains (y ∷ z ∷ [])) (Contains (x ∷ y ∷ z ∷ [])) yz (shard_in made) fewer more (λ s. Contains-append_right (x ∷ []) (y ∷ z ∷ []) s) (few_rows ab c made union) in
     let key : b.options.key ≡ c.options.key = sym one.same_key ∙ sym (ap (λ (o : LayoutOptions). o.key) one.options_are) ∙ union.same_key in
-    (shard_content b.options.key yz, has_union b c b_well c_well b_c key few)
+    (shard_content b.options.key yz, has_union b c yz b_well.ascend c_well.ascend y_is z_is y_z (union_exists y z) key few)

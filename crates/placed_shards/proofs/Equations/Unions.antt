@@ -7,14 +7,14 @@ use Rattle.xet_records.specs.FileRecord.{file_records}
 use Rattle.xet_records.specs.XorbRecord.{xorb_records}
 use Rattle.xet_shards.specs.Content.Shard.{Shard}
 use Rattle.xet_shards.specs.Write.WithOptions.{FitsSection}
-use Rattle.xet_core_structures.specs.Records.ByteUnion.{IsByteUnion, IsEitherFile, IsEitherXorb}
+use Rattle.xet_core_structures.specs.Records.ByteUnion.{IsEitherFile, IsEitherXorb}
 use Rattle.xet_core_structures.specs.Records.RecordPairs.{with_hash}
 use Rattle.xet_core_structures.proofs.LawProofs.UnionSizes.{union_of_same}
-use Rattle.xet_core_structures.proofs.Records.ListMaps.{combined_maps, values-list_map}
+use Rattle.xet_core_structures.proofs.Records.ListMaps.{values-list_map}
 use Rattle.placed_shards.specs.Content.{Content, AscendBoth, with_all_tables}
 use Rattle.placed_shards.specs.Sets.{IsLeft}
 use Rattle.placed_shards.specs.Unions.{Unites, IsUnionOf}
-use Rattle.placed_shards.proofs.Merges.{shard_in}
+use Rattle.placed_shards.proofs.Merges.{as_byte_union, shard_in}
 use Rattle.placed_shards.proofs.Uniting.{same_list}
 
 pub one_left : {R : Type 0} (a b c d : Option R) → IsLeft a b c → IsLeft a b d → c ≡ d
@@ -28,17 +28,6 @@ module _ (F : Option MDBFileInfo → Option MDBFileInfo → Option MDBFileInfo �
       let xorbs = same_list xorb_records m.xorbs n.xorbs one.xorbs.combined.ascends other.xorbs.combined.ascends (λ q. one_xorb _ _ _ _ (one.xorbs.combined.each q) (other.xorbs.combined.each q)) in
       let options = one.options_are ∙ sym other.options_are in
       λ i. record { files = files i; xorbs = xorbs i; options = options i }
-
--- the maps of the records of a union
-module _ (c d made : Content) (first : AscendBoth c) (second : AscendBoth d) (union : IsUnionOf c d made) where
-  pub made_ascends : AscendBoth made
-  made_ascends = record { files = union.files.combined.ascends; xorbs = union.xorbs.combined.ascends }
-
-  pub as_byte_union : IsByteUnion (shard_in c) (shard_in d) (shard_in made)
-  as_byte_union = record {
-    files = combined_maps file_records IsEitherFile c.files d.files made.files first.files second.files union.files.combined;
-    xorbs = combined_maps xorb_records IsEitherXorb c.xorbs d.xorbs made.xorbs first.xorbs second.xorbs union.xorbs.combined;
-  }
 
 -- a shard with itself
 pub itself_is : (c made : Content) → AscendBoth c → IsUnionOf c c made → made ≡ with_all_tables c
