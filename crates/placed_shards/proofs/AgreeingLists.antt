@@ -21,7 +21,7 @@ use Rattle.placed_shards.specs.declared.selection.Selection.{Selection}
 use Rattle.placed_shards.specs.declared.strict.Agreed.{Agreed}
 use Rattle.placed_shards.specs.declared.strict.Agreed.TheVariants.{Made, Disagreements, Malformed}
 use Rattle.placed_shards.specs.Agreement.{AreEqual}
-use Rattle.placed_shards.specs.Content.{Content, content}
+use Rattle.placed_shards.specs.Content.{content}
 use Rattle.placed_shards.specs.Findings.{AgreeInAll, HasFormedRecords}
 use Rattle.placed_shards.specs.Merging.{MergeRefusal, HoldsSelected, IsMergeOfList, shard_content}
 use Rattle.placed_shards.specs.Selections.{OpensSelected}

@@ -1,22 +1,19 @@
 -- Records whose hashes strictly ascend, and the hash of the last.
-use Rattle.std.proofs.Common.{◌≡◌, ℕ, List, [], ◌∷◌, ◌++◌, Option, None, Some, IfSome, refl, subst, append_assoc, inl, inr}
+use Rattle.std.proofs.Common.{◌≡◌, ℕ, List, [], ◌∷◌, ◌++◌, Option, None, Some, IfSome, refl, subst, append_assoc, inr}
 use Rattle.std.specs.List.Sorted.{IsStrictlySortedBy}
 use Rattle.std.specs.declared.cmp.Ordering.TheVariants.{Less}
 use Rattle.xet_base.specs.declared.error.CoreError.{CoreError}
-use Rattle.xet_base.specs.declared.error.CoreError.TheVariants.{InvalidShard}
 use Rattle.xet_base.specs.declared.merklehash.DataHash.{DataHash}
-use Rattle.xet_base.specs.Errors.{IsBareInvalidShard, IsInvalidShard}
+use Rattle.xet_base.specs.Errors.{IsInvalidShard}
 use Rattle.xet_base.specs.Hash.{hash_cmp}
 use Rattle.xet_records.specs.declared.record_reader.FormatVersion.{FormatVersion}
-use Rattle.xet_records.specs.Reading.{BeginsRefused, EndsEarly}
 use Rattle.xet_records.specs.RecordKind.{RecordKind, in_version}
 use Rattle.xet_shards.specs.Write.WithOptions.{Ascends}
 use Rattle.xet_core_structures.specs.Records.RecordPairs.{ComeBefore, key_of_record}
-use Rattle.xet_core_structures.specs.Records.ShardContents.{BeginsInOrder}
 use Rattle.xet_core_structures.specs.Steps.MergeJoin.{SectionRefusal}
 use Rattle.xet_core_structures.proofs.Records.RecordPairs.{ascends_push, before_later, before_push}
-use Rattle.placed_shards.specs.Sections.{TakesRecord, StopsBefore}
-use Rattle.placed_shards.proofs.Sections.{HasTaken, holds, rows_left_are, taken_more}
+use Rattle.placed_shards.specs.Sections.{TakesRecord}
+use Rattle.placed_shards.proofs.Sections.{HasTaken, holds, taken_more}
 
 module _ {H R : Type 0} (K : RecordKind H R) where
   -- the hashes of records strictly ascend, and a hash comes after all of them if it comes after this

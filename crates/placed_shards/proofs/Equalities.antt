@@ -10,7 +10,6 @@ use Rattle.xet_records.specs.Part.{bit_of, announces}
 use Rattle.xet_records.proofs.Merging.{bit_if, bit_if_announced, bit_within}
 use Rattle.xet_records.specs.declared.file_structs.rows.FileDataSequenceEntry.{FileDataSequenceEntry}
 use Rattle.xet_records.specs.declared.file_structs.rows.HashRow.{HashRow}
-use Rattle.xet_records.specs.declared.xorb_structs.XorbChunkSequenceEntry.{XorbChunkSequenceEntry}
 use Rattle.xet_records.specs.contracts.file_structs.rows.FileDataSequenceEntryPartialEq as segment_eq
 use Rattle.xet_records.specs.contracts.file_structs.rows.HashRowPartialEq as hash_row_eq
 use Rattle.xet_records.specs.contracts.xorb_structs.XorbChunkSequenceEntryPartialEq as chunk_eq

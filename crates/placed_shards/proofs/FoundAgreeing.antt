@@ -22,9 +22,8 @@ use Rattle.placed_shards.specs.Content.{Content}
 use Rattle.placed_shards.specs.Findings.{AreOpened, FirstRefusal, HasAllDisagreements, HasFormedRecords, HasMalformed, IsFirstMalformed}
 use Rattle.placed_shards.specs.Selections.{OpensSelected}
 use Rattle.placed_shards.specs.Strict.{AreAgreeing}
-use Rattle.placed_shards.proofs.Items.{has_at}
+use Rattle.placed_shards.proofs.Items.{all_behind, has_at}
 use Rattle.placed_shards.proofs.Selections.{opened_once, selected_well, opens_selected_once}
-use Rattle.placed_shards.proofs.StrictMerges.{all_right}
 
 -- what holds of each record of a list holds of that under a hash
 found : {H R : Type 0} (K : RecordKind H R) (Is : R → Type 0) (rs : List R) (q : DataHash) (r : R) → with_hash K rs q ≡ Some r → All Is rs → Is r
@@ -59,7 +58,7 @@ module _ (selection : Selection) (inputs : List (List ℕ)) where
   pub one_malformed : (m : MalformedRecord) → IsFirstMalformed selection inputs m → ¬ AreAgreeing selection inputs
   one_malformed m first agreeing =
       let cut = zipped_parts (OpensSelected selection) first.before (first.bytes ∷ first.after) agreeing.contents (subst (λ l. AreOpened selection l agreeing.contents) first.inputs_are agreeing.opened) in
-      at_front cut.1 cut.4 (all_right HasFormedRecords cut.0 cut.1 (subst (All HasFormedRecords) (sym cut.2) agreeing.formed)) where
+      at_front cut.1 cut.4 (all_behind HasFormedRecords cut.0 cut.1 (subst (All HasFormedRecords) (sym cut.2) agreeing.formed)) where
         at_front : (cs : List Content) → AreOpened selection (first.bytes ∷ first.after) cs → All HasFormedRecords cs → ⊥
         at_front [] opened formed = opened
         at_front (c ∷ cs) opened formed =

@@ -4,7 +4,6 @@ use Rattle.std.specs.Prelude.{MatchResult}
 use Rattle.std.specs.declared.result.Result.{Result}
 use Rattle.std.specs.declared.vec.Vec.{Vec}
 use Rattle.xet_base.specs.declared.error.CoreError.{CoreError}
-use Rattle.placed_shards.specs.Filling.{FillsWith}
 
 pub if_written : {Z : Type 0} (A B : List ℕ → Type 0) (R S : CoreError → Type 0) (r : Result (Vec ℕ Z) CoreError) → ((bytes : List ℕ) → A bytes → B bytes) → ((e : CoreError) → R e → S e)
     → MatchResult r (λ written. A written.items) R → MatchResult r (λ written. B written.items) S

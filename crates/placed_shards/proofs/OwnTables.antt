@@ -10,8 +10,7 @@ use Rattle.std.specs.List.{AllByRecursion}
 use Rattle.std.specs.List.Sorted.{IsStrictlySortedBy}
 use Rattle.std.proofs.lemmas.List.{drop-drop, length-append, length-take-le}
 use Rattle.std.proofs.lemmas.List.Concat.{flat_map-append}
-use Rattle.std.proofs.lemmas.List.Elements.{All-nil, All-cons, All-append, All-drop, All-take, filter_passes}
-use Rattle.std.proofs.Math.Seq.{take-append_seam, drop-append_seam}
+use Rattle.std.proofs.lemmas.List.Elements.{All-nil, All-cons, All-append, filter_passes}
 use Rattle.std.proofs.lemmas.List.Sums.{sum_by-append}
 use Rattle.xet_base.specs.Bytes.{u32_bytes, u64_bytes}
 use Rattle.xet_base.specs.declared.merklehash.DataHash.{DataHash}
@@ -30,6 +29,7 @@ use Rattle.xet_shards.specs.Read.SectionReading.{files_of}
 use Rattle.xet_shards.specs.Write.Section.{total_rows, with_fronts}
 use Rattle.xet_shards.specs.Write.Tables.{hash_in, start_of, start_row, table_bytes}
 use Rattle.xet_shards.specs.Write.WithOptions.{Ascends}
+use Rattle.xet_shards.proofs.ShardInMemory.ChunkLookups.{All-front}
 use Rattle.xet_shards.proofs.Write.Sections.{files_laws}
 use Rattle.xet_shards.proofs.Write.Tables.{length-table_bytes}
 use Rattle.xet_core_structures.specs.Records.ShardContents.{files_at, xorbs_at}
@@ -44,6 +44,7 @@ use Rattle.placed_shards.specs.Ranges.{is_from, is_before, is_within, records_pa
 use Rattle.placed_shards.specs.Tables.{bisection, word_in, row_in, row_from, first_row, end_row, file_table, xorb_table, last_file_row, last_xorb_row}
 use Rattle.placed_shards.proofs.HashRanges.{is_less, hash_cmp-reverse, below_through, not_below_through, not_true}
 use Rattle.placed_shards.proofs.RangeLists.{those_between, second_is_not}
+use Rattle.placed_shards.proofs.Items.{all_behind}
 use Rattle.placed_shards.proofs.Bisection.{entry_word, entry_row, ends_after_first, found_there, found_at_end, is_below, is_not_below}
 use Rattle.placed_shards.proofs.Within.{those_ascend}
 
@@ -81,13 +82,7 @@ not_false false is = absurd (true≢false is)
 
 -- what holds of all of a list holds of its parts
 of_middle : {X : Type 0} (P : X → Type 0) (xs ys : List X) (x : X) → All P (xs ++ x ∷ ys) → P x
-of_middle P xs ys x all = subst (All P) (drop-append_seam xs (x ∷ ys)) (All-drop P (length xs) (xs ++ x ∷ ys) all) 0 x (omega arith)
-
-front_all : {X : Type 0} (P : X → Type 0) (xs ys : List X) → All P (xs ++ ys) → All P xs
-front_all P xs ys all = subst (All P) (take-append_seam xs ys) (All-take P (length xs) (xs ++ ys) all)
-
-behind_all : {X : Type 0} (P : X → Type 0) (xs ys : List X) → All P (xs ++ ys) → All P ys
-behind_all P xs ys all = subst (All P) (drop-append_seam xs ys) (All-drop P (length xs) (xs ++ ys) all)
+of_middle P xs ys x all = all_behind P xs (x ∷ ys) all 0 x (omega arith)
 
 -- one section, whose records have words of 64 bits
 module _ {H R : Type 0} (K : RecordKind H R) (words : (r : R) → K.IsStored r → (hash_in K r).word0 < 2 ^ 64) (records : List R) (stored : All K.IsStored records) (few : total_rows K records ≤ 4294967295)
@@ -300,7 +295,7 @@ module _ {H R : Type 0} (K : RecordKind H R) (words : (r : R) → K.IsStored r �
 
       from_start : All (λ r. is_from range.from (hash_in K r) ≡ true) middle
       from_start =
-          front_all (λ r. is_from range.from (hash_in K r) ≡ true) middle others (subst (All (λ (r : R). is_from range.from (hash_in K r) ≡ true)) upper.are lower.high)
+          All-front (λ r. is_from range.from (hash_in K r) ≡ true) middle others (subst (All (λ (r : R). is_from range.from (hash_in K r) ≡ true)) upper.are lower.high)
 
       passing : records_passing K (is_within range) records ≡ middle
       passing =
@@ -332,8 +327,8 @@ module _ {H R : Type 0} (K : RecordKind H R) (words : (r : R) → K.IsStored r �
             let bytes : List R → List ℕ = flat_map K.record_bytes in
             let after : List ℕ = bytes ws ++ is.section.rest in
             let are : All K.IsStored (us ++ (vs ++ ws)) = subst (All K.IsStored) stored_are is.section.records.are_stored in
-            let us_stored : All K.IsStored us = front_all K.IsStored us (vs ++ ws) are in
-            let vs_stored : All K.IsStored vs = front_all K.IsStored vs ws (behind_all K.IsStored us (vs ++ ws) are) in
+            let us_stored : All K.IsStored us = All-front K.IsStored us (vs ++ ws) are in
+            let vs_stored : All K.IsStored vs = All-front K.IsStored vs ws (all_behind K.IsStored us (vs ++ ws) are) in
             let size : length (bytes us) ≡ 48 * total_rows K us = length-all_record_bytes K.record_bytes K.row_count K.IsStored (length-record_bytes K laws) us us_stored in
             let rows_before : total_rows K us ≡ total_rows K first = sym (rows_handed K laws us) ∙ ap (total_rows K) us_are in
             let rows_in : total_rows K vs ≡ total_rows K middle = sym (rows_handed K laws vs) ∙ ap (total_rows K) vs_are in

@@ -2,8 +2,9 @@
 use Rattle.std.proofs.Common.{◌≡◌, ◌⊎◌, inl, inr, ℕ, Bool, true, List, [], ◌∷◌, ◌++◌, Ok, Err, refl, sym, ◌∙◌, subst, arith}
 use Rattle.std.specs.Prelude.{All, Contains, IsTrue, MatchResult}
 use Rattle.std.specs.declared.result.Result.{Result}
-use Rattle.std.proofs.lemmas.List.Elements.{All-append, All-cons, All-contains, All-contains_itself, All-nil, All-weaker, Contains-append_cases, Contains-append_left, Contains-append_right, Contains-push}
+use Rattle.std.proofs.lemmas.List.Elements.{All-append, All-cons, All-contains, All-nil, Contains-append_cases, Contains-append_left, Contains-append_right, Contains-push}
 use Rattle.xet_base.specs.declared.error.CoreError.{CoreError}
+use Rattle.xet_shards.proofs.ShardInMemory.ChunkLookups.{All-front}
 use Rattle.xet_shards.proofs.Read.Zipped.{zipped_append, zipped_parts}
 use Rattle.placed_shards.specs.declared.placed_shard.PlacedShard.{PlacedShard}
 use Rattle.placed_shards.specs.declared.selection.Selection.{Selection}
@@ -18,15 +19,8 @@ use Rattle.placed_shards.specs.Steps.Merging.{IsMerged, IsOpenedAlone, NotMerged
 use Rattle.placed_shards.specs.Strict.{AreAgreeing}
 use Rattle.placed_shards.specs.Unions.{Unites, Refuses, IsUnionOf, UnionRefusal}
 use Rattle.placed_shards.proofs.AgreedUnions.{agreed_with, as_refusal, as_union, both_agree, itself, turned}
-use Rattle.placed_shards.proofs.Items.{only_item}
+use Rattle.placed_shards.proofs.Items.{all_behind, only_item}
 use Rattle.placed_shards.proofs.Selections.{opens_selected_once, opened_once}
-
--- what holds of all of a list holds of both parts of it
-all_left : {X : Type 0} (P : X → Type 0) (xs ys : List X) → All P (xs ++ ys) → All P xs
-all_left P xs ys all = All-weaker (Contains xs) P (λ x at. All-contains P (xs ++ ys) x all (Contains-append_left xs ys x at)) xs (All-contains_itself xs)
-
-pub all_right : {X : Type 0} (P : X → Type 0) (xs ys : List X) → All P (xs ++ ys) → All P ys
-all_right P xs ys all = All-weaker (Contains ys) P (λ y at. All-contains P (xs ++ ys) y all (Contains-append_right xs ys y at)) ys (All-contains_itself ys)
 
 module _ (selection : Selection) where
   -- one input
@@ -79,13 +73,13 @@ module _ (selection : Selection) where
           first = record {
             contents = xs;
             opened = cut.3;
-            formed = all_left HasFormedRecords xs ys formed;
+            formed = All-front HasFormedRecords xs ys formed;
             agree = λ c d one other. agree c d (Contains-append_left xs ys c one) (Contains-append_left xs ys d other);
           };
           second = record {
             contents = ys;
             opened = cut.4;
-            formed = all_right HasFormedRecords xs ys formed;
+            formed = all_behind HasFormedRecords xs ys formed;
             agree = λ c d one other. agree c d (Contains-append_right xs ys c one) (Contains-append_right xs ys d other);
           };
           are = cut.2;

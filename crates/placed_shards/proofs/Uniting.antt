@@ -263,11 +263,6 @@ module _ {H R : Type 0} (K : RecordKind H R) (laws : KindLaws K) where
     second_alone other other_is some_2 all made same = kept_as made other (first_left i) (second_left j) (first_left i) (second_left (j + 1)) same
         (takes_second (left_at ys j other other_is some_2) refl (before_none (key_of_record K (K.as_read other)) (first_left i) (none_left xs i all)))
 
-  -- reading returns as many rows
-  pub total_read : (rs : List R) → total_rows K (map K.as_read rs) ≡ total_rows K rs
-  total_read [] = refl
-  total_read (r ∷ rs) = omega (arith, sum_by-cons K.row_count (K.as_read r) (map K.as_read rs), sum_by-cons K.row_count r rs, laws.same_rows r, total_read rs)
-
   -- a record more, as reading returns it
   pub pushed_read : (made : List R) (r : R) → map K.as_read (made ++ r ∷ []) ≡ map K.as_read made ++ K.as_read r ∷ []
   pushed_read made r = map-append K.as_read made (r ∷ [])

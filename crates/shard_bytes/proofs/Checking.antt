@@ -6,8 +6,7 @@ use Rattle.std.specs.declared.cmp.Ordering.TheVariants.{Less}
 use Rattle.std.specs.declared.result.Result.{Result}
 use borrow.Author.Count.{below_more}
 use Rattle.std.proofs.lemmas.List.{append_assoc, take-append-drop}
-use Rattle.std.proofs.Math.Seq.{take-append_seam, drop-append_seam}
-use Rattle.std.proofs.lemmas.List.Elements.{All-nil, All-cons, All-append, All-weaker, All-head, All-take, All-drop, Contains-push, Contains-append_left, Contains-append_right}
+use Rattle.std.proofs.lemmas.List.Elements.{All-nil, All-cons, All-append, All-weaker, All-head, Contains-push, Contains-append_left, Contains-append_right}
 use Rattle.xet_core_structures.specs.declared.error.CoreError.{CoreError}
 use Rattle.xet_core_structures.specs.declared.error.CoreError.TheVariants.{InvalidArguments, InvalidShard, OutOfMemory}
 use Rattle.xet_core_structures.specs.declared.file_structs.MDBFileInfo.{MDBFileInfo}
@@ -29,6 +28,7 @@ use Rattle.xet_core_structures.specs.XorbRecord.{IsXorb, xorb_records}
 use Rattle.xet_shards.specs.Read.SectionsBehindHeader.{options_of}
 use Rattle.xet_shards.specs.Write.Tables.{hash_in}
 use Rattle.xet_core_structures.specs.KeyedHash.{no_key}
+use Rattle.xet_shards.proofs.ShardInMemory.ChunkLookups.{All-front}
 use Rattle.xet_shards.proofs.Ends.EndsUnique.{only_info, not_unsupported, not_too_short}
 use Rattle.xet_shards.proofs.Read.SectionHashes.{ascend_adjacent}
 use Rattle.xet_shards.proofs.Ends.Loading.{header_of, one_version}
@@ -36,6 +36,7 @@ use Rattle.xet_shards.proofs.Export.Rewriting.{only_sections, sections_fit, is_l
 use Rattle.xet_shards.proofs.Read.WholeSections.{files_not_cut, files_not_refused, layout_ends, xorbs_not_cut, xorbs_not_refused}
 use Rattle.placed_shards.specs.Content.{HasFilesIn}
 use Rattle.placed_shards.proofs.Equations.Reopened.{has_files}
+use Rattle.placed_shards.proofs.Items.{all_behind}
 use Rattle.shard_bytes.proofs.Formats.{unsupported_so}
 use Rattle.shard_bytes.proofs.Walks.{not_refused}
 use Rattle.shard_bytes.proofs.Reordered.{front_more, put_together, ends_alike, rows_found}
@@ -79,13 +80,6 @@ both_empty : {X : Type 0} (xs ys : List X) → xs ++ ys ≡ [] → (xs ≡ []) �
 both_empty [] ys empty = (refl, empty)
 both_empty (x ∷ xs) ys empty = cc
 
--- what holds of each of two lists together holds of each of one
-all_left : {X : Type 0} (P : X → Type 0) (xs ys : List X) → All P (xs ++ ys) → All P xs
-all_left P xs ys each = subst (All P) (take-append_seam xs ys) (All-take P (length xs) (xs ++ ys) each)
-
-all_right : {X : Type 0} (P : X → Type 0) (xs ys : List X) → All P (xs ++ ys) → All P ys
-all_right P xs ys each = subst (All P) (drop-append_seam xs ys) (All-drop P (length xs) (xs ++ ys) each)
-
 -- the same findings under another name, and those of two calls
 pub adds_as : (Well Fair : Type 0) (One Other : Finding → Type 0) (a b : List Finding) → ((f : Finding) → One f → Other f) → ((f : Finding) → Other f → One f) → Adds Well Fair One a b → Adds Well Fair Other a b
 adds_as Well Fair One Other a b to from adds = record {
@@ -115,7 +109,7 @@ adds_then P F Q G V W a b c first next = record {
   each = All-append (λ f. V f ⊎ W f) first.more next.more (All-weaker V (λ f. V f ⊎ W f) (λ f so. inl so) first.more first.each) (All-weaker W (λ f. V f ⊎ W f) (λ f so. inr so) next.more next.each);
   all = either;
   none = λ empty. let parts = both_empty first.more next.more empty in (first.none parts.0, next.none parts.1);
-  notes = λ all. (first.notes (all_left IsNote first.more next.more all), next.notes (all_right IsNote first.more next.more all));
+  notes = λ all. (first.notes (All-front IsNote first.more next.more all), next.notes (all_behind IsNote first.more next.more all));
 }
   where
     either : (f : Finding) → V f ⊎ W f → Contains (first.more ++ next.more) f

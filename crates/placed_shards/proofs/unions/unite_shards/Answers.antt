@@ -4,7 +4,7 @@ use Rattle.xet_records.specs.FileRecord.{file_records}
 use Rattle.xet_records.specs.XorbRecord.{xorb_records}
 use Rattle.xet_records.proofs.RecordKinds.{file_laws, xorb_laws}
 use Rattle.xet_shards.specs.declared.shard_format.ends.options.LayoutOptions.{LayoutOptions}
-use Rattle.placed_shards.proofs.Uniting.{total_read}
+use Rattle.xet_core_structures.proofs.Records.ShardContents.{rows_handed}
 use Rattle.placed_shards.proofs.TwoShards.{xorbs_refused, both_united}
 use Rattle.placed_shards.proofs.unions.unite_shards.Goals as goal
 
@@ -19,8 +19,8 @@ returns-in_err-xorbs g c =
 
 pub invariant_of-result : goal.invariant_of-result
 invariant_of-result g c = record {
-  file_rows = omega (arith, c.in_ok-files.ensures.rows, total_read file_records file_laws c.in_ok-files.files.items);
-  xorb_rows = omega (arith, c.in_ok-xorbs.ensures.rows, total_read xorb_records xorb_laws c.in_ok-xorbs.xorbs.items);
+  file_rows = omega (arith, c.in_ok-files.ensures.rows, rows_handed file_records file_laws c.in_ok-files.files.items);
+  xorb_rows = omega (arith, c.in_ok-xorbs.ensures.rows, rows_handed xorb_records xorb_laws c.in_ok-xorbs.xorbs.items);
 }
 
 pub returns : goal.returns
