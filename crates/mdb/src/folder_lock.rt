@@ -5,7 +5,7 @@
 //! that name is not written to: a link, or a file that has another name or more than a number.
 
 use mdb_base::outputs::path_in;
-use mdb_files::beside::folder_and_name;
+use mdb_files::new_file::folder_and_name;
 use mdb_files::stamp::FileId;
 use mdb_records::shown::ShownText;
 use std::alloc::{AllocError, AllocFailed};

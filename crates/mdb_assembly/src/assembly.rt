@@ -13,10 +13,10 @@ ghost use Rattle.xet_shards.specs.declared.shard_format.write.xorb_writer.ChunkT
 ghost use Rattle.mdb_assembly.specs.Assembly.{AddFails, AddsFiles, AddsPart, AddsXorbs, EndsWith, FitFiles, FitTable, FitXorbs, HasChunkRows, HasStarts, NoneWritten, StepFails, bytes_in, missing_header, state_of};
 
 use crate::counts::{Counts, sum, with_rows};
+use crate::equal_shares::share_of;
 use crate::part_ranges::{before_bookend, check_range, range};
 use crate::row_numbers::{shift_chunk_rows, shift_starts};
 use crate::runs::{Extent, merge_runs};
-use crate::share::share_of;
 use shard_bytes::check::Section;
 use shard_bytes::load::load_bytes;
 use std::alloc::Global;

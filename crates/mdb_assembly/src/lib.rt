@@ -5,7 +5,7 @@
 pub mod assembly;
 pub mod block;
 mod counts;
+pub mod equal_shares;
 mod part_ranges;
 mod row_numbers;
 mod runs;
-pub mod share;

@@ -8,7 +8,7 @@ use Rattle.placed_shards.specs.declared.findings.Disagreement.{Disagreement}
 use Rattle.placed_shards.specs.declared.findings.MalformedRecord.{MalformedRecord}
 use Rattle.placed_shards.specs.Content.{Content}
 use Rattle.placed_shards.specs.Findings.{AreOpened, FirstRefusal, HasAllDisagreements, IsFirstMalformed}
-use Rattle.placed_shards.specs.Merging.{IsMergeOf, MergeRefusal}
+use Rattle.placed_shards.specs.MergedLists.{IsMergeOf, MergeRefusal}
 use Rattle.placed_shards.specs.Selections.{all_records}
 use Rattle.placed_shards.specs.Strict.{AreAgreeing, AgreedRefusal, IsJoinedMerge}
 use Rattle.xet_records.specs.declared.record_reader.FormatVersion.{FormatVersion}

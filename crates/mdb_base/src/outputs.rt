@@ -2,8 +2,8 @@
 
 use crate::failure::Failure;
 use crate::host::Host;
-use mdb_files::beside::leftovers;
 use mdb_files::files::{Contents, STANDARD_STREAM, read_sections, read_shard, write};
+use mdb_files::new_file::leftovers;
 use mdb_records::shown::ShownText;
 use mdb_report::fault::Fault;
 use std::alloc::{AllocError, Global};

@@ -1,7 +1,7 @@
 //! Reading shards from files and standard input, and writing outputs so that the old file stays if
 //! anything fails.
 
-use crate::beside::{folder_and_name, write_beside};
+use crate::new_file::{folder_and_name, write_beside};
 use crate::stamp::Stamp;
 use shard_bytes::load::load_bytes;
 use std::alloc::Global;

@@ -2,7 +2,7 @@
 //! stamps.
 #![tactic(auto)]
 
-pub mod beside;
 pub mod files;
 pub mod free_memory;
+pub mod new_file;
 pub mod stamp;

@@ -1,7 +1,7 @@
 //! The command that merges shards.
 
 ghost use Rattle.std.specs.Prelude.{◌≡◌, List, ℕ, Option, zip, map, IfOk, MatchResult};
-ghost use Rattle.placed_shards.specs.Merging.{IsMergeOf};
+ghost use Rattle.placed_shards.specs.MergedLists.{IsMergeOf};
 ghost use Rattle.placed_shards.specs.Selections.{all_records};
 ghost use Rattle.shard_bytes.specs.Versions.{IsWrittenIn};
 ghost use Rattle.mdb_base.specs.Expiries.{IsNewExpiry};

@@ -7,7 +7,7 @@
 ghost use Rattle.std.specs.Prelude.{◌≡◌, map, IfOk};
 
 mod findings;
-mod parts;
+mod merged_parts;
 
 use crate::by_key::{distinct_keys, path_under, values_under};
 use crate::merge::report_size;
@@ -20,11 +20,11 @@ use mdb_base::outputs::report_leftovers;
 use mdb_base::progress::{Progress, Stage};
 use mdb_base::request::Merge;
 use mdb_base::shard_file::{RoundFault, ShardFile, ends_of};
-use mdb_files::beside::{NewFile, create_beside, create_private};
 use mdb_files::files::{Place, STANDARD_STREAM, is_worth_reading, place_at, rename_over};
+use mdb_files::new_file::{NewFile, create_beside, create_private};
 use mdb_records::line::Style;
 use mdb_report::fault::{Fault, fault_of};
-use parts::merge_parts;
+use merged_parts::merge_parts;
 use shard_bytes::load::load_bytes;
 use std::alloc::{AllocError, AllocFailed, Global};
 use std::fs::OpenFile;

@@ -4,7 +4,7 @@ use Rattle.std.specs.Prelude.{Option, Some, None}
 use Rattle.xet_core_structures.specs.declared.shard_format.MDBShardInfo.{MDBShardInfo}
 use Rattle.mdb_report.specs.declared.brief.Brief.{Brief}
 use Rattle.mdb_report.specs.declared.brief.Total.{Total}
-use Rattle.mdb_report.specs.declared.parts.Parts.{Parts}
+use Rattle.mdb_report.specs.declared.parts_bar.Parts.{Parts}
 use Rattle.mdb_report.specs.PartsBar.{PartsAscend}
 use Rattle.mdb_report.specs.Summary.{key_in, ArePartsOf}
 

@@ -6,7 +6,7 @@ use Rattle.shard_bytes.specs.Checking.{IsIntact, IsWhole}
 use Rattle.mdb_report.specs.declared.inquiry.Checks.{Checks}
 use Rattle.mdb_report.specs.declared.inquiry.Inquiry.{Inquiry}
 use Rattle.mdb_report.specs.declared.inquiry.Inquiry.TheVariants.{Summary, Brief, Check, Find, FindXorbs, Query}
-use Rattle.mdb_report.specs.declared.parts.Parts.{Parts}
+use Rattle.mdb_report.specs.declared.parts_bar.Parts.{Parts}
 use Rattle.mdb_report.specs.PartsBar.{PartsAscend}
 use Rattle.mdb_report.specs.Summary.{ArePartsOf}
 use Rattle.mdb_report.specs.GarbageReport.{IsFit}

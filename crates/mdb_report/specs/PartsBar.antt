@@ -1,7 +1,7 @@
 -- The bar of a shard's parts.
 use Rattle.std.specs.Prelude.{ℕ, ◌*◌, ◌/◌, ◌≤◌, List, map, nat_lt, if◌then◌else◌}
 use Rattle.std.specs.List.{range_with_len}
-use Rattle.mdb_report.specs.declared.parts.Parts.{Parts}
+use Rattle.mdb_report.specs.declared.parts_bar.Parts.{Parts}
 
 -- the letter of the part in which a byte is: H header, F files, X xorbs, T tables, E footer
 abbrev pub letter_of : Parts → ℕ → ℕ

@@ -4,7 +4,7 @@ use Rattle.xet_core_structures.specs.declared.shard_format.MDBShardInfo.{MDBShar
 use Rattle.xet_core_structures.specs.Hash.{hash_eq}
 use Rattle.xet_core_structures.specs.KeyedHash.{no_key}
 use Rattle.mdb_records.specs.declared.hex.Hex.{Hex}
-use Rattle.mdb_report.specs.declared.parts.Parts.{Parts}
+use Rattle.mdb_report.specs.declared.parts_bar.Parts.{Parts}
 use Rattle.mdb_report.specs.declared.summary.Summary.{Summary}
 use Rattle.mdb_report.specs.PartsBar.{columns}
 

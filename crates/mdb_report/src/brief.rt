@@ -7,7 +7,7 @@ ghost use Rattle.xet_core_structures.specs.Ends.{HasHeaderAndFooter};
 ghost use Rattle.xet_core_structures.specs.TwoShards.ByteResults.{LoadRefusal};
 ghost use Rattle.mdb_report.specs.Brief.{SaysBriefly, IsCount, AddsTo, sum_if_known};
 
-use crate::parts::Parts;
+use crate::parts_bar::Parts;
 use crate::summary::key_of;
 use mdb_records::hex::Hex;
 use mdb_records::moment::Moment;

@@ -16,7 +16,7 @@ pub mod paged_file;
 pub mod paged_inquiry;
 pub mod paged_source;
 pub mod pages;
-pub mod parts;
+pub mod parts_bar;
 pub mod section;
 pub mod summary;
 pub mod tables;

@@ -7,7 +7,7 @@ ghost use Rattle.xet_core_structures.specs.Ends.{HasHeaderAndFooter};
 ghost use Rattle.xet_core_structures.specs.TwoShards.ByteResults.{LoadRefusal};
 ghost use Rattle.mdb_report.specs.Summary.{Summarizes, key_in};
 
-use crate::parts::{LEGEND, Parts, bar_of};
+use crate::parts_bar::{LEGEND, Parts, bar_of};
 use mdb_records::hex::Hex;
 use mdb_records::moment::Moment;
 use mdb_records::shown::ShownText;

@@ -23,7 +23,7 @@ use Rattle.placed_shards.specs.declared.strict.Agreed.TheVariants.{Made, Disagre
 use Rattle.placed_shards.specs.Agreement.{AreEqual}
 use Rattle.placed_shards.specs.Content.{content}
 use Rattle.placed_shards.specs.Findings.{AgreeInAll, HasFormedRecords}
-use Rattle.placed_shards.specs.Merging.{MergeRefusal, HoldsSelected, IsMergeOfList, shard_content}
+use Rattle.placed_shards.specs.MergedLists.{MergeRefusal, HoldsSelected, IsMergeOfList, shard_content}
 use Rattle.placed_shards.specs.Selections.{OpensSelected}
 use Rattle.placed_shards.specs.Strict.{AreAgreeing, IsAgreedOr, AgreedRefusal, IsJoinedMerge}
 use Rattle.placed_shards.proofs.DifferingFound.{if_both}

@@ -12,7 +12,7 @@ use Rattle.xet_shards.specs.Write.WithOptions.{Ascends}
 use Rattle.xet_core_structures.specs.Records.RecordPairs.{ComeBefore, key_of_record}
 use Rattle.xet_core_structures.specs.Steps.MergeJoin.{SectionRefusal}
 use Rattle.xet_core_structures.proofs.Records.RecordPairs.{ascends_push, before_later, before_push}
-use Rattle.placed_shards.specs.Sections.{TakesRecord}
+use Rattle.placed_shards.specs.TakenRecords.{TakesRecord}
 use Rattle.placed_shards.proofs.Sections.{HasTaken, holds, taken_more}
 
 module _ {H R : Type 0} (K : RecordKind H R) where

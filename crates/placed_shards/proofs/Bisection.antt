@@ -8,7 +8,7 @@ use Rattle.xet_base.specs.Bytes.{u32_bytes, u64_bytes}
 use Rattle.xet_base.proofs.Bytes.{length-u32_bytes, length-u64_bytes}
 use Rattle.xet_base.proofs.Lists.{front_is, rest_is}
 use Rattle.xet_records.specs.Decoding.{u32_at, u64_at}
-use Rattle.placed_shards.specs.Tables.{bisected, bisection, word_in, row_in, row_from}
+use Rattle.placed_shards.specs.RangeRows.{bisected, bisection, word_in, row_in, row_from}
 
 module _ (passes : ℕ → Bool) where
   nothing_left : (steps low : ℕ) → bisected passes steps low 0 ≡ low

@@ -19,7 +19,7 @@ use Rattle.placed_shards.specs.declared.range.HashRange.{HashRange}
 use Rattle.placed_shards.specs.ByTables.{HasInRows, HasByTable, OpensByTables, ByTablesRefusal}
 use Rattle.placed_shards.specs.Content.{Content}
 use Rattle.placed_shards.specs.Steps.InRows.{NotRead}
-use Rattle.placed_shards.specs.Tables.{first_row, end_row, file_table, xorb_table, last_file_row, last_xorb_row}
+use Rattle.placed_shards.specs.RangeRows.{first_row, end_row, file_table, xorb_table, last_file_row, last_xorb_row}
 
 -- records in the rows that a table names are those by the table
 pub by_table : {H R X : Type 0} (K : RecordKind H R) (range : HashRange) (section table : List ℕ) (last first end : ℕ) (items : X → List R) → first ≡ first_row table last range.from → end ≡ end_row table last range.to → (result : CoreResult X)

@@ -6,7 +6,7 @@ use Rattle.xet_records.specs.declared.file_structs.MDBFileInfo.{MDBFileInfo}
 use Rattle.xet_records.specs.FileRecord.{as_read, file_records}
 use Rattle.xet_shards.specs.Write.Tables.{hash_in}
 use Rattle.placed_shards.specs.Ranges.{records_passing}
-use Rattle.placed_shards.specs.Records.{files_as}
+use Rattle.placed_shards.specs.StoredFiles.{files_as}
 
 module _ (passes : DataHash → Bool) where
   one_more : (b : Bool) (f : MDBFileInfo) (fs gs : List MDBFileInfo) → map as_read fs ≡ gs → map as_read (cond b (f ∷ fs) fs) ≡ cond b (as_read f ∷ gs) gs

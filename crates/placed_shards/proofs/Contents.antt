@@ -24,7 +24,7 @@ use Rattle.xet_shards.proofs.Write.Written.{layout-parts}
 use Rattle.xet_shards.proofs.Write.Puts.{puts_then}
 use Rattle.placed_shards.specs.declared.placed_shard.PlacedShard.{PlacedShard}
 use Rattle.placed_shards.specs.Content.{content}
-use Rattle.placed_shards.specs.Records.{files_as}
+use Rattle.placed_shards.specs.StoredFiles.{files_as}
 use Rattle.placed_shards.proofs.Filling.{put_at_front}
 
 rows_read : (fs : List MDBFileInfo) → total_rows file_records (map as_read fs) ≡ total_rows file_records fs

@@ -11,7 +11,7 @@ use Rattle.xet_records.specs.Merging.{part_in}
 use Rattle.xet_shards.specs.Content.Joins.{segments_under, part_under, HasWhatAnyHas, IsJoinOf}
 use Rattle.xet_shards.specs.Content.SetOperations.{ShardsAgree}
 use Rattle.xet_shards.specs.Content.Shard.{Shard}
-use Rattle.placed_shards.specs.Merging.{IsPartOf}
+use Rattle.placed_shards.specs.MergedLists.{IsPartOf}
 
 -- an item of one of two lists is related to one of the other
 zipped_there : {A B : Type 0} (R : A → B → Type 0) (ks : List A) (bs : List B) → AllZip R ks bs → (a : A) → Contains ks a → (b : B) × Contains bs b × R a b

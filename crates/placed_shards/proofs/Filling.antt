@@ -26,7 +26,7 @@ use Rattle.xet_shards.specs.Write.Written.{HasWritten}
 use Rattle.xet_shards.specs.Write.Puts.{Puts}
 use Rattle.xet_shards.specs.Write.Section.{section_bytes}
 use Rattle.xet_shards.proofs.Write.Puts.{puts_then}
-use Rattle.placed_shards.specs.Records.{file_as, files_as}
+use Rattle.placed_shards.specs.StoredFiles.{file_as, files_as}
 
 -- what is put at the front of a slice
 pub put_at_front : (old new : List ℕ) (end : ℕ) (bytes : List ℕ) → Puts old new 0 end bytes → new ≡ bytes ++ drop end old

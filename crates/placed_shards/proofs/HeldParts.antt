@@ -23,7 +23,7 @@ use Rattle.xet_core_structures.proofs.Records.ListMaps.{values-list_map}
 use Rattle.xet_core_structures.proofs.Records.ShardContents.{section_ascends}
 use Rattle.placed_shards.specs.declared.range.HashRange.{HashRange}
 use Rattle.placed_shards.specs.Content.{Content, content_within, with_all_tables}
-use Rattle.placed_shards.specs.Merging.{HoldsSelected, IsMergeOfList, IsPartOf, shard_content}
+use Rattle.placed_shards.specs.MergedLists.{HoldsSelected, IsMergeOfList, IsPartOf, shard_content}
 use Rattle.placed_shards.specs.Opening.{Opens}
 use Rattle.placed_shards.specs.Ranges.{all_hashes, is_within}
 use Rattle.placed_shards.specs.Selections.{all_records, by_scan, OpensWithin}

@@ -26,7 +26,7 @@ use Rattle.xet_core_structures.proofs.Records.ShardContents.{hashes_handed, rows
 use Rattle.placed_shards.specs.declared.range.HashRange.{HashRange}
 use Rattle.placed_shards.specs.ByTables.{HasInRows}
 use Rattle.placed_shards.specs.Ranges.{is_within}
-use Rattle.placed_shards.specs.Sections.{TakesRecord, StopsBefore}
+use Rattle.placed_shards.specs.TakenRecords.{TakesRecord, StopsBefore}
 use Rattle.placed_shards.specs.Steps.InRows.{NotRead, TakesInRange, RowsFollow}
 
 below_through_all : (a b : DataHash) (qs : List DataHash) → hash_cmp a b ≡ Less → AllByRecursion (λ q. hash_cmp b q ≡ Less) qs → AllByRecursion (λ q. hash_cmp a q ≡ Less) qs

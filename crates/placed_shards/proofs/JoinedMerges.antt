@@ -30,8 +30,8 @@ use Rattle.placed_shards.specs.Agreement.{AgreeIfBoth, AreEqual}
 use Rattle.placed_shards.specs.Content.{Content, AscendBoth}
 use Rattle.placed_shards.specs.Findings.{AgreeInAll, AreOpened, HasFormedRecords}
 use Rattle.placed_shards.specs.Laws.{IsWellFormedShard}
-use Rattle.placed_shards.specs.Merging.{IsMergeOf, HoldsSelected, IsMergeOfList, shard_content}
-use Rattle.placed_shards.specs.Merging.IsMergeOf.{of_one, of_halves}
+use Rattle.placed_shards.specs.MergedLists.{IsMergeOf, HoldsSelected, IsMergeOfList, shard_content}
+use Rattle.placed_shards.specs.MergedLists.IsMergeOf.{of_one, of_halves}
 use Rattle.placed_shards.specs.Selections.{OpensSelected}
 use Rattle.placed_shards.specs.Strict.{AreAgreeing, IsJoinedMerge}
 use Rattle.placed_shards.proofs.DifferingFound.{found_under}

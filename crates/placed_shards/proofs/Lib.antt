@@ -39,7 +39,7 @@ pub mod OpenedInputs
 pub mod Opening
 pub mod Outcomes
 pub mod OwnTables
-pub mod PartsInARow
+pub mod ConsecutiveParts
 pub mod RangeLists
 pub mod RangeUnions
 pub mod Sections
@@ -47,7 +47,7 @@ pub mod Selections
 pub mod Shown
 pub mod StrictMerges
 pub mod Subtracting
-pub mod TablesInARow
+pub mod ConsecutiveTables
 pub mod Turns
 pub mod TwoShards
 pub mod Uniting

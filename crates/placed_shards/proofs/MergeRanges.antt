@@ -10,12 +10,12 @@ use Rattle.xet_core_structures.proofs.TwoShards.Results.{files_unique, xorbs_uni
 use Rattle.placed_shards.specs.declared.range.HashRange.{HashRange}
 use Rattle.placed_shards.specs.declared.selection.Selection.{Selection}
 use Rattle.placed_shards.specs.Content.{Content, AscendBoth, content_within, with_all_tables}
-use Rattle.placed_shards.specs.Merging.{AreHalves, IsMergeOf}
-use Rattle.placed_shards.specs.Merging.IsMergeOf.{of_one, of_halves}
+use Rattle.placed_shards.specs.MergedLists.{AreHalves, IsMergeOf}
+use Rattle.placed_shards.specs.MergedLists.IsMergeOf.{of_one, of_halves}
 use Rattle.placed_shards.specs.Ranges.{all_hashes, ranges_between, AreCuts}
 use Rattle.placed_shards.specs.Selections.{all_records, by_scan, OpensSelected}
 use Rattle.placed_shards.specs.Unions.{IsUnionOf}
-use Rattle.placed_shards.proofs.Equations.Ranges.{unites_within, whole_in_a_row}
+use Rattle.placed_shards.proofs.Equations.Ranges.{unites_within, whole_of_consecutive}
 use Rattle.placed_shards.proofs.Equations.Unions.{unites_once}
 use Rattle.placed_shards.proofs.Selections.{opens_selected_once, selected}
 
@@ -77,7 +77,7 @@ in_ranges listed inputs whole merged (range ∷ ranges) (part ∷ parts) (here, 
 module _ (inputs : List (List ℕ)) (whole : Content) (merged : IsMergeOf all_records inputs whole) (cuts : List DataHash) (parts : List Content) (are : AreCuts None cuts None)
     (all : AllZip (λ range part. IsMergeOf (by_scan range) inputs part) (ranges_between None cuts None) parts) where
   pub files_of_ranges : flat_map (λ part. part.files) parts ≡ whole.files
-  files_of_ranges = in_ranges (λ (c : Content). c.files) inputs whole merged (ranges_between None cuts None) parts all ∙ whole_in_a_row file_records cuts whole.files are (ascends inputs whole merged).files
+  files_of_ranges = in_ranges (λ (c : Content). c.files) inputs whole merged (ranges_between None cuts None) parts all ∙ whole_of_consecutive file_records cuts whole.files are (ascends inputs whole merged).files
 
   pub xorbs_of_ranges : flat_map (λ part. part.xorbs) parts ≡ whole.xorbs
-  xorbs_of_ranges = in_ranges (λ (c : Content). c.xorbs) inputs whole merged (ranges_between None cuts None) parts all ∙ whole_in_a_row xorb_records cuts whole.xorbs are (ascends inputs whole merged).xorbs
+  xorbs_of_ranges = in_ranges (λ (c : Content). c.xorbs) inputs whole merged (ranges_between None cuts None) parts all ∙ whole_of_consecutive xorb_records cuts whole.xorbs are (ascends inputs whole merged).xorbs

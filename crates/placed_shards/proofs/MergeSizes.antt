@@ -21,10 +21,10 @@ use Rattle.xet_core_structures.proofs.Records.ListMaps.{combined_maps, values-li
 use Rattle.placed_shards.specs.declared.selection.Selection.{Selection}
 use Rattle.placed_shards.specs.declared.placed_shard.PlacedShard.{PlacedShard}
 use Rattle.placed_shards.specs.Content.{Content, content, AscendBoth, content_layout}
-use Rattle.placed_shards.specs.Merging.{IsMergeOf, MergeRefusal}
-use Rattle.placed_shards.specs.Merging.IsMergeOf.{of_one, of_halves}
+use Rattle.placed_shards.specs.MergedLists.{IsMergeOf, MergeRefusal}
+use Rattle.placed_shards.specs.MergedLists.IsMergeOf.{of_one, of_halves}
 use Rattle.placed_shards.specs.Selections.{OpensSelected}
-use Rattle.placed_shards.specs.Sizes.{IsResultSize}
+use Rattle.placed_shards.specs.MergeSizes.{IsResultSize}
 use Rattle.placed_shards.proofs.Merges.{shard_in}
 use Rattle.placed_shards.proofs.Selections.{selected}
 

@@ -39,12 +39,12 @@ use Rattle.placed_shards.specs.declared.range.HashRange.{HashRange}
 use Rattle.placed_shards.specs.declared.selection.Selection.{Selection}
 use Rattle.placed_shards.specs.declared.placed_shard.PlacedShard.{PlacedShard}
 use Rattle.placed_shards.specs.Content.{Content, content, AscendBoth, content_within}
-use Rattle.placed_shards.specs.Merging.{AreHalves, IsMergeOf, MergeRefusal, HoldsSelected, IsMergeOfList, shard_content}
-use Rattle.placed_shards.specs.Merging.IsMergeOf.{of_one, of_halves}
-use Rattle.placed_shards.specs.Merging.MergeRefusal.{no_memory, of_none, not_read, of_first, of_second, of_union}
+use Rattle.placed_shards.specs.MergedLists.{AreHalves, IsMergeOf, MergeRefusal, HoldsSelected, IsMergeOfList, shard_content}
+use Rattle.placed_shards.specs.MergedLists.IsMergeOf.{of_one, of_halves}
+use Rattle.placed_shards.specs.MergedLists.MergeRefusal.{no_memory, of_none, not_read, of_first, of_second, of_union}
 use Rattle.placed_shards.specs.Opening.{Opens}
 use Rattle.placed_shards.specs.Selections.{OpensSelected, OpensWithin, SelectedRefusal}
-use Rattle.placed_shards.specs.Steps.Merging.{IsMerged, NotMerged}
+use Rattle.placed_shards.specs.Steps.MergingSteps.{IsMerged, NotMerged}
 use Rattle.placed_shards.specs.Unions.{IsUnionOf, UnionRefusal}
 use Rattle.placed_shards.proofs.Selections.{opens_selected_once, selected, selected_well}
 

@@ -8,14 +8,14 @@ use Rattle.placed_shards.specs.declared.range.HashRange.{HashRange}
 use Rattle.placed_shards.specs.declared.selection.Selection.{Selection}
 use Rattle.placed_shards.specs.ByTables.{OpensByTables}
 use Rattle.placed_shards.specs.Content.{Content, content_within, with_all_tables}
-use Rattle.placed_shards.specs.Merging.{IsMergeOf}
-use Rattle.placed_shards.specs.Merging.IsMergeOf.{of_one, of_halves}
+use Rattle.placed_shards.specs.MergedLists.{IsMergeOf}
+use Rattle.placed_shards.specs.MergedLists.IsMergeOf.{of_one, of_halves}
 use Rattle.placed_shards.specs.Opening.{Opens}
 use Rattle.placed_shards.specs.Ranges.{ranges_between, AreCuts}
 use Rattle.placed_shards.specs.Selections.{by_scan, by_tables, OpensSelected, OpensWithin}
 use Rattle.placed_shards.proofs.Items.{only_item}
 use Rattle.placed_shards.proofs.OneByTables.{one_by_tables}
-use Rattle.placed_shards.proofs.TablesInARow.{tables_lose_no_record}
+use Rattle.placed_shards.proofs.ConsecutiveTables.{tables_lose_no_record}
 
 -- each input of a merge was opened
 leaf : (selection : Selection) (inputs : List (List ℕ)) (made : Content) → IsMergeOf selection inputs made → (x : List ℕ) → Contains inputs x → (c : Content) × OpensSelected selection x c

@@ -15,7 +15,7 @@ use Rattle.xet_core_structures.specs.Records.ByteUnion.{mixed_file, IsEitherFile
 use Rattle.xet_core_structures.specs.Records.RecordPairs.{rows_in}
 use Rattle.xet_core_structures.proofs.TwoShards.Mixing.{mixed_stored}
 use Rattle.xet_core_structures.proofs.TwoShards.Readable.{handed_twice, mixed_readable}
-use Rattle.placed_shards.specs.Steps.Sets.{MakesNone, MakesRecord}
+use Rattle.placed_shards.specs.Steps.SetsSteps.{MakesNone, MakesRecord}
 
 -- what is behind the front of bytes
 drop_front : (xs ys : List ℕ) (n : ℕ) → length xs ≡ n → drop n (xs ++ ys) ≡ ys

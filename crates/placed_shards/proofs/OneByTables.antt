@@ -22,7 +22,7 @@ use Rattle.placed_shards.specs.declared.range.HashRange.{HashRange}
 use Rattle.placed_shards.specs.ByTables.{HasInRows, HasByTable, OpensByTables}
 use Rattle.placed_shards.specs.Content.{Content}
 use Rattle.placed_shards.specs.Steps.InRows.{RowsFollow}
-use Rattle.placed_shards.specs.Tables.{first_row, end_row, file_table, xorb_table, last_file_row, last_xorb_row}
+use Rattle.placed_shards.specs.RangeRows.{first_row, end_row, file_table, xorb_table, last_file_row, last_xorb_row}
 use Rattle.placed_shards.proofs.InRows.{one_taken, rows_follow}
 
 module _ {H R : Type 0} (K : RecordKind H R) (laws : KindLaws K) (range : HashRange) where

@@ -18,7 +18,7 @@ use Rattle.placed_shards.specs.Content.{AscendBoth, Content, content}
 use Rattle.placed_shards.specs.Findings.{AreOpened, FirstRefusal, HasFormedRecords, HasMalformed, IsFirstMalformed}
 use Rattle.placed_shards.specs.Selections.{OpensBy, OpensSelected, OpensWithin, RefusalBy, SelectedRefusal}
 use Rattle.placed_shards.specs.Steps.Differing.{IsReadInOrder}
-use Rattle.placed_shards.specs.Steps.Merging.{IsOpenedAlone}
+use Rattle.placed_shards.specs.Steps.MergingSteps.{IsOpenedAlone}
 use Rattle.placed_shards.proofs.Items.{split_at_item, taken_more}
 use Rattle.placed_shards.proofs.Selections.{selected}
 

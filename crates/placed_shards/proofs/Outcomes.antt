@@ -9,4 +9,3 @@ pub if_written : {Z : Type 0} (A B : List ℕ → Type 0) (R S : CoreError → T
     → MatchResult r (λ written. A written.items) R → MatchResult r (λ written. B written.items) S
 if_written A B R S (Ok written) made refused is = made written.items is
 if_written A B R S (Err e) made refused is = refused e is
-

@@ -41,7 +41,7 @@ use Rattle.placed_shards.specs.ByTables.{HasByTable, OpensByTables, IsTableOf, H
 use Rattle.placed_shards.specs.Content.{Content, content_within, with_all_tables}
 use Rattle.placed_shards.specs.Opening.{Opens}
 use Rattle.placed_shards.specs.Ranges.{is_from, is_before, is_within, records_passing}
-use Rattle.placed_shards.specs.Tables.{bisection, word_in, row_in, row_from, first_row, end_row, file_table, xorb_table, last_file_row, last_xorb_row}
+use Rattle.placed_shards.specs.RangeRows.{bisection, word_in, row_in, row_from, first_row, end_row, file_table, xorb_table, last_file_row, last_xorb_row}
 use Rattle.placed_shards.proofs.HashRanges.{is_less, hash_cmp-reverse, below_through, not_below_through, not_true}
 use Rattle.placed_shards.proofs.RangeLists.{those_between, second_is_not}
 use Rattle.placed_shards.proofs.Items.{all_behind}

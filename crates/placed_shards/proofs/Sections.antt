@@ -16,7 +16,7 @@ use Rattle.xet_shards.specs.Export.KeyedExport.{BadSection}
 use Rattle.xet_shards.specs.Read.SectionReading.{HoldsRecords, IsSection}
 use Rattle.xet_shards.specs.Read.SectionReading.SectionCase.{not_read, passes_limit}
 use Rattle.xet_shards.specs.Write.Section.{total_rows}
-use Rattle.placed_shards.specs.Sections.{TakesRecord, StopsBefore}
+use Rattle.placed_shards.specs.TakenRecords.{TakesRecord, StopsBefore}
 
 module _ {H R : Type 0} (K : RecordKind H R) where
   -- records were taken from the front of bytes, and their rows counted down from 4294967295

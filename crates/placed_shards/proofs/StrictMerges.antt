@@ -11,11 +11,11 @@ use Rattle.placed_shards.specs.declared.selection.Selection.{Selection}
 use Rattle.placed_shards.specs.Agreement.{IsAgreedFile, IsAgreedXorb}
 use Rattle.placed_shards.specs.Content.{Content, content}
 use Rattle.placed_shards.specs.Findings.{AgreeInAll, AreOpened, HasFormedRecords}
-use Rattle.placed_shards.specs.Merging.{AreHalves}
-use Rattle.placed_shards.specs.Merging.IsMergeOf.{of_one, of_halves}
-use Rattle.placed_shards.specs.Merging.MergeRefusal.{not_read, of_first, of_second, of_union}
+use Rattle.placed_shards.specs.MergedLists.{AreHalves}
+use Rattle.placed_shards.specs.MergedLists.IsMergeOf.{of_one, of_halves}
+use Rattle.placed_shards.specs.MergedLists.MergeRefusal.{not_read, of_first, of_second, of_union}
 use Rattle.placed_shards.specs.Selections.{OpensSelected, SelectedRefusal}
-use Rattle.placed_shards.specs.Steps.Merging.{IsMerged, IsOpenedAlone, NotMerged, StandsFor}
+use Rattle.placed_shards.specs.Steps.MergingSteps.{IsMerged, IsOpenedAlone, NotMerged, StandsFor}
 use Rattle.placed_shards.specs.Strict.{AreAgreeing}
 use Rattle.placed_shards.specs.Unions.{Unites, Refuses, IsUnionOf, UnionRefusal}
 use Rattle.placed_shards.proofs.AgreedUnions.{agreed_with, as_refusal, as_union, both_agree, itself, turned}

@@ -13,8 +13,8 @@ use Rattle.xet_shards.specs.Write.Section.{total_rows}
 use Rattle.xet_core_structures.specs.Records.RecordPairs.{key_of_record, Combines}
 use Rattle.xet_core_structures.proofs.Records.RecordPairs.{ComesLater, HasHash, IsUnder, AreCombinedBefore, combined_start, next_passed, combined_on}
 use Rattle.placed_shards.specs.Sets.{IsLeft}
-use Rattle.placed_shards.specs.Steps.Sets.{IsBefore, Passes}
-use Rattle.placed_shards.specs.Steps.Sets.Passes.{passes_first, passes_second, passes_both}
+use Rattle.placed_shards.specs.Steps.SetsSteps.{IsBefore, Passes}
+use Rattle.placed_shards.specs.Steps.SetsSteps.Passes.{passes_first, passes_second, passes_both}
 use Rattle.placed_shards.proofs.Uniting.{next_header, after_first, ascends_rest, is_later, later_from, key_read, left_at, none_left, before_none, before_first}
 
 module _ {H R : Type 0} (K : RecordKind H R) where

@@ -11,7 +11,7 @@ use Rattle.xet_shards.specs.declared.shard_format.ends.options.LayoutOptions.{La
 use Rattle.xet_core_structures.specs.TwoShards.ByteResults.{keyed_options}
 use Rattle.placed_shards.specs.declared.placed_shard.PlacedShard.{PlacedShard}
 use Rattle.placed_shards.specs.Content.{content}
-use Rattle.placed_shards.specs.Records.{files_as}
+use Rattle.placed_shards.specs.StoredFiles.{files_as}
 use Rattle.placed_shards.specs.Sets.{CombinesToSection}
 use Rattle.placed_shards.specs.Unions.{Unites, Refuses}
 

@@ -22,8 +22,8 @@ use Rattle.xet_core_structures.proofs.Records.ListMaps.{list_map, get-list_map, 
 use Rattle.xet_core_structures.proofs.Records.RecordPairs.{ComesLater, HasHash, AreCombinedBefore, combined_start, next_passed, combined_on, less-not_equal}
 use Rattle.placed_shards.proofs.Turns.{drop_first}
 use Rattle.placed_shards.specs.Sets.{CombinesToSection}
-use Rattle.placed_shards.specs.Steps.Sets.{CountsRows, IsBefore, MakesRecord, MakesNone, KeepsNext, KeepsNone}
-use Rattle.placed_shards.specs.Steps.Sets.KeepsNext.{takes_first, takes_second, takes_both}
+use Rattle.placed_shards.specs.Steps.SetsSteps.{CountsRows, IsBefore, MakesRecord, MakesNone, KeepsNext, KeepsNone}
+use Rattle.placed_shards.specs.Steps.SetsSteps.KeepsNext.{takes_first, takes_second, takes_both}
 
 -- the header of the first of a list, if there is one
 abbrev pub next_header : {H R : Type 0} → RecordKind H R → List R → Option H

@@ -21,7 +21,7 @@ use Rattle.xet_shards.proofs.Content.Unions.{same_shard}
 use Rattle.xet_shards.proofs.ShardInMemory.FileUnions.{holds_in_map}
 use Rattle.xet_shards.proofs.ShardInMemory.Sums.{all_of_map, sub-sum}
 use Rattle.xet_core_structures.specs.Records.RecordPairs.{key_of_record, with_hash}
-use Rattle.placed_shards.specs.Merging.{IsRestriction, IsPartOf}
+use Rattle.placed_shards.specs.MergedLists.{IsRestriction, IsPartOf}
 use Rattle.placed_shards.specs.Ranges.{records_passing}
 use Rattle.xet_core_structures.specs.Steps.ByteResultsSteps.{Records}
 use Rattle.xet_core_structures.proofs.Records.ListMaps.{list_map, get-list_map, shard_of}

@@ -16,7 +16,7 @@ use Rattle.xet_shards.proofs.Write.Layouts.{length-file_section, length-shard_he
 use Rattle.xet_shards.proofs.Write.Written.{bytes_of_table}
 use Rattle.placed_shards.specs.ByTables.{HasOwnTables}
 use Rattle.placed_shards.specs.Content.{Content, content_layout, options_in}
-use Rattle.placed_shards.specs.Tables.{file_table, xorb_table, last_file_row, last_xorb_row, last_row}
+use Rattle.placed_shards.specs.RangeRows.{file_table, xorb_table, last_file_row, last_xorb_row, last_row}
 
 -- where a section ends
 rows_between : (start end rows : ℕ) → end ≡ start + (48 * rows + 48) → rows ≤ 4294967295 → last_row start end ≡ rows

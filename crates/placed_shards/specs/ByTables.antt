@@ -21,7 +21,7 @@ use Rattle.xet_core_structures.specs.TwoShards.ByteResults.{keyed_options, key_o
 use Rattle.placed_shards.specs.declared.range.HashRange.{HashRange}
 use Rattle.placed_shards.specs.Content.{Content}
 use Rattle.placed_shards.specs.Ranges.{is_from, is_within}
-use Rattle.placed_shards.specs.Tables.{first_row, end_row, file_table, xorb_table, last_file_row, last_xorb_row}
+use Rattle.placed_shards.specs.RangeRows.{first_row, end_row, file_table, xorb_table, last_file_row, last_xorb_row}
 
 module _ {H R : Type 0} (K : RecordKind H R) (range : HashRange) (section : List ℕ) where
   -- a section has these records of a range, as reading returns them, in its rows from `first` on

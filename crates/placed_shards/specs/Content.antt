@@ -14,7 +14,7 @@ use Rattle.xet_core_structures.specs.TwoShards.ByteResults.{keyed_options}
 use Rattle.placed_shards.specs.declared.placed_shard.PlacedShard.{PlacedShard}
 use Rattle.placed_shards.specs.declared.range.HashRange.{HashRange}
 use Rattle.placed_shards.specs.Ranges.{is_within, records_passing}
-use Rattle.placed_shards.specs.Records.{files_as}
+use Rattle.placed_shards.specs.StoredFiles.{files_as}
 
 -- the records of a shard, as they will be written, and the options of its layout
 pub record Content : Type 0 where

@@ -2,5 +2,5 @@ pub mod Differing
 pub mod InRows
 pub mod Malformed
 pub mod Marks
-pub mod Merging
-pub mod Sets
+pub mod MergingSteps
+pub mod SetsSteps

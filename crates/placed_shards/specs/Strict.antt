@@ -8,7 +8,7 @@ use Rattle.placed_shards.specs.declared.strict.Agreed.{Agreed}
 use Rattle.placed_shards.specs.declared.strict.Agreed.TheVariants.{Made, Disagreements, Malformed}
 use Rattle.placed_shards.specs.Content.{Content}
 use Rattle.placed_shards.specs.Findings.{AgreeInAll, AreOpened, HasFormedRecords, HasAllDisagreements, FirstRefusal, IsFirstMalformed}
-use Rattle.placed_shards.specs.Merging.{IsMergeOf, IsMergeOfList, shard_content}
+use Rattle.placed_shards.specs.MergedLists.{IsMergeOf, IsMergeOfList, shard_content}
 
 -- of byte strings the records that are selected are well-formed, and those of each two agree
 pub record AreAgreeing (selection : Selection) (inputs : List (List ℕ)) : Type 0 where

@@ -11,7 +11,7 @@ ghost use Rattle.placed_shards.specs.Anew.{HasInstead};
 
 use crate::keys::all_keyed;
 use crate::marks::all_marked;
-use crate::parts::all_with_parts;
+use crate::optional_parts::all_with_parts;
 use crate::placed_record::PlacedRecord;
 use crate::placed_shard::PlacedShard;
 use crate::placed_xorb::PlacedXorb;

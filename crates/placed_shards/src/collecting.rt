@@ -8,7 +8,7 @@ ghost use Rattle.xet_records.specs.XorbRecord.{xorb_records};
 ghost use Rattle.xet_shards.specs.Read.PlacedRecord.{StoresRecord};
 ghost use Rattle.xet_shards.specs.Write.Section.{total_rows};
 ghost use Rattle.xet_shards.specs.Write.Written.{HasWritten, HasWrittenFor};
-ghost use Rattle.placed_shards.specs.Records.{files_as};
+ghost use Rattle.placed_shards.specs.StoredFiles.{files_as};
 
 use crate::placed_file::PlacedFile;
 use crate::placed_record::PlacedRecord;

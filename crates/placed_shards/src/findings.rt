@@ -7,7 +7,7 @@ ghost use Rattle.xet_base.specs.declared.error.CoreError.TheVariants.{OutOfMemor
 ghost use Rattle.placed_shards.specs.Content.{Content, content, AscendBoth};
 ghost use Rattle.placed_shards.specs.Findings.{AreOpened, FirstRefusal, HasAllDisagreements, HasFormedRecords, HasMalformed, IsFirstMalformed};
 ghost use Rattle.placed_shards.specs.Steps.Differing.{disagreement_of, IsReadInOrder};
-ghost use Rattle.placed_shards.specs.Steps.Merging.{IsOpenedAlone};
+ghost use Rattle.placed_shards.specs.Steps.MergingSteps.{IsOpenedAlone};
 
 use crate::agreement::Agreement;
 use crate::differing::{Differing, find_differing};

@@ -16,7 +16,7 @@ ghost use Rattle.placed_shards.specs.Opening.{Opens};
 ghost use Rattle.placed_shards.specs.Ranges.{ranges_between, AreCuts};
 
 pub mod merges;
-pub mod parts;
+pub mod range_parts;
 pub mod ranges;
 pub mod unions;
 pub mod written;

@@ -22,7 +22,7 @@ mod next_record;
 pub mod of_agreeing;
 pub mod of_union;
 pub mod open;
-mod parts;
+mod optional_parts;
 pub mod placed_file;
 pub mod placed_record;
 pub mod placed_shard;

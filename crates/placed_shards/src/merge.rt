@@ -9,10 +9,10 @@ ghost use Rattle.xet_shards.specs.Content.Shard.{Shard};
 ghost use Rattle.xet_core_structures.specs.Trees.MergeTrees.{MergeRefused};
 ghost use Rattle.placed_shards.specs.Content.{Content, content, content_layout};
 ghost use Rattle.placed_shards.specs.Findings.{HasFormedRecords};
-ghost use Rattle.placed_shards.specs.Merging.{IsMergeOf, MergeRefusal, IsMergeOfList, shard_content};
+ghost use Rattle.placed_shards.specs.MergedLists.{IsMergeOf, MergeRefusal, IsMergeOfList, shard_content};
 ghost use Rattle.placed_shards.specs.Selections.{OpensSelected, SelectedRefusal};
-ghost use Rattle.placed_shards.specs.Sizes.{IsResultSize};
-ghost use Rattle.placed_shards.specs.Steps.Merging.{IsMerged, IsOpenedAlone, NotMerged};
+ghost use Rattle.placed_shards.specs.MergeSizes.{IsResultSize};
+ghost use Rattle.placed_shards.specs.Steps.MergingSteps.{IsMerged, IsOpenedAlone, NotMerged};
 
 use crate::by_tables::open_by_tables;
 use crate::findings::malformed_in;

@@ -5,7 +5,7 @@ ghost use Rattle.xet_base.specs.Errors.{IsEndOfInput, IsBareInvalidShard};
 ghost use Rattle.xet_records.specs.Limits.{MAX_ROWS};
 ghost use Rattle.xet_records.specs.Reading.{BeginsWithBookend};
 ghost use Rattle.xet_records.specs.RecordKind.{in_version};
-ghost use Rattle.placed_shards.specs.Sections.{TakesRecord, StopsBefore};
+ghost use Rattle.placed_shards.specs.TakenRecords.{TakesRecord, StopsBefore};
 
 use crate::placed_record::PlacedRecord;
 use std::alloc::Global;

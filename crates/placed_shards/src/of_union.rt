@@ -8,7 +8,7 @@ ghost use Rattle.xet_records.specs.declared.xorb_structs.MDBXorbInfo.{MDBXorbInf
 ghost use Rattle.xet_records.specs.FileRecord.{as_read, file_record_bytes, file_records};
 ghost use Rattle.xet_records.specs.Merging.{IncludesBits};
 ghost use Rattle.xet_core_structures.specs.Records.ByteUnion.{IsEitherFile, IsEitherXorb, mixed_file};
-ghost use Rattle.placed_shards.specs.Steps.Sets.{MakesNone, MakesRecord};
+ghost use Rattle.placed_shards.specs.Steps.SetsSteps.{MakesNone, MakesRecord};
 
 use crate::placed_file::PlacedFile;
 use crate::placed_record::PlacedRecord;

@@ -8,7 +8,7 @@ ghost use Rattle.xet_records.specs.XorbRecord.{xorb_records};
 ghost use Rattle.xet_shards.specs.Write.Layout.{header_value, shard_header_bytes};
 ghost use Rattle.xet_shards.specs.Write.Puts.{Puts};
 ghost use Rattle.xet_shards.specs.Write.Section.{section_bytes, total_rows};
-ghost use Rattle.placed_shards.specs.Records.{file_as, files_as};
+ghost use Rattle.placed_shards.specs.StoredFiles.{file_as, files_as};
 
 use crate::placed_file::PlacedFile;
 use crate::placed_record::PlacedRecord;

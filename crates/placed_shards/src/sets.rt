@@ -13,7 +13,7 @@ ghost use Rattle.xet_shards.specs.Write.Section.{total_rows};
 ghost use Rattle.xet_shards.specs.Write.WithOptions.{Ascends};
 ghost use Rattle.xet_core_structures.specs.Records.RecordPairs.{key_of_record, Combines};
 ghost use Rattle.placed_shards.specs.Sets.{CombinesToSection, IsLeft};
-ghost use Rattle.placed_shards.specs.Steps.Sets.{CountsRows, IsPass, IsTurn, MakesNone, MakesRecord};
+ghost use Rattle.placed_shards.specs.Steps.SetsSteps.{CountsRows, IsPass, IsTurn, MakesNone, MakesRecord};
 
 use crate::placed_record::{PlacedRecord, all_stored};
 use bumpalo::Bump;

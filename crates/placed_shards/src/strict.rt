@@ -2,7 +2,7 @@
 
 ghost use Rattle.std.specs.Prelude.{◌≡◌, List, map, true, MatchResult};
 ghost use Rattle.placed_shards.specs.Content.{content};
-ghost use Rattle.placed_shards.specs.Merging.{MergeRefusal};
+ghost use Rattle.placed_shards.specs.MergedLists.{MergeRefusal};
 ghost use Rattle.placed_shards.specs.Strict.{AreAgreeing, IsAgreedOr, AgreedRefusal, IsJoinedMerge};
 
 use crate::findings::{Disagreement, MalformedRecord, find_disagreements, find_malformed};

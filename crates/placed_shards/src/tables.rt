@@ -4,7 +4,7 @@
 //! ranges that follow one another have rows that follow one another, whatever the table is.
 
 ghost use Rattle.std.specs.Prelude.{◌≡◌, ◌+◌, ◌*◌, ◌≤◌, length};
-ghost use Rattle.placed_shards.specs.Tables.{first_row, end_row, row_from, word_in, row_in, table_rows, last_row, file_table, xorb_table, last_file_row, last_xorb_row};
+ghost use Rattle.placed_shards.specs.RangeRows.{first_row, end_row, row_from, word_in, row_in, table_rows, last_row, file_table, xorb_table, last_file_row, last_xorb_row};
 
 use xet_base::fields::{split_u32, split_u64};
 use xet_base::merklehash::MerkleHash;

@@ -2,7 +2,7 @@
 use Rattle.std.proofs.Common.{ℕ, List, length, sym, subst}
 use Rattle.xet_core_structures.specs.declared.record_reader.FormatVersion.{FormatVersion}
 use Rattle.placed_shards.specs.declared.selection.Selection.{Selection}
-use Rattle.placed_shards.specs.Sizes.{IsResultSize}
+use Rattle.placed_shards.specs.MergeSizes.{IsResultSize}
 use Rattle.placed_shards.specs.Strict.{IsJoinedMerge}
 use Rattle.placed_shards.proofs.MergeSizes.{size_of_merge}
 use Rattle.shard_bytes.specs.Versions.{IsWrittenIn}

@@ -47,7 +47,7 @@ use Rattle.shard_bytes.specs.declared.check.Part.TheVariants.{Header, FileSectio
 use Rattle.shard_bytes.specs.declared.check.Finding.{Finding}
 use Rattle.shard_bytes.specs.declared.check.Finding.TheVariants.{Unsupported, TooShort, Cut, Refused, OutOfOrder, Malformed, Differs, Reordered, Size}
 use Rattle.shard_bytes.specs.Checking.{IsContent, IsWhole, IsIntact, IsReadAs, IsOutOfOrder, IsMalformedAt, IsSamePart, IsAlikePart, IsFinding, IsNote}
-use Rattle.shard_bytes.specs.Steps.Checking.{IsReport, Adds, AddsFaults, IsUnreadable, AddsDisorder, AddsMalformed, AddsPart, AddsTable, AddsSize, IsDifference, IsSame, IsAlike, Compares, AddsDifferences}
+use Rattle.shard_bytes.specs.Steps.CheckingSteps.{IsReport, Adds, AddsFaults, IsUnreadable, AddsDisorder, AddsMalformed, AddsPart, AddsTable, AddsSize, IsDifference, IsSame, IsAlike, Compares, AddsDifferences}
 
 -- what is known of a success, weakened
 pub OnOk-weaker : {T E : Type 0} (r : Result T E) (P Q : Type 0) → (P → Q) → OnOk r P → OnOk r Q

@@ -31,8 +31,8 @@ use Rattle.placed_shards.specs.Unions.{Unites}
 use Rattle.shard_bytes.specs.declared.combine.Operation.{Operation}
 use Rattle.shard_bytes.specs.declared.combine.Operation.TheVariants.{Union, Difference}
 use Rattle.shard_bytes.specs.Combining.{IsResultOf, RefusalOf, CombinesTo, RefusesCombining}
-use Rattle.placed_shards.specs.Sizes.{IsResultSize}
-use Rattle.shard_bytes.specs.Sizes.{sources_of}
+use Rattle.placed_shards.specs.MergeSizes.{IsResultSize}
+use Rattle.shard_bytes.specs.ResultSizes.{sources_of}
 use Rattle.shard_bytes.specs.Versions.{IsWrittenIn}
 
 -- what an operation makes of two shards that were opened

@@ -24,7 +24,7 @@ use Rattle.xet_shards.proofs.Write.Sections.{fits_ever}
 use Rattle.placed_shards.specs.Content.{Content, content_layout}
 use Rattle.shard_bytes.specs.Completing.{Completes, RefusesCompletion}
 use Rattle.shard_bytes.specs.Exporting.{FollowsHeader}
-use Rattle.shard_bytes.specs.Sizes.{IsRewriteSize}
+use Rattle.shard_bytes.specs.ResultSizes.{IsRewriteSize}
 use Rattle.shard_bytes.proofs.RewriteSizes.{size_of_version}
 use Rattle.shard_bytes.proofs.ExportedShards.{stored_files, stored_xorbs, sections, only_memory}
 

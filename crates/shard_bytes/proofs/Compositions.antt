@@ -14,7 +14,7 @@ use Rattle.xet_records.specs.View.{without_verification}
 use Rattle.xet_shards.specs.declared.shard_writer.LayoutOptions.{LayoutOptions}
 use Rattle.xet_shards.specs.Read.SectionsBehindHeader.{HasSections}
 use Rattle.placed_shards.specs.Anew.{HasInstead}
-use Rattle.placed_shards.specs.Records.{files_as}
+use Rattle.placed_shards.specs.StoredFiles.{files_as}
 use Rattle.placed_shards.specs.declared.placed_shard.PlacedShard.{PlacedShard}
 use Rattle.xet_core_structures.specs.declared.error.CoreError.TheVariants.{InvalidArguments, OutOfMemory}
 use Rattle.xet_core_structures.specs.FileRecord.{file_records}
@@ -24,7 +24,7 @@ use Rattle.xet_records.specs.declared.record_reader.FormatVersion.TheVariants.{V
 use Rattle.placed_shards.specs.Content.{Content, content, HasFilesIn, content_layout}
 use Rattle.shard_bytes.specs.declared.export.Export.{Export}
 use Rattle.shard_bytes.specs.Exporting.{ExportsBytes, IsExportOf, exported_content, options_of_export}
-use Rattle.shard_bytes.specs.Sizes.{IsRewriteSize}
+use Rattle.shard_bytes.specs.ResultSizes.{IsRewriteSize}
 use Rattle.shard_bytes.specs.Versions.{AreMadeIn3, LaidOutIn, NotLaidOutIn, IsWrittenIn, NotWrittenIn, IsInVersion}
 use Rattle.shard_bytes.proofs.ExportedShards.{export_in_3}
 use Rattle.shard_bytes.proofs.RewriteSizes.{size_of_version}

@@ -10,7 +10,7 @@ use Rattle.xet_base.specs.Bytes.{u64_from_bytes}
 use Rattle.xet_base.proofs.Search.Tables.{hits_below-hit, hits_below-miss, offset_of_row-next, offset_of_row-le}
 use Rattle.xet_core_structures.specs.Lookup.{AreHits, Collides, IndexFinds, IsRowNumber}
 use Rattle.xet_core_structures.specs.Table.{Table, offset_of_row, row_offset, key_at, value_at, HasKey, IsSorted, hits, hits_below, Hit, IsHit, OtherRow, Finds, FitsTable}
-use Rattle.shard_bytes.specs.Parts.{table_of}
+use Rattle.shard_bytes.specs.PartLookups.{table_of}
 use Rattle.shard_bytes.specs.RangeReads.{HasRowsWith, IsPart, rows_in}
 
 -- the same value, of a row that comes after so many others

@@ -17,7 +17,7 @@ use Rattle.xet_shards.specs.Lookup.WrittenChunks.{RowsAmong}
 use Rattle.xet_shards.specs.declared.shard_format.ends.options.LayoutOptions.{LayoutOptions}
 use Rattle.xet_shards.proofs.Lookup.ChunkTables.{chunk_index_written}
 use Rattle.xet_shards.proofs.Lookup.TableLookups.{IsLookedUp, index_written}
-use Rattle.shard_bytes.specs.Parts.{CollidesAmong, FindsPlaces, FindsRowsIn, RefusesPlaces, RefusesTableRows}
+use Rattle.shard_bytes.specs.PartLookups.{CollidesAmong, FindsPlaces, FindsRowsIn, RefusesPlaces, RefusesTableRows}
 use Rattle.shard_bytes.specs.RangeReads.{HasRowsWith, chunk_table_in}
 use Rattle.shard_bytes.proofs.CutOut.{collides_of, places_of, rows_of, same_hits, sorted_part}
 use Rattle.shard_bytes.proofs.Reading.{source_of}

@@ -4,7 +4,7 @@ use Rattle.std.proofs.Math.Seq.{drop-length}
 use Rattle.std.proofs.lemmas.List.{drop-append-le, length-append, length-drop, length-take-le, take-append-le, take_all}
 use Rattle.xet_core_structures.specs.declared.shard_format.MDBShardInfo.{MDBShardInfo}
 use Rattle.xet_core_structures.specs.Ends.{HasHeaderAndFooter, last_bytes}
-use Rattle.shard_bytes.specs.Parts.{ends_of}
+use Rattle.shard_bytes.specs.PartLookups.{ends_of}
 
 module _ (bytes : List ℕ) (enough : 200 ≤ length bytes) where
   front_size : length (take 48 bytes) ≡ 48

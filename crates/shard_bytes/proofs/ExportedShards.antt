@@ -50,7 +50,7 @@ use Rattle.xet_shards.proofs.Read.WholeSections.{layout_ends, files_not_cut, fil
 use Rattle.xet_shards.proofs.Write.Sections.{fits_ever}
 use Rattle.shard_bytes.specs.declared.export.Export.{Export}
 use Rattle.shard_bytes.specs.Exporting.{ExportsBytes, FollowsHeader, HoldsExport, RefusesExport, exported_shard, shard_with_files_if}
-use Rattle.shard_bytes.specs.Sizes.{IsRewriteSize}
+use Rattle.shard_bytes.specs.ResultSizes.{IsRewriteSize}
 use Rattle.shard_bytes.proofs.Checking.{header_in}
 use Rattle.shard_bytes.proofs.Walks.{not_refused}
 use Rattle.shard_bytes.proofs.RewriteSizes.{size_of_export}

@@ -6,7 +6,7 @@ use Rattle.xet_core_structures.specs.Lookup.{AreStarts, StartsAmong}
 use Rattle.xet_records.specs.RecordKind.{RecordKind}
 use Rattle.xet_shards.specs.Lookup.WrittenChunks.{RowsAmong}
 use Rattle.xet_shards.specs.declared.shard_format.write.xorb_writer.ChunkTableRow.{ChunkTableRow}
-use Rattle.shard_bytes.specs.Parts.{AreStartsWith, ArePlacesAmong}
+use Rattle.shard_bytes.specs.PartLookups.{AreStartsWith, ArePlacesAmong}
 
 pub starts_taken : {H R : Type 0} (K : RecordKind H R) (records : List R) (word count : ℕ) (rows items : List ℕ) → StartsAmong K records word rows count → count ≤ length rows → items ≡ take count rows
     → AreStartsWith K records word items

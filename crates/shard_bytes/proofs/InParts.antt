@@ -18,7 +18,7 @@ use Rattle.xet_core_structures.specs.XorbRecord.{xorb_records}
 use Rattle.xet_records.specs.RecordKind.{RecordKind}
 use Rattle.xet_records.proofs.RecordKinds.{version_known}
 use Rattle.xet_records.specs.declared.record_reader.FormatVersion.{FormatVersion}
-use Rattle.shard_bytes.specs.Parts.{table_of, FindsPlaces, FindsRowsIn, HasFileIn, RefusesFileIn, HasXorbIn, RefusesXorbIn, RefusesPlaces, RefusesTableRows}
+use Rattle.shard_bytes.specs.PartLookups.{table_of, FindsPlaces, FindsRowsIn, HasFileIn, RefusesFileIn, HasXorbIn, RefusesXorbIn, RefusesPlaces, RefusesTableRows}
 use Rattle.shard_bytes.specs.Walking.{HasFileAt, HasXorbAt, IsAtRow, NotAtRow}
 
 -- what is read as of a version is read as of its number

@@ -13,7 +13,7 @@ pub mod ExportedShards
 pub mod Formats
 pub mod Fronts
 pub mod GivenRecords
-pub mod InARow
+pub mod Concatenations
 pub mod InVersions
 pub mod Inserting
 pub mod InParts

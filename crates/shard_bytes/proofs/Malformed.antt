@@ -21,7 +21,7 @@ use Rattle.shard_bytes.specs.declared.check.Section.{Section}
 use Rattle.shard_bytes.specs.declared.check.Finding.{Finding}
 use Rattle.shard_bytes.specs.declared.check.Finding.TheVariants.{Malformed}
 use Rattle.shard_bytes.specs.Checking.{IsMalformedAt}
-use Rattle.shard_bytes.specs.Steps.Checking.{AddsFaults, AddsMalformed}
+use Rattle.shard_bytes.specs.Steps.CheckingSteps.{AddsFaults, AddsMalformed}
 use Rattle.shard_bytes.proofs.Checking.{adds_as, adds_well, adds_then, adds_none, adds_if}
 
 -- what is added of the first records of a list

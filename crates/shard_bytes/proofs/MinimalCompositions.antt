@@ -19,7 +19,7 @@ use Rattle.xet_shards.specs.Read.SectionsBehindHeader.{HasSections}
 use Rattle.xet_shards.proofs.StreamingShard.MinimalReading.{none_fit}
 use Rattle.placed_shards.specs.Anew.{HasInstead}
 use Rattle.placed_shards.specs.Content.{Content, content, content_layout, HasFilesIn}
-use Rattle.placed_shards.specs.Records.{files_as}
+use Rattle.placed_shards.specs.StoredFiles.{files_as}
 use Rattle.placed_shards.specs.declared.placed_shard.PlacedShard.{PlacedShard}
 use Rattle.shard_bytes.specs.Minimal.{Keeps, MinimalBytes, IsMinimalOf, SubsetBytes, IsSubsetOf}
 use Rattle.shard_bytes.specs.declared.minimal.KeptXorbs.{KeptXorbs}

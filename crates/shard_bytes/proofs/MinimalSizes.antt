@@ -21,7 +21,7 @@ use Rattle.xet_shards.proofs.StreamingShard.MinimalWriting.{rows_marked, rows_ke
 use Rattle.xet_shards.proofs.Write.XorbLayouts.{length-with_options}
 use Rattle.shard_bytes.specs.declared.minimal.Subset.{Subset}
 use Rattle.shard_bytes.specs.Minimal.{HasRecordsOf, Keeps, MinimalBytes, SubsetBytes}
-use Rattle.shard_bytes.specs.Sizes.{IsMinimalSize}
+use Rattle.shard_bytes.specs.ResultSizes.{IsMinimalSize}
 use Rattle.shard_bytes.proofs.RewriteSizes.{rows_there, files_fit}
 
 -- a file keeps its hash, and fits its header, with the parts that are kept

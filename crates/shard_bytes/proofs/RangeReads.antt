@@ -20,7 +20,7 @@ use Rattle.xet_shards.specs.Read.SectionReading.{MayRead}
 use Rattle.xet_shards.specs.Write.Tables.{hash_in}
 use Rattle.xet_shards.proofs.Lookup.Lookups.{rows_in_front}
 use Rattle.xet_core_structures.specs.XorbRecord.{xorb_records}
-use Rattle.shard_bytes.specs.Parts.{FindsRowsIn, RefusesTableRows}
+use Rattle.shard_bytes.specs.PartLookups.{FindsRowsIn, RefusesTableRows}
 use Rattle.shard_bytes.specs.Query.{AnswersQueryAt}
 use Rattle.shard_bytes.specs.RangeReads.{AnswersAtPlaces, AnswersAtRows, HasRowsWith, QueriesInParts, chunk_table_in}
 use Rattle.shard_bytes.specs.Walking.{IsAtRow, WithEnds}

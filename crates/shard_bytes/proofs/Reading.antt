@@ -12,7 +12,7 @@ use Rattle.xet_core_structures.specs.XorbRecord.{xorb_records}
 use Rattle.shard_bytes.specs.declared.check.Section.TheVariants.{Files, Xorbs}
 use Rattle.shard_bytes.specs.declared.check.Finding.{Finding}
 use Rattle.shard_bytes.specs.declared.check.Finding.TheVariants.{Unsupported, TooShort}
-use Rattle.shard_bytes.specs.Steps.Checking.{IsReport, IsUnloaded, IsUnreadable}
+use Rattle.shard_bytes.specs.Steps.CheckingSteps.{IsReport, IsUnloaded, IsUnreadable}
 use Rattle.shard_bytes.proofs.Checking.{header_in, one_finding, unread_reported}
 use Rattle.shard_bytes.proofs.Exclusive.{only_unsupported, only_too_short, only_cut_files, only_refused_files, only_cut_xorbs, only_refused_xorbs}
 

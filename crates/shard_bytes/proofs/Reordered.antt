@@ -36,7 +36,7 @@ use Rattle.xet_shards.proofs.Write.Layouts.{length-shard_header_bytes}
 use Rattle.xet_shards.proofs.Write.TableOrder.{chunk_table-sorted}
 use Rattle.xet_shards.proofs.Write.WrittenTables.{triple_injective, chunk_table_fits}
 use Rattle.shard_bytes.specs.Checking.{IsReordering, IsReorderedTable, WordsAscend, layout_with}
-use Rattle.shard_bytes.specs.Steps.Checking.{IsSortedOf, IsWritten, IsWrittenTable, ReadsRows}
+use Rattle.shard_bytes.specs.Steps.CheckingSteps.{IsSortedOf, IsWritten, IsWrittenTable, ReadsRows}
 
 -- the bytes of a row are 16, and determine it
 length-row : (row : ChunkTableRow) → length (chunk_table_row_bytes row) ≡ 16

@@ -23,7 +23,7 @@ use Rattle.xet_shards.proofs.Content.KeyedHashes.{keyed_total}
 use Rattle.xet_shards.proofs.ShardInMemory.Files.{length-le-rows}
 use Rattle.xet_shards.proofs.Write.Sections.{fits_ever}
 use Rattle.xet_shards.proofs.Write.XorbLayouts.{length-with_options, length-chunk_table, xorb_rows-chunks}
-use Rattle.shard_bytes.specs.Sizes.{IsRewriteSize}
+use Rattle.shard_bytes.specs.ResultSizes.{IsRewriteSize}
 
 -- bytes have at least 48 for each row of a section that they begin with, and for its bookend
 section_size : {H R : Type 0} (K : RecordKind H R) → KindLaws K → (bytes : List ℕ) (stored : List R) → IsSection K bytes stored → 48 * (total_rows K stored + 1) ≤ length bytes

@@ -4,7 +4,7 @@ use Rattle.std.specs.Prelude.{IfErr, IfOk, MatchResult}
 use Rattle.std.specs.declared.result.Result.{Result}
 use Rattle.xet_core_structures.specs.declared.error.CoreError.{CoreError}
 use Rattle.placed_shards.specs.Filling.{FillsWith}
-use Rattle.placed_shards.specs.Sizes.{IsResultSize}
+use Rattle.placed_shards.specs.MergeSizes.{IsResultSize}
 
 -- a fact on each value that is made is one on the result
 pub if_made : {T E : Type 0} (r : Result T E) (P Q : T → Type 0) (Refused : E → Type 0) → ((v : T) → P v → Q v) → MatchResult r P Refused → IfOk r Q

@@ -4,7 +4,7 @@ use Rattle.std.proofs.Math.Nat.{mul_comm, mul-div_cancel_left, mul-mod_right}
 use Rattle.std.proofs.lemmas.List.{length-append, length-drop}
 use Rattle.xet_base.proofs.Search.Tables.{offset_of_row-le, offset_of_row-next, offset_of_row-zero}
 use Rattle.xet_core_structures.specs.Table.{Table, offset_of_row, row_offset, key_at, HasKey, IsSorted}
-use Rattle.shard_bytes.specs.Parts.{IsCut, table_of}
+use Rattle.shard_bytes.specs.PartLookups.{IsCut, table_of}
 use Rattle.shard_bytes.specs.RangeReads.{HasRowsWith, IsAround, rows_in}
 use Rattle.shard_bytes.proofs.CutOut.{key_same, key_there}
 

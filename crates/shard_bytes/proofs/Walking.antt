@@ -15,7 +15,7 @@ use Rattle.xet_core_structures.specs.SectionReading.SectionCase.{not_read, passe
 use Rattle.xet_core_structures.specs.Source.ReadCase.{out_of_memory, out_of_bytes}
 use Rattle.xet_records.specs.RecordKind.{RecordKind}
 use Rattle.shard_bytes.specs.Walking.{IsAtRow, NotAtRow, WithEnds}
-use Rattle.shard_bytes.specs.Steps.Walking.{IsRead}
+use Rattle.shard_bytes.specs.Steps.WalkingSteps.{IsRead}
 
 module _ {H R : Type 0} (K : RecordKind H R) (bytes : List ℕ) (offset row : ℕ) (old new : MemorySource) (are : old.bytes.now ≡ bytes) where
   abbrev here : List ℕ → List ℕ

@@ -44,7 +44,7 @@ use Rattle.xet_shards.proofs.ShardInMemory.Files.{well_formed_values}
 use Rattle.xet_shards.proofs.ShardInMemory.Xorbs.{xorb_values}
 use Rattle.xet_shards.proofs.Write.Sections.{files_laws}
 use Rattle.xet_shards.proofs.Write.WithOptions.{no_file, no_xorb, files_in, files_of_shard, shard_with_options, xorbs_ascend, xorbs_in}
-use Rattle.shard_bytes.specs.Parts.{HasFileIn, HasXorbIn, RefusesFileIn, RefusesXorbIn}
+use Rattle.shard_bytes.specs.PartLookups.{HasFileIn, HasXorbIn, RefusesFileIn, RefusesXorbIn}
 use Rattle.shard_bytes.specs.RangeReads.{FindsFileInParts, FindsXorbInParts, QueriesInParts, chunk_table_in, file_table_in, xorb_table_in}
 use Rattle.shard_bytes.specs.Walking.{IsAtRow, NotAtRow}
 use Rattle.shard_bytes.proofs.CutTables.{starts_fit}

@@ -6,14 +6,14 @@ pub mod Expiry
 pub mod Exporting
 pub mod Finding
 pub mod Format
-pub mod InARow
+pub mod Concatenations
 pub mod Minimal
 pub mod Outcomes
-pub mod Parts
+pub mod PartLookups
 pub mod Query
 pub mod RangeReads
 pub mod Recording
-pub mod Sizes
+pub mod ResultSizes
 pub mod Steps
 pub mod Versions
 pub mod Walking

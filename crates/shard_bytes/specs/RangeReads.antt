@@ -9,7 +9,7 @@ use Rattle.xet_core_structures.specs.Lookup.{HasAt}
 use Rattle.xet_core_structures.specs.RunReading.{keyed_word}
 use Rattle.xet_core_structures.specs.Shard.{file_hash_of, xorb_hash_of}
 use Rattle.xet_core_structures.specs.Table.{Table, key_at, row_offset}
-use Rattle.shard_bytes.specs.Parts.{table_of, FindsPlaces, FindsRowsIn}
+use Rattle.shard_bytes.specs.PartLookups.{table_of, FindsPlaces, FindsRowsIn}
 use Rattle.shard_bytes.specs.Query.{AnswersQueryAt}
 use Rattle.shard_bytes.specs.Walking.{HasFileAt, HasXorbAt}
 

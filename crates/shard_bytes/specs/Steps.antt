@@ -1,4 +1,4 @@
 -- Words that only contracts inside the crate and proofs speak of.
 
-pub mod Checking
-pub mod Walking
+pub mod CheckingSteps
+pub mod WalkingSteps

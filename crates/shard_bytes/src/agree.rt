@@ -1,9 +1,9 @@
 //! The union of a list of shards that have to be well-formed, and to agree.
 
 ghost use Rattle.std.specs.Prelude.{map, IfOk, MatchResult};
-ghost use Rattle.placed_shards.specs.Merging.{MergeRefusal};
+ghost use Rattle.placed_shards.specs.MergedLists.{MergeRefusal};
 ghost use Rattle.placed_shards.specs.Strict.{IsAgreedOr, AgreedRefusal, IsJoinedMerge};
-ghost use Rattle.shard_bytes.specs.Sizes.{HasResultSize};
+ghost use Rattle.shard_bytes.specs.ResultSizes.{HasResultSize};
 ghost use Rattle.shard_bytes.specs.Versions.{IsWrittenIn, NotWrittenIn};
 
 use bumpalo::Bump;

@@ -13,7 +13,7 @@ ghost use Rattle.xet_shards.specs.Write.Tables.{hash_in};
 ghost use Rattle.placed_shards.specs.Content.{content};
 ghost use Rattle.shard_bytes.specs.declared.check.Finding.{Finding};
 ghost use Rattle.shard_bytes.specs.Checking.{IsWhole, IsIntact, IsFinding, IsNote, IsOutOfOrder, IsReadAs, IsSamePart, HoldsSomeShard};
-ghost use Rattle.shard_bytes.specs.Steps.Checking.{IsReport, IsUnloaded, IsUnreadable, AddsPart, AddsTable, FindsInTable, AddsSize, AddsDisorder, AddsDifferences, Compares, IsWritten, IsWrittenTable};
+ghost use Rattle.shard_bytes.specs.Steps.CheckingSteps.{IsReport, IsUnloaded, IsUnreadable, AddsPart, AddsTable, FindsInTable, AddsSize, AddsDisorder, AddsDifferences, Compares, IsWritten, IsWrittenTable};
 
 mod malformed;
 mod reordered;

@@ -3,8 +3,8 @@
 ghost use Rattle.std.specs.Prelude.{length, IfOk, MatchResult};
 ghost use Rattle.placed_shards.specs.Content.{content};
 ghost use Rattle.shard_bytes.specs.Combining.{CombinesTo, RefusesCombining};
-ghost use Rattle.placed_shards.specs.Sizes.{IsResultSize};
-ghost use Rattle.shard_bytes.specs.Sizes.{sources_of};
+ghost use Rattle.placed_shards.specs.MergeSizes.{IsResultSize};
+ghost use Rattle.shard_bytes.specs.ResultSizes.{sources_of};
 ghost use Rattle.shard_bytes.specs.Versions.{IsWrittenIn, NotWrittenIn};
 
 use bumpalo::Bump;

@@ -11,7 +11,7 @@ ghost use Rattle.xet_core_structures.specs.TwoShards.ByteResults.{keyed_options}
 ghost use Rattle.xet_core_structures.specs.Shard.{Shard, IsShard};
 ghost use Rattle.shard_bytes.specs.Completing.{Completes, RefusesCompletion};
 ghost use Rattle.shard_bytes.specs.Exporting.{FollowsHeader};
-ghost use Rattle.shard_bytes.specs.Sizes.{IsRewriteSize};
+ghost use Rattle.shard_bytes.specs.ResultSizes.{IsRewriteSize};
 
 use placed_shards::open::open_behind_header;
 use placed_shards::placed_shard::PlacedShard;

@@ -13,7 +13,7 @@ ghost use Rattle.xet_core_structures.specs.Shard.{Shard, IsShard};
 ghost use Rattle.shard_bytes.specs.Checking.{IsIntact};
 ghost use Rattle.placed_shards.specs.Content.{content};
 ghost use Rattle.shard_bytes.specs.Exporting.{ExportsBytes, IsExportOf, RefusesExport, FollowsHeader, HoldsExport, options_of_export};
-ghost use Rattle.shard_bytes.specs.Sizes.{IsRewriteSize};
+ghost use Rattle.shard_bytes.specs.ResultSizes.{IsRewriteSize};
 ghost use Rattle.shard_bytes.specs.Versions.{LaidOutIn, NotLaidOutIn};
 
 use crate::load::load_bytes;

@@ -4,7 +4,7 @@ ghost use Rattle.std.specs.Prelude.{◌↔◌, ◌≤◌, ℕ, List, length, Mat
 ghost use Rattle.xet_core_structures.specs.declared.shard_format.MDBShardInfo.{MDBShardInfo};
 ghost use Rattle.xet_core_structures.specs.Ends.{HasHeaderAndFooter};
 ghost use Rattle.xet_core_structures.specs.TwoShards.ByteResults.{LoadRefusal};
-ghost use Rattle.shard_bytes.specs.Parts.{ends_of};
+ghost use Rattle.shard_bytes.specs.PartLookups.{ends_of};
 
 use std::alloc::Global;
 use xet_core_structures::error::Result;

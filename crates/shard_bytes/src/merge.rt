@@ -1,8 +1,8 @@
 //! The union of a list of shards, whole or in a range of hashes.
 
 ghost use Rattle.std.specs.Prelude.{◌≡◌, List, map, length, IfOk, MatchResult};
-ghost use Rattle.placed_shards.specs.Merging.{IsMergeOf, MergeRefusal, IsMergeOfList, shard_content};
-ghost use Rattle.placed_shards.specs.Sizes.{IsResultSize};
+ghost use Rattle.placed_shards.specs.MergedLists.{IsMergeOf, MergeRefusal, IsMergeOfList, shard_content};
+ghost use Rattle.placed_shards.specs.MergeSizes.{IsResultSize};
 ghost use Rattle.xet_core_structures.specs.declared.merklehash.DataHash.{DataHash};
 ghost use Rattle.xet_core_structures.specs.Shard.{Shard};
 ghost use Rattle.xet_core_structures.specs.Trees.MergeTrees.{MergeRefused};

@@ -11,7 +11,7 @@ ghost use Rattle.placed_shards.specs.Anew.{HasInstead};
 ghost use Rattle.placed_shards.specs.Content.{content};
 ghost use Rattle.shard_bytes.specs.Minimal.{RefusesMinimal, MinimalBytes, IsMinimalOf, RefusesMinimalBytes, Keeps, AreLacked, LackXorbs, SubsetBytes, IsSubsetOf, EligibleIn};
 ghost use Rattle.shard_bytes.specs.Outcomes.{InMemory};
-ghost use Rattle.shard_bytes.specs.Sizes.{IsMinimalSize};
+ghost use Rattle.shard_bytes.specs.ResultSizes.{IsMinimalSize};
 ghost use Rattle.shard_bytes.specs.Versions.{LaidOutIn, NotLaidOutIn};
 
 use crate::memory::in_memory;

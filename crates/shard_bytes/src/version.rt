@@ -3,7 +3,7 @@
 ghost use Rattle.std.specs.Prelude.{length, IfOk, MatchResult};
 ghost use Rattle.placed_shards.specs.Content.{content};
 ghost use Rattle.shard_bytes.specs.Versions.{IsSameShard, IsInVersion, RefusesSameShard, RefusesVersion};
-ghost use Rattle.shard_bytes.specs.Sizes.{IsRewriteSize};
+ghost use Rattle.shard_bytes.specs.ResultSizes.{IsRewriteSize};
 
 use crate::load::load_bytes;
 use placed_shards::open::open_behind_header;

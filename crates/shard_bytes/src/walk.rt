@@ -14,7 +14,7 @@ ghost use Rattle.xet_core_structures.specs.Shard.{Shard};
 ghost use Rattle.xet_core_structures.specs.XorbRecord.{xorb_records, xorb_row_count};
 ghost use Rattle.shard_bytes.specs.Walking.{HasFileAt, RefusesFileAt, HasXorbAt, RefusesXorbAt};
 ghost use Rattle.shard_bytes.specs.Walking.{WalksFiles, WalksXorbs, IsSectionReadAs};
-ghost use Rattle.shard_bytes.specs.Steps.Walking.{IsRead};
+ghost use Rattle.shard_bytes.specs.Steps.WalkingSteps.{IsRead};
 
 use std::alloc::Global;
 use xet_core_structures::error::{CoreError, Result};

@@ -22,10 +22,10 @@ use Rattle.shard_concatenation.specs.declared.chunk_merging.Cursor.{Cursor}
 use Rattle.shard_concatenation.specs.declared.gathering.Totals.{Totals}
 use Rattle.shard_concatenation.specs.declared.part_split.SplitShard.{SplitShard}
 use Rattle.shard_concatenation.specs.declared.section_parts.SectionPart.{SectionPart}
-use Rattle.shard_concatenation.specs.Concatenation.{ShardPart, bytes_of_part, IsPartUnder, files_in, xorbs_in, options_under, AscendBoth, HaveFewRows, FitTogether, ArePartsInARow, AreBytesOf, later, version_in, parts_layout, latest_of, IsConcatenation}
-use Rattle.placed_shards.specs.Parts.{AreInARow}
+use Rattle.shard_concatenation.specs.Concatenation.{ShardPart, bytes_of_part, IsPartUnder, files_in, xorbs_in, options_under, AscendBoth, HaveFewRows, FitTogether, AreConsecutiveParts, AreBytesOf, later, version_in, parts_layout, latest_of, IsConcatenation}
+use Rattle.placed_shards.specs.Parts.{HasRecordsInOrder}
 use Rattle.shard_concatenation.specs.Steps.Gathering.{HasTotals, HasGathered, IsFooterOf}
-use Rattle.shard_concatenation.specs.Steps.Sections.{HoldSections, all_of, IsSplitOf}
+use Rattle.shard_concatenation.specs.Steps.SectionsSteps.{HoldSections, all_of, IsSplitOf}
 use Rattle.shard_concatenation.specs.Steps.ChunkMerging.{HoldsRows, rows_held, Merges}
 use Rattle.xet_shards.specs.Write.Layout.{header_value, footer_value, shard_header_bytes, shard_footer_bytes, plain_options, layout_of, layout}
 use Rattle.xet_shards.specs.Ends.Ends.{FitsFooter}
@@ -215,9 +215,9 @@ fit_together s shard =
     }
 
 -- shards that one shard has in a row are parts in a row
-pub parts_in_a_row : (shards : List Shard) (bytes : List (Bor (List ℕ))) (all : Shard) → IsShard all → AreInARow shards all → AreBytesOf shards (map (λ x. x.now) bytes)
-    → {version : FormatVersion} (are : ArePartsOf version shards (map (λ x. x.now) bytes)) → 0 < length bytes → ArePartsInARow no_key are.parts
-parts_in_a_row shards bytes all shard row is are some =
+pub consecutive_parts : (shards : List Shard) (bytes : List (Bor (List ℕ))) (all : Shard) → IsShard all → HasRecordsInOrder shards all → AreBytesOf shards (map (λ x. x.now) bytes)
+    → {version : FormatVersion} (are : ArePartsOf version shards (map (λ x. x.now) bytes)) → 0 < length bytes → AreConsecutiveParts no_key are.parts
+consecutive_parts shards bytes all shard row is are some =
     let files : values all.files ≡ files_in are.parts = row.files ∙ sym are.files_are in
     let xorbs : values all.xorbs ≡ xorbs_in are.parts = row.xorbs ∙ sym are.xorbs_are in
     record {
@@ -229,7 +229,7 @@ parts_in_a_row shards bytes all shard row is are some =
     }
 
 -- the order of parts in a row is not refused
-module _ (key : DataHash) (parts : List ShardPart) (files xorbs : List SectionPart) (cursors : List Cursor) (totals : Totals) (row : ArePartsInARow key parts) (held : HasGathered files xorbs cursors totals parts) (P : Type 0) where
+module _ (key : DataHash) (parts : List ShardPart) (files xorbs : List SectionPart) (cursors : List Cursor) (totals : Totals) (row : AreConsecutiveParts key parts) (held : HasGathered files xorbs cursors totals parts) (P : Type 0) where
   pub files_not_refused : ((records : List (List MDBFileInfo)) → HoldSections file_records files records → All (All file_records.IsStored) records → All (Ascends file_records) records → P × (Ascends file_records (all_of records) → ⊥)) → ⊥
   files_not_refused refused =
       (refused (map (λ p. p.files) parts) held.files_held (files_stored key parts row.fit) (All-map (Ascends file_records) (λ (p : ShardPart). p.files) parts (λ k d below. (row.each k d below).files_ascend))).1

@@ -24,7 +24,7 @@ use Rattle.shard_concatenation.specs.declared.section_parts.SectionPart.{Section
 use Rattle.shard_concatenation.specs.Concatenation.{ShardPart, bytes_of_part, IsPartUnder, files_in, xorbs_in, FitTogether, later, version_in}
 use Rattle.xet_records.specs.declared.record_reader.FormatVersion.{FormatVersion}
 use Rattle.shard_concatenation.proofs.Versions.{version_in-push}
-use Rattle.shard_concatenation.specs.Steps.Sections.{HoldSections, HasRanges, IsSplit, IsSplitOf}
+use Rattle.shard_concatenation.specs.Steps.SectionsSteps.{HoldSections, HasRanges, IsSplit, IsSplitOf}
 use Rattle.shard_concatenation.specs.Steps.ChunkMerging.{HoldsRows, rows_held}
 use Rattle.xet_shards.specs.Read.TableReading.{FitsTableRow}
 use Rattle.shard_concatenation.specs.Steps.Gathering.{AddsPart, FitWith, HasSizes, HoldTables, HasGathered}

@@ -22,7 +22,7 @@ use Rattle.xet_records.proofs.Lengths.{length-all_record_bytes}
 use Rattle.shard_concatenation.specs.declared.part_order.EndHashes.{EndHashes}
 use Rattle.shard_concatenation.specs.declared.section_parts.SectionPart.{SectionPart}
 use Rattle.xet_shards.specs.Read.TableReading.{FitsStart}
-use Rattle.shard_concatenation.specs.Steps.Sections.{HoldSections, all_of}
+use Rattle.shard_concatenation.specs.Steps.SectionsSteps.{HoldSections, all_of}
 use Rattle.shard_concatenation.specs.Steps.PartOrder.{PartHoldsRecords, IsLastHash, HasEnds, is_after}
 use Rattle.xet_shards.specs.Write.Section.{total_rows}
 use Rattle.xet_shards.specs.Write.Tables.{hash_in, start_row, starts, table_bytes}

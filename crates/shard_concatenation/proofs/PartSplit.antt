@@ -18,7 +18,7 @@ use Rattle.xet_shards.specs.declared.shard_format.ends.info.MDBShardInfo.{MDBSha
 use Rattle.shard_concatenation.specs.declared.part_split.SplitShard.{SplitShard}
 use Rattle.xet_shards.specs.Ends.Ends.{HasHeaderAndFooter}
 use Rattle.shard_concatenation.specs.Concatenation.{ShardPart, options_in, bytes_of_part, IsPartUnder}
-use Rattle.shard_concatenation.specs.Steps.Sections.{HasRanges, IsSplit, IsSplitOf}
+use Rattle.shard_concatenation.specs.Steps.SectionsSteps.{HasRanges, IsSplit, IsSplitOf}
 use Rattle.xet_shards.specs.declared.shard_format.ends.options.LayoutOptions.{LayoutOptions}
 use Rattle.xet_shards.specs.Write.Layout.{footer_value, header_value, info_of, shard_header_bytes, shard_footer_bytes, layout_of}
 use Rattle.xet_shards.specs.Write.Section.{total_rows, section_bytes}

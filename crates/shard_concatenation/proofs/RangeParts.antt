@@ -13,18 +13,18 @@ use Rattle.xet_records.specs.XorbRecord.{xorb_records}
 use Rattle.xet_shards.specs.Content.Shard.{Shard}
 use Rattle.xet_shards.specs.Ends.Ends.{FitsFooter}
 use Rattle.shard_concatenation.specs.Concatenation.{ShardPart, bytes_of_part, IsPartUnder, files_in, xorbs_in, options_under, later, version_in, AscendBoth, FitTogether}
-use Rattle.placed_shards.specs.Parts.{AreInARow}
+use Rattle.placed_shards.specs.Parts.{HasRecordsInOrder}
 use Rattle.xet_shards.specs.Write.Layout.{footer_value, layout_of}
 use Rattle.xet_shards.specs.Write.WithOptions.{Ascends}
 use Rattle.shard_concatenation.proofs.Concatenation.{plain_widths, fit_together}
 use Rattle.xet_shards.proofs.Write.Sections.{files_fit_in, xorbs_fit}
 use Rattle.xet_shards.proofs.Write.WithOptions.{files_ascend, xorbs_ascend}
-use Rattle.placed_shards.specs.Merging.{IsPartOf}
+use Rattle.placed_shards.specs.MergedLists.{IsPartOf}
 use Rattle.placed_shards.specs.Ranges.{is_within}
 use Rattle.placed_shards.specs.Ranges.{ranges_between, AreCuts}
 use Rattle.shard_concatenation.specs.Concatenation.{IsHeldLayout, AreRangesOf}
 use Rattle.xet_core_structures.specs.TwoShards.ByteResults.{keyed_options}
-use Rattle.placed_shards.proofs.PartsInARow.{ranges_in_a_row}
+use Rattle.placed_shards.proofs.ConsecutiveParts.{consecutive_ranges}
 
 -- the part that is laid out for a shard under a key
 abbrev part_of_shard : FormatVersion → DataHash → Shard → ShardPart
@@ -109,7 +109,7 @@ pub ranges_concatenate : (version : FormatVersion) (key : DataHash) (cuts : List
     → AllZip (λ range part. IsPartOf (is_within range) join part) (ranges_between None cuts None) parts → AllZip (IsHeldLayout version key) parts bytes → AreRangesOf version key join bytes
 ranges_concatenate version key cuts join parts bytes are_cuts are_parts are =
     let all = all_laid version key parts bytes are in
-    let row : AreInARow parts join = ranges_in_a_row None cuts None join join parts are_cuts (record { files = λ q. refl; xorbs = λ q. refl }) are_parts in
+    let row : HasRecordsInOrder parts join = consecutive_ranges None cuts None join join parts are_cuts (record { files = λ q. refl; xorbs = λ q. refl }) are_parts in
     let files : values join.files ≡ files_in all.parts = row.files ∙ sym all.files_are in
     let xorbs : values join.xorbs ≡ xorbs_in all.parts = row.xorbs ∙ sym all.xorbs_are in
     record {

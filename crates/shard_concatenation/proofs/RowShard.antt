@@ -21,7 +21,7 @@ use Rattle.xet_records.specs.XorbRecord.{xorb_records, IsXorb}
 use Rattle.xet_records.specs.Limits.{MAX_ROWS}
 use Rattle.xet_shards.specs.Content.Shard.{Shard, IsShard, AreFiles, AreXorbs, file_hash_of, xorb_hash_of}
 use Rattle.shard_concatenation.specs.Concatenation.{AscendBoth, AreBytesOf, later, latest_of}
-use Rattle.placed_shards.specs.Parts.{AreInARow}
+use Rattle.placed_shards.specs.Parts.{HasRecordsInOrder}
 use Rattle.xet_shards.specs.Write.WrittenShard.{HasFilesIn}
 use Rattle.xet_shards.specs.Write.Section.{total_rows}
 
@@ -103,7 +103,7 @@ has_files V3 s files are none = tt
 pub record IsRowOf (version : FormatVersion) (shards : List Shard) : Type 0 where
   pub all : Shard
   pub is_shard : IsShard all
-  pub row : AreInARow shards all
+  pub row : HasRecordsInOrder shards all
   pub files : HasFilesIn version all
 
 -- shards whose records ascend, and are few enough, are those of one shard

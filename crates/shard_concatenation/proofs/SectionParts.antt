@@ -12,7 +12,7 @@ use Rattle.xet_base.proofs.Bytes.{u32_bytes-front, u64_bytes-front, length-u64_b
 use Rattle.xet_records.specs.RecordKind.{RecordKind}
 use Rattle.shard_concatenation.specs.declared.section_parts.SectionPart.{SectionPart}
 use Rattle.xet_shards.specs.Read.TableReading.{FitsStart}
-use Rattle.shard_concatenation.specs.Steps.Sections.{HoldSections, all_of}
+use Rattle.shard_concatenation.specs.Steps.SectionsSteps.{HoldSections, all_of}
 use Rattle.xet_shards.specs.Write.RaisedRows.{start_later}
 use Rattle.xet_shards.specs.Write.Section.{total_rows, with_fronts}
 use Rattle.xet_shards.specs.Write.Tables.{start_row, start_of, starts, table_bytes}

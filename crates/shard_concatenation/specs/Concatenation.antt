@@ -21,7 +21,7 @@ use Rattle.xet_base.specs.declared.error.CoreError.TheVariants.{InvalidArguments
 use Rattle.xet_shards.specs.Write.WithOptions.{FitsSection, Ascends}
 use Rattle.xet_core_structures.specs.Records.ShardContents.{HoldsShard}
 use Rattle.xet_core_structures.specs.TwoShards.ByteResults.{keyed_options}
-use Rattle.placed_shards.specs.Parts.{AreInARow}
+use Rattle.placed_shards.specs.Parts.{HasRecordsInOrder}
 
 -- the content of a shard that is concatenated: files and xorbs, a version, the key of the chunk
 -- hashes, and the times of creation and expiry
@@ -110,8 +110,8 @@ IsBadPart e = IsInvalidShard e ⊎ IsWriteError e
 -- why shards are not concatenated: there is none, their keys differ or their hashes do not ascend;
 -- or the bytes of one can't be split; or a sum does not fit, a table is refused, or the writer or
 -- memory failed
-abbrev pub RefusesShardsInARow : List (List ℕ) → CoreError → Type 0
-RefusesShardsInARow shards e =
+abbrev pub RefusesConcatenation : List (List ℕ) → CoreError → Type 0
+RefusesConcatenation shards e =
     (e ≡ InvalidArguments) ⊎ ((bytes : List ℕ) × Contains shards bytes × IsNoPart bytes e)
     ⊎ IsBadPart e
 
@@ -122,7 +122,7 @@ pub record AscendBoth (files : List MDBFileInfo) (xorbs : List MDBXorbInfo) : Ty
 
 -- parts that can be concatenated: there is one, all are under the key, hashes ascend within each
 -- part and from each to the next, and one shard has room for them all
-pub record ArePartsInARow (key : DataHash) (parts : List ShardPart) : Type 0 where
+pub record AreConsecutiveParts (key : DataHash) (parts : List ShardPart) : Type 0 where
   pub some : 0 < length parts
   pub fit : All (IsPartUnder key) parts
   pub each : All (λ part. AscendBoth part.files part.xorbs) parts
@@ -149,7 +149,7 @@ latest_of (s ∷ shards) (b ∷ bytes) (is, others) = later is.version (latest_o
 pub record IsConcatenation (version : FormatVersion) (shards : List Shard) (bytes : List ℕ) : Type 0 where
   pub all : Shard
   pub is_shard : IsShard all
-  pub row : AreInARow shards all
+  pub row : HasRecordsInOrder shards all
   pub files : HasFilesIn version all
   pub bytes_are : bytes ≡ layout_in version all None
 
@@ -175,4 +175,4 @@ pub record AreRangesOf (version : FormatVersion) (key : DataHash) (whole : Shard
     pub files_are : files_in parts ≡ values whole.files
     pub xorbs_are : xorbs_in parts ≡ values whole.xorbs
     pub whole_is : parts_layout key parts ≡ keyed_layout_in version whole key
-    pub row : IsShard whole → ArePartsInARow key parts
+    pub row : IsShard whole → AreConsecutiveParts key parts

@@ -4,4 +4,4 @@ pub mod ChunkMerging
 pub mod Gathering
 pub mod PartFilling
 pub mod PartOrder
-pub mod Sections
+pub mod SectionsSteps

@@ -2,7 +2,7 @@
 
 ghost use Rattle.std.specs.Prelude.{◌≡◌, ◌+◌, ◌/◌, ◌^◌, ◌≤◌, List, All, IfOk, IfErr, MatchResult, map};
 ghost use Rattle.xet_base.specs.Errors.{IsInvalidShard};
-ghost use Rattle.shard_concatenation.specs.Concatenation.{ShardPart, bytes_of_part, IsPartUnder, files_in, xorbs_in, version_in, FitTogether, RefusesShardsInARow};
+ghost use Rattle.shard_concatenation.specs.Concatenation.{ShardPart, bytes_of_part, IsPartUnder, files_in, xorbs_in, version_in, FitTogether, RefusesConcatenation};
 ghost use Rattle.shard_concatenation.specs.Steps.Gathering.{AddsPart, FitWith, HasSizes, HasGathered};
 
 use crate::chunk_merging::Cursor;
@@ -107,7 +107,7 @@ pub fn gather<'a>(alloc: Global, shards: &[&'a [u8]], key: HMACKey) -> Result<Ga
         → map bytes_of_part parts ≡ map (λ x. x.now) shards.now
         → FitTogether (files_in parts) (xorbs_in parts)
         → IfErr result (λ e. e ≡ CoreError.OutOfMemory) }
-    ensures causes { IfErr result (RefusesShardsInARow (map (λ x. x.now) shards.now)) }
+    ensures causes { IfErr result (RefusesConcatenation (map (λ x. x.now) shards.now)) }
 {
     let mut files = Vec::new(alloc);
     let mut xorbs = Vec::new(alloc);

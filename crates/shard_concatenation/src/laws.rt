@@ -7,13 +7,13 @@ ghost use Rattle.xet_base.specs.declared.merklehash.DataHash.{DataHash};
 ghost use Rattle.xet_records.specs.declared.record_reader.FormatVersion.{FormatVersion};
 ghost use Rattle.xet_shards.specs.Content.Shard.{Shard};
 ghost use Rattle.xet_shards.specs.Write.Layout.{layout_in};
-ghost use Rattle.placed_shards.specs.Merging.{IsPartOf};
+ghost use Rattle.placed_shards.specs.MergedLists.{IsPartOf};
 ghost use Rattle.placed_shards.specs.Ranges.{is_within, ranges_between, AreCuts};
 ghost use Rattle.shard_concatenation.specs.Concatenation.{keyed_layout_in, IsHeldLayout, AreRangesOf};
 
 /// Does nothing. Its contract says that the layouts, in one version, of the parts of a shard in ranges
 /// that follow one another and leave no hash out can be concatenated. So
-/// [`shards_in_a_row_into`](crate::shards_in_a_row_into) writes the layout of the shard in this version
+/// [`concatenate_shards_into`](crate::concatenate_shards_into) writes the layout of the shard in this version
 /// from them, as the one merge does, or fails for lack of memory (`parts`). Without a key it is the
 /// layout of the shard without expiry, which `serialize_from` writes in version 3 (`no_key`).
 pub fn ranges_concatenate()

@@ -5,14 +5,14 @@
 #![tactic(auto)]
 
 mod chunk_merging;
-mod filling;
+mod concatenate;
 mod gathering;
 pub mod laws;
+mod ordered_parts;
 mod part_order;
 mod part_split;
-mod parts;
 mod section_parts;
 mod table_merge;
 mod version;
 
-pub use filling::shards_in_a_row_into;
+pub use concatenate::concatenate_shards_into;

@@ -3,7 +3,7 @@
 ghost use Rattle.std.specs.Prelude.{◌≡◌, ◌+◌, ◌-◌, ◌*◌, ◌<◌, ◌⊎◌, List, All, length, take, drop, MatchOption, MatchResult, IfErr};
 ghost use Rattle.xet_base.specs.Errors.{IsInvalidShard};
 ghost use Rattle.xet_records.specs.Rows.{ReadsRow};
-ghost use Rattle.shard_concatenation.specs.Steps.Sections.{HoldSections, all_of};
+ghost use Rattle.shard_concatenation.specs.Steps.SectionsSteps.{HoldSections, all_of};
 ghost use Rattle.shard_concatenation.specs.Steps.PartOrder.{PartHoldsRecords, HasEnds, is_after};
 ghost use Rattle.xet_base.specs.Bytes.{u32_bytes};
 ghost use Rattle.xet_shards.specs.Write.WithOptions.{Ascends};

@@ -2,7 +2,7 @@
 
 ghost use Rattle.std.specs.Prelude.{◌≡◌, ◌+◌, ◌*◌, ◌<◌, ◌≤◌, ◌⊎◌, length, IfOk, IfErr, MatchOption, MatchResult, slice_range};
 ghost use Rattle.shard_concatenation.specs.Concatenation.{ShardPart, bytes_of_part, IsPartUnder, IsNoPart};
-ghost use Rattle.shard_concatenation.specs.Steps.Sections.{HasRanges, IsSplit, IsSplitOf};
+ghost use Rattle.shard_concatenation.specs.Steps.SectionsSteps.{HasRanges, IsSplit, IsSplitOf};
 ghost use Rattle.xet_base.specs.declared.merklehash.DataHash.{DataHash};
 
 use std::alloc::Global;

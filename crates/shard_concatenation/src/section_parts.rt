@@ -5,7 +5,7 @@ ghost use Rattle.std.specs.Io.KnownBytes.{Appends};
 ghost use Rattle.xet_base.specs.Errors.{IsInvalidShard, IsWriteError};
 ghost use Rattle.shard_concatenation.specs.Concatenation.{IsBadPart};
 ghost use Rattle.xet_shards.specs.Read.TableReading.{FitsStart};
-ghost use Rattle.shard_concatenation.specs.Steps.Sections.{HoldSections, all_of};
+ghost use Rattle.shard_concatenation.specs.Steps.SectionsSteps.{HoldSections, all_of};
 ghost use Rattle.xet_shards.specs.Write.RaisedRows.{start_later};
 ghost use Rattle.xet_shards.specs.Write.Section.{total_rows};
 ghost use Rattle.xet_shards.specs.Write.Tables.{start_row, table_bytes};

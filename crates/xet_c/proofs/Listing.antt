@@ -4,7 +4,7 @@ use Rattle.std.specs.Prelude.{◌==◌, sum_by}
 use Rattle.std.proofs.Math.Seq.{take-length, drop-length}
 use Rattle.std.proofs.lemmas.List.{take_more, take_all, take-append-le, drop-append-le, take-append-drop, length-append, length-drop, length-take-le}
 use Rattle.std.proofs.lemmas.List.Sums.{sum_by-cons, sum_by_more_le}
-use Rattle.xet_c.specs.Recording.{AreListed, AddUp}
+use Rattle.xet_c.specs.ListedRecords.{AreListed, AddUp}
 
 append_nil : {X : Type 0} (xs : List X) → xs ++ [] ≡ xs
 append_nil [] = refl

@@ -6,10 +6,10 @@ use Rattle.placed_shards.specs.declared.findings.Disagreement.{Disagreement}
 use Rattle.placed_shards.specs.declared.selection.Selection.{Selection}
 use Rattle.placed_shards.specs.declared.strict.Agreed.{Agreed}
 use Rattle.placed_shards.specs.declared.strict.Agreed.TheVariants.{Made, Disagreements, Malformed}
-use Rattle.placed_shards.specs.Sizes.{IsResultSize}
+use Rattle.placed_shards.specs.MergeSizes.{IsResultSize}
 use Rattle.xet_c.specs.declared.agree.XetDisagreement.{XetDisagreement}
 use Rattle.xet_c.specs.Agreeing.{ShowsFirst, MergesIfAgreeing}
-use Rattle.xet_c.specs.Steps.Agreeing.{FillsIfAgreeing, HasFillSize, ShowsFill}
+use Rattle.xet_c.specs.Steps.ShownMerges.{FillsIfAgreeing, HasFillSize, ShowsFill}
 use Rattle.xet_c.proofs.Outcomes.{delivers}
 
 some_shown : (all : List Disagreement) (old new : XetDisagreement) (count : ℕ) → 0 < length all → ShowsFirst all old new count → 0 < count

@@ -5,9 +5,9 @@ use Rattle.std.specs.declared.vec.Vec.{Vec}
 use Rattle.xet_core_structures.specs.declared.error.CoreError.{CoreError}
 use Rattle.xet_core_structures.specs.declared.error.CoreError.TheVariants.{OutOfMemory}
 use Rattle.xet_core_structures.specs.declared.xorb_structs.MDBXorbInfo.{MDBXorbInfo}
-use Rattle.shard_bytes.specs.Parts.{ArePlacesAmong}
-use Rattle.xet_c.specs.declared.parts.XetChunkPlace.{XetChunkPlace}
-use Rattle.xet_c.specs.Parts.{AreChunksWith, c_chunk_place}
+use Rattle.shard_bytes.specs.PartLookups.{ArePlacesAmong}
+use Rattle.xet_c.specs.declared.part_lookups.XetChunkPlace.{XetChunkPlace}
+use Rattle.xet_c.specs.ShownParts.{AreChunksWith, c_chunk_place}
 
 pub chunks_shown : {Z : Type 0} (xorbs : List MDBXorbInfo) (word : ℕ) (found : List (ℕ × ℕ)) (result : Result (Vec XetChunkPlace Z) CoreError) → ArePlacesAmong xorbs word found
     → IfOk result (λ shown. shown.items ≡ map c_chunk_place found) → IfErr result (λ e. e ≡ OutOfMemory)

@@ -8,7 +8,7 @@ use Rattle.xet_core_structures.specs.Version.{IsVersion, number_of}
 use Rattle.placed_shards.specs.Content.{Content}
 use Rattle.placed_shards.specs.Filling.{FillsWith}
 use Rattle.shard_bytes.proofs.Compositions.{IsWritten, IsNotWritten}
-use Rattle.xet_c.specs.Versions.{InNumber, NotInNumber}
+use Rattle.xet_c.specs.NumberedVersions.{InNumber, NotInNumber}
 
 module _ (number : ℕ) (Makes : FormatVersion → List ℕ → Type 0) (Refuses : FormatVersion → CoreError → Type 0) where
   -- the number is that of no version

@@ -12,7 +12,7 @@ use Rattle.xet_c.specs.declared.listed.XetListedFile.{XetListedFile}
 use Rattle.xet_c.specs.declared.listed.XetListedXorb.{XetListedXorb}
 use Rattle.xet_c.specs.declared.segment.XetFileSegment.{XetFileSegment}
 use Rattle.xet_c.specs.declared.walk.XetChunk.{XetChunk}
-use Rattle.xet_c.specs.Recording.{AddUp, AreListedFiles, AreListedXorbs, RefusesListed, WritesListed}
+use Rattle.xet_c.specs.ListedRecords.{AddUp, AreListedFiles, AreListedXorbs, RefusesListed, WritesListed}
 
 module _ (fs : List XetListedFile) (segments : List XetFileSegment) (xs : List XetListedXorb) (chunks : List XetChunk) (version : FormatVersion) where
   -- the counts of files do not add up, or memory is lacking

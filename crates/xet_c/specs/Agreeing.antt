@@ -7,7 +7,7 @@ use Rattle.placed_shards.specs.declared.findings.RecordHash.TheVariants.{File, X
 use Rattle.placed_shards.specs.declared.selection.Selection.{Selection}
 use Rattle.placed_shards.specs.Content.{Content}
 use Rattle.placed_shards.specs.Findings.{AreOpened, HasAllDisagreements, HasFormedRecords, IsFirstMalformed}
-use Rattle.placed_shards.specs.Merging.{MergeRefusal}
+use Rattle.placed_shards.specs.MergedLists.{MergeRefusal}
 use Rattle.placed_shards.specs.Selections.{all_records}
 use Rattle.placed_shards.specs.Strict.{AreAgreeing, AgreedRefusal, IsJoinedMerge}
 use Rattle.xet_core_structures.specs.declared.error.CoreError.{CoreError}
@@ -16,7 +16,7 @@ use Rattle.xet_core_structures.specs.Hash.{words_of}
 use Rattle.shard_bytes.specs.Versions.{IsWrittenIn, NotWrittenIn}
 use Rattle.xet_c.specs.declared.agree.XetDisagreement.{XetDisagreement}
 use Rattle.xet_c.specs.Output.{Delivers, Refuses}
-use Rattle.xet_c.specs.Versions.{InNumber, NotInNumber}
+use Rattle.xet_c.specs.NumberedVersions.{InNumber, NotInNumber}
 
 -- a hash, whether it is that of a xorb, and the numbers of two shards
 abbrev pub c_record : RecordHash → ℕ → ℕ → XetDisagreement

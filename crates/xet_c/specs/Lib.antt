@@ -1,11 +1,11 @@
 pub mod Agreeing
 pub mod Arguments
-pub mod Checking
-pub mod Finding
+pub mod ListedRecords
+pub mod NumberedVersions
 pub mod Output
-pub mod Parts
-pub mod Recording
+pub mod ShownChecks
+pub mod ShownFiles
+pub mod ShownParts
+pub mod ShownRecords
 pub mod Steps
 pub mod Text
-pub mod Versions
-pub mod Walking

@@ -1,3 +1,3 @@
 -- Words that only contracts inside the crate and proofs speak of.
 
-pub mod Agreeing
+pub mod ShownMerges

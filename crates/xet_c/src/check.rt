@@ -2,7 +2,7 @@
 
 ghost use Rattle.std.specs.Prelude.{◌≡◌, map, IfOk, IfErr};
 ghost use Rattle.xet_core_structures.specs.declared.error.CoreError.{CoreError};
-ghost use Rattle.xet_c.specs.Checking.{c_finding, c_part, c_section, ShowsFindings};
+ghost use Rattle.xet_c.specs.ShownChecks.{c_finding, c_part, c_section, ShowsFindings};
 ghost use Rattle.xet_c.specs.Output.{Outcome};
 
 use crate::output::deliver;

@@ -3,7 +3,7 @@
 ghost use Rattle.std.specs.Prelude.{◌≡◌, ℕ, List, map, IfOk, IfErr, MatchResult};
 ghost use Rattle.xet_core_structures.specs.declared.error.CoreError.{CoreError};
 ghost use Rattle.xet_c.specs.Output.{Outcome};
-ghost use Rattle.xet_c.specs.Parts.{c_chunk_row, AreChunkRows, RefusesRowsOf};
+ghost use Rattle.xet_c.specs.ShownParts.{c_chunk_row, AreChunkRows, RefusesRowsOf};
 
 use crate::output::deliver;
 use shard_bytes::chunk_rows::chunk_rows;

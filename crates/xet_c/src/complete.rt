@@ -8,11 +8,11 @@ ghost use Rattle.xet_core_structures.specs.Records.ShardContents.{HoldsShard};
 ghost use Rattle.xet_core_structures.specs.Shard.{Shard, IsShard};
 ghost use Rattle.shard_bytes.specs.Completing.{Completes, RefusesCompletion};
 ghost use Rattle.shard_bytes.specs.Exporting.{FollowsHeader};
-ghost use Rattle.shard_bytes.specs.Sizes.{IsRewriteSize};
+ghost use Rattle.shard_bytes.specs.ResultSizes.{IsRewriteSize};
 ghost use Rattle.shard_bytes.specs.Versions.{LaidOutIn, NotLaidOutIn};
 ghost use Rattle.xet_c.specs.Arguments.{c_hash};
 ghost use Rattle.xet_c.specs.Output.{Outcome};
-ghost use Rattle.xet_c.specs.Versions.{InNumber, NotInNumber};
+ghost use Rattle.xet_c.specs.NumberedVersions.{InNumber, NotInNumber};
 
 use crate::hash::XetHash;
 use crate::output::answer;

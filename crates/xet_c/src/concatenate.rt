@@ -1,11 +1,11 @@
 //! Concatenation: one shard made of many whose records follow one another.
 
 ghost use Rattle.std.specs.Prelude.{map};
-ghost use Rattle.shard_bytes.specs.InARow.{Concatenates};
+ghost use Rattle.shard_bytes.specs.Concatenations.{Concatenates};
 ghost use Rattle.xet_c.specs.Output.{Outcome};
 
 use crate::output::answer;
-use shard_bytes::in_a_row::concatenate_into;
+use shard_bytes::concatenate::concatenate_into;
 use std::alloc::Global;
 
 /// The shard that has the records of all shards, in their order, to the front of `out`, to which it

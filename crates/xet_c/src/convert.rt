@@ -2,10 +2,10 @@
 
 ghost use Rattle.std.specs.Prelude.{IfOk};
 ghost use Rattle.placed_shards.specs.Filling.{FillsWith};
-ghost use Rattle.shard_bytes.specs.Sizes.{IsRewriteSize};
+ghost use Rattle.shard_bytes.specs.ResultSizes.{IsRewriteSize};
 ghost use Rattle.shard_bytes.specs.Versions.{IsInVersion, RefusesVersion};
 ghost use Rattle.xet_c.specs.Output.{Outcome};
-ghost use Rattle.xet_c.specs.Versions.{InNumber, NotInNumber};
+ghost use Rattle.xet_c.specs.NumberedVersions.{InNumber, NotInNumber};
 
 use crate::output::answer;
 use crate::version::version_of;

@@ -2,12 +2,12 @@
 
 ghost use Rattle.std.specs.Prelude.{[], ◌∷◌, IfOk};
 ghost use Rattle.placed_shards.specs.Filling.{FillsWith};
-ghost use Rattle.placed_shards.specs.Sizes.{IsResultSize};
+ghost use Rattle.placed_shards.specs.MergeSizes.{IsResultSize};
 ghost use Rattle.shard_bytes.specs.declared.combine.Operation.TheVariants.{Difference};
 ghost use Rattle.shard_bytes.specs.Combining.{CombinesTo, RefusesCombining};
 ghost use Rattle.shard_bytes.specs.Versions.{IsWrittenIn, NotWrittenIn};
 ghost use Rattle.xet_c.specs.Output.{Outcome};
-ghost use Rattle.xet_c.specs.Versions.{InNumber, NotInNumber};
+ghost use Rattle.xet_c.specs.NumberedVersions.{InNumber, NotInNumber};
 
 use crate::output::answer;
 use crate::version::version_of;

@@ -5,7 +5,7 @@ ghost use Rattle.xet_core_structures.specs.declared.file_structs.MDBFileInfo.{MD
 ghost use Rattle.xet_core_structures.specs.declared.merklehash.DataHash.{DataHash};
 ghost use Rattle.xet_core_structures.specs.Errors.{CoreResult};
 ghost use Rattle.xet_c.specs.Arguments.{c_file, c_hash, segments_in};
-ghost use Rattle.xet_c.specs.Finding.{FindsFileInBytes, ShowsFile};
+ghost use Rattle.xet_c.specs.ShownFiles.{FindsFileInBytes, ShowsFile};
 
 use crate::hash::{XetHash, words_or_zero};
 use crate::segment::{XetFileSegment, segments_of};

@@ -21,7 +21,7 @@ mod load;
 mod merge;
 mod minimal;
 mod output;
-mod parts;
+mod part_lookups;
 mod query;
 mod records;
 mod release;

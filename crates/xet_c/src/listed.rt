@@ -4,8 +4,8 @@
 ghost use Rattle.std.specs.Prelude.{◌≡◌, [], ◌∷◌};
 ghost use Rattle.xet_core_structures.specs.Hash.{words_of};
 ghost use Rattle.xet_c.specs.Arguments.{c_segment};
-ghost use Rattle.xet_c.specs.Walking.{c_chunk};
-ghost use Rattle.xet_c.specs.Recording.{c_listed_file, c_listed_xorb};
+ghost use Rattle.xet_c.specs.ShownRecords.{c_chunk};
+ghost use Rattle.xet_c.specs.ListedRecords.{c_listed_file, c_listed_xorb};
 
 use crate::hash::words_or_zero;
 use crate::segment::XetFileSegment;

@@ -8,14 +8,14 @@ ghost use Rattle.xet_core_structures.specs.Trees.MergeTrees.{MergeRefused};
 ghost use Rattle.placed_shards.specs.declared.selection.Access.{Access};
 ghost use Rattle.placed_shards.specs.declared.selection.Selection.{Selection};
 ghost use Rattle.placed_shards.specs.Filling.{FillsWith};
-ghost use Rattle.placed_shards.specs.Merging.{IsMergeOf, MergeRefusal, IsMergeOfList, shard_content};
-ghost use Rattle.placed_shards.specs.Sizes.{IsResultSize};
+ghost use Rattle.placed_shards.specs.MergedLists.{IsMergeOf, MergeRefusal, IsMergeOfList, shard_content};
+ghost use Rattle.placed_shards.specs.MergeSizes.{IsResultSize};
 ghost use Rattle.shard_bytes.specs.Versions.{IsWrittenIn, NotWrittenIn};
 ghost use Rattle.xet_c.specs.Agreeing.{MergesIfAgreeing};
 ghost use Rattle.xet_c.specs.Arguments.{IsBound, IsAccess, AsksForRecords};
 ghost use Rattle.xet_c.specs.Output.{Outcome};
-ghost use Rattle.xet_c.specs.Steps.Agreeing.{FillsIfAgreeing, HasFillSize, ShowsFill};
-ghost use Rattle.xet_c.specs.Versions.{InNumber, NotInNumber};
+ghost use Rattle.xet_c.specs.Steps.ShownMerges.{FillsIfAgreeing, HasFillSize, ShowsFill};
+ghost use Rattle.xet_c.specs.NumberedVersions.{InNumber, NotInNumber};
 
 use crate::agree::{XetDisagreement, malformed_of, show_first};
 use crate::output::{XET_DISAGREE, XET_MALFORMED, answer, error_number};

@@ -3,11 +3,11 @@
 ghost use Rattle.std.specs.Prelude.{◌≡◌, IfOk};
 ghost use Rattle.placed_shards.specs.Filling.{FillsWith};
 ghost use Rattle.shard_bytes.specs.Minimal.{MinimalBytes, RefusesMinimalBytes};
-ghost use Rattle.shard_bytes.specs.Sizes.{IsMinimalSize};
+ghost use Rattle.shard_bytes.specs.ResultSizes.{IsMinimalSize};
 ghost use Rattle.shard_bytes.specs.Versions.{LaidOutIn, NotLaidOutIn};
 ghost use Rattle.xet_c.specs.Arguments.{kept_parts};
 ghost use Rattle.xet_c.specs.Output.{Outcome};
-ghost use Rattle.xet_c.specs.Versions.{InNumber, NotInNumber};
+ghost use Rattle.xet_c.specs.NumberedVersions.{InNumber, NotInNumber};
 
 use crate::output::answer;
 use crate::version::version_of;

@@ -4,8 +4,8 @@ ghost use Rattle.std.specs.Prelude.{◌≡◌, ◌⊎◌, ◌++◌, ◌≤◌, l
 ghost use Rattle.xet_core_structures.specs.Errors.{CoreResult};
 ghost use Rattle.shard_bytes.specs.declared.records.Records.{Records};
 ghost use Rattle.shard_bytes.specs.Recording.{HasRecords, RefusesRecords};
-ghost use Rattle.xet_c.specs.Walking.{c_chunk};
-ghost use Rattle.xet_c.specs.Recording.{c_listed_file, c_listed_xorb, all_segments, all_chunks, IsPut, no_counts, ShowsRecords};
+ghost use Rattle.xet_c.specs.ShownRecords.{c_chunk};
+ghost use Rattle.xet_c.specs.ListedRecords.{c_listed_file, c_listed_xorb, all_segments, all_chunks, IsPut, no_counts, ShowsRecords};
 
 use crate::listed::{XetListedFile, XetListedXorb, listed_file_of, listed_xorb_of};
 use crate::output::{XET_OUT_OF_MEMORY, XET_SHORT, error_number};

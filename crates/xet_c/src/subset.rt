@@ -4,11 +4,11 @@ ghost use Rattle.std.specs.Prelude.{◌≡◌, IfOk, IfErr, MatchResult};
 ghost use Rattle.placed_shards.specs.Filling.{FillsWith};
 ghost use Rattle.xet_core_structures.specs.KeyedExport.{ExportCase};
 ghost use Rattle.shard_bytes.specs.Outcomes.{InMemory};
-ghost use Rattle.shard_bytes.specs.Sizes.{IsMinimalSize};
+ghost use Rattle.shard_bytes.specs.ResultSizes.{IsMinimalSize};
 ghost use Rattle.shard_bytes.specs.Versions.{LaidOutIn};
 ghost use Rattle.xet_c.specs.Arguments.{KeepsXorbs, AsksForSubset, WritesSubset};
 ghost use Rattle.xet_c.specs.Output.{Outcome};
-ghost use Rattle.xet_c.specs.Versions.{InNumber, NotInNumber};
+ghost use Rattle.xet_c.specs.NumberedVersions.{InNumber, NotInNumber};
 
 use crate::hash::{XetHash, hashes_of};
 use crate::output::answer;

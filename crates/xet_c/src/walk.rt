@@ -5,7 +5,7 @@ ghost use Rattle.xet_core_structures.specs.declared.file_structs.MDBFileInfo.{MD
 ghost use Rattle.xet_core_structures.specs.declared.xorb_structs.MDBXorbInfo.{MDBXorbInfo};
 ghost use Rattle.xet_core_structures.specs.Errors.{CoreResult};
 ghost use Rattle.xet_core_structures.specs.Hash.{words_of};
-ghost use Rattle.xet_c.specs.Walking.{IsFileAt, IsXorbAt, ShowsFileAt, ShowsXorbAt, c_bookend, c_file_place, c_xorb_place, c_xorb, c_chunk, chunks_in};
+ghost use Rattle.xet_c.specs.ShownRecords.{IsFileAt, IsXorbAt, ShowsFileAt, ShowsXorbAt, c_bookend, c_file_place, c_xorb_place, c_xorb, c_chunk, chunks_in};
 
 use crate::find::{XetFile, file_of, segments_found};
 use crate::output::{XET_OUT_OF_MEMORY, error_number, give};

@@ -4,10 +4,10 @@ ghost use Rattle.std.specs.Prelude.{◌≡◌, ◌⊎◌, ◌≤◌, [], ◌∷�
 ghost use Rattle.placed_shards.specs.Filling.{FillsWith};
 ghost use Rattle.xet_core_structures.specs.FileRecord.{has_metadata_ext, has_aux_ext};
 ghost use Rattle.xet_c.specs.Arguments.{c_segment};
-ghost use Rattle.xet_c.specs.Walking.{c_chunk};
+ghost use Rattle.xet_c.specs.ShownRecords.{c_chunk};
 ghost use Rattle.xet_c.specs.Output.{Outcome};
-ghost use Rattle.xet_c.specs.Recording.{AreHashRows, if_flagged, IsListedFile, IsListedXorb, AreListedFiles, AreListedXorbs, AddUp, WritesListed, RefusesListed};
-ghost use Rattle.xet_c.specs.Versions.{InNumber, NotInNumber};
+ghost use Rattle.xet_c.specs.ListedRecords.{AreHashRows, if_flagged, IsListedFile, IsListedXorb, AreListedFiles, AreListedXorbs, AddUp, WritesListed, RefusesListed};
+ghost use Rattle.xet_c.specs.NumberedVersions.{InNumber, NotInNumber};
 
 use crate::listed::{
     XetListedFile, XetListedXorb, chunk_row_of, entry_of, file_header_of, verification_row_of,

@@ -14,7 +14,7 @@ use Rattle.xet_core_structures.proofs.Records.ByteUnions.{byte_union_is_union}
 use Rattle.placed_shards.specs.Content.{Content}
 use Rattle.placed_shards.specs.Findings.{AgreeInAll}
 use Rattle.placed_shards.specs.Laws.{IsWellFormedShard}
-use Rattle.placed_shards.specs.Merging.{shard_content}
+use Rattle.placed_shards.specs.MergedLists.{shard_content}
 use Rattle.placed_shards.specs.Unions.{IsUnionOf}
 use Rattle.placed_shards.proofs.JoinedMerges.{as_shard, shards_agree}
 use Rattle.placed_shards.proofs.Merges.{as_byte_union, few_rows, has_union, made_ascends, shard_in}

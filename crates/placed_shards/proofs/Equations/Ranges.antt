@@ -109,15 +109,15 @@ module _ {H R : Type 0} (K : RecordKind H R) where
           (from_start from (key r) from_k above) above (none_below (key r) rs above ascends.0) rest
 
   -- the ranges one after another
-  pub parts_in_a_row : (from : Option DataHash) (cuts : List DataHash) (to : Option DataHash) (rs : List R) → AreCuts from cuts to → Ascends K rs
+  pub consecutive_parts : (from : Option DataHash) (cuts : List DataHash) (to : Option DataHash) (rs : List R) → AreCuts from cuts to → Ascends K rs
       → flat_map (λ range. records_passing K (is_within range) rs) (ranges_between from cuts to) ≡ in_range from to rs
-  parts_in_a_row from [] to rs are ascends = append-nil (in_range from to rs)
-  parts_in_a_row from (k ∷ ks) to rs are ascends =
-      ap (λ l. in_range from (Some k) rs ++ l) (parts_in_a_row (Some k) ks to rs are.2 ascends) ∙ sym (cut_in_two from to k are.0 are.1 rs ascends)
+  consecutive_parts from [] to rs are ascends = append-nil (in_range from to rs)
+  consecutive_parts from (k ∷ ks) to rs are ascends =
+      ap (λ l. in_range from (Some k) rs ++ l) (consecutive_parts (Some k) ks to rs are.2 ascends) ∙ sym (cut_in_two from to k are.0 are.1 rs ascends)
 
   all_in_range : (rs : List R) → in_range None None rs ≡ rs
   all_in_range [] = refl
   all_in_range (r ∷ rs) = ap (λ l. r ∷ l) (all_in_range rs)
 
-  pub whole_in_a_row : (cuts : List DataHash) (rs : List R) → AreCuts None cuts None → Ascends K rs → flat_map (λ range. records_passing K (is_within range) rs) (ranges_between None cuts None) ≡ rs
-  whole_in_a_row cuts rs are ascends = parts_in_a_row None cuts None rs are ascends ∙ all_in_range rs
+  pub whole_of_consecutive : (cuts : List DataHash) (rs : List R) → AreCuts None cuts None → Ascends K rs → flat_map (λ range. records_passing K (is_within range) rs) (ranges_between None cuts None) ≡ rs
+  whole_of_consecutive cuts rs are ascends = consecutive_parts None cuts None rs are ascends ∙ all_in_range rs

@@ -9,7 +9,7 @@ use Rattle.xet_records.specs.RecordKind.{RecordKind}
 use Rattle.xet_shards.specs.Write.Tables.{hash_in}
 use Rattle.placed_shards.specs.declared.range.HashRange.{HashRange}
 use Rattle.placed_shards.specs.Ranges.{is_within}
-use Rattle.placed_shards.specs.Sections.{TakesRecord}
+use Rattle.placed_shards.specs.TakenRecords.{TakesRecord}
 
 -- why no records are read for which a fact holds: an allocation failed, or it holds of none
 abbrev pub NotRead : {R : Type 0} → (List R → Type 0) → CoreError → Type 0

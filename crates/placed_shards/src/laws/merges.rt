@@ -15,7 +15,7 @@ ghost use Rattle.placed_shards.specs.declared.strict.Agreed.{Agreed};
 ghost use Rattle.placed_shards.specs.declared.strict.Agreed.TheVariants.{Made};
 ghost use Rattle.placed_shards.specs.ByTables.{OpensByTables};
 ghost use Rattle.placed_shards.specs.Content.{Content, content, content_within};
-ghost use Rattle.placed_shards.specs.Merging.{HoldsSelected, IsMergeOf, MergeRefusal, IsMergeOfList, IsPartOf, shard_content};
+ghost use Rattle.placed_shards.specs.MergedLists.{HoldsSelected, IsMergeOf, MergeRefusal, IsMergeOfList, IsPartOf, shard_content};
 ghost use Rattle.placed_shards.specs.Ranges.{is_within, ranges_between, AreCuts};
 ghost use Rattle.placed_shards.specs.Selections.{all_records, by_scan, by_tables, OpensWithin};
 ghost use Rattle.placed_shards.specs.Strict.{AreAgreeing, IsAgreedOr, AgreedRefusal, IsJoinedMerge};

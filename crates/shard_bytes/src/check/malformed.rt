@@ -12,7 +12,7 @@ ghost use Rattle.xet_records.specs.FileRow.{FitsHashRow, hash_row};
 ghost use Rattle.xet_records.specs.Limits.{MAX_ROWS};
 ghost use Rattle.xet_shards.specs.Steps.FileStore.{AreClear};
 ghost use Rattle.xet_shards.specs.Write.Section.{total_rows};
-ghost use Rattle.shard_bytes.specs.Steps.Checking.{AddsMalformed};
+ghost use Rattle.shard_bytes.specs.Steps.CheckingSteps.{AddsMalformed};
 
 use super::{Finding, Section, push_unless};
 use placed_shards::placed_file::PlacedFile;

@@ -7,7 +7,7 @@ ghost use Rattle.xet_core_structures.specs.declared.error.CoreError.{CoreError};
 ghost use Rattle.xet_shards.specs.Read.TableReading.{FitsTriple, triple_of};
 ghost use Rattle.xet_shards.specs.Write.Tables.{chunk_table_row_bytes};
 ghost use Rattle.shard_bytes.specs.Checking.{IsReorderedTable, WordsAscend};
-ghost use Rattle.shard_bytes.specs.Steps.Checking.{IsWrittenTable, ReadsRows, IsSortedOf};
+ghost use Rattle.shard_bytes.specs.Steps.CheckingSteps.{IsWrittenTable, ReadsRows, IsSortedOf};
 
 use std::alloc::Global;
 use xet_core_structures::error::{CoreError, Result};

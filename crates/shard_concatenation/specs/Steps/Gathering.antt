@@ -11,7 +11,7 @@ use Rattle.shard_concatenation.specs.declared.gathering.Totals.{Totals}
 use Rattle.shard_concatenation.specs.declared.part_split.SplitShard.{SplitShard}
 use Rattle.shard_concatenation.specs.declared.section_parts.SectionPart.{SectionPart}
 use Rattle.shard_concatenation.specs.Concatenation.{ShardPart, files_in, xorbs_in}
-use Rattle.shard_concatenation.specs.Steps.Sections.{HoldSections}
+use Rattle.shard_concatenation.specs.Steps.SectionsSteps.{HoldSections}
 use Rattle.shard_concatenation.specs.Steps.ChunkMerging.{HoldsRows, rows_held}
 use Rattle.xet_shards.specs.Write.Section.{total_rows}
 use Rattle.xet_shards.specs.declared.shard_format.write.xorb_writer.ChunkTableRow.{ChunkTableRow}

@@ -2,7 +2,7 @@
 use Rattle.std.specs.Prelude.{◌≡◌, ℕ, List, ◌++◌, All, None, map, flat_map, take}
 use Rattle.xet_shards.specs.declared.shard_format.ends.info.MDBShardInfo.{MDBShardInfo}
 use Rattle.shard_concatenation.specs.declared.chunk_merging.Cursor.{Cursor}
-use Rattle.shard_concatenation.specs.declared.filling.EndBytes.{EndBytes}
+use Rattle.shard_concatenation.specs.declared.concatenate.EndBytes.{EndBytes}
 use Rattle.shard_concatenation.specs.declared.table_merge.TableMerge.{TableMerge}
 use Rattle.shard_concatenation.specs.declared.table_merge.TableMerge.TheVariants.{Few, Many}
 use Rattle.shard_concatenation.specs.Steps.ChunkMerging.{HoldsRows, rows_held, HoldFew, HaveLeft}

@@ -3,7 +3,7 @@ use Rattle.std.proofs.lemmas.Result.{err_from_is_err_and}
 use Rattle.std.specs.Prelude.{⊤}
 use Rattle.xet_core_structures.specs.declared.error.CoreError.{CoreError}
 use Rattle.placed_shards.specs.Findings.{FirstRefusal}
-use Rattle.placed_shards.specs.Merging.{IsMergeOf, MergeRefusal}
+use Rattle.placed_shards.specs.MergedLists.{IsMergeOf, MergeRefusal}
 use Rattle.placed_shards.specs.Selections.{all_records}
 use Rattle.placed_shards.specs.Strict.{AgreedRefusal, IsJoinedMerge}
 use Rattle.xet_records.specs.declared.record_reader.FormatVersion.{FormatVersion}

@@ -2,7 +2,7 @@ use Rattle.std.proofs.Common.{inl, List, ℕ, map, Bor, sym, subst}
 use Rattle.std.specs.List.{AllZip}
 use Rattle.std.proofs.lemmas.Result.{MatchResult-weaker}
 use Rattle.placed_shards.specs.Content.{content}
-use Rattle.placed_shards.specs.Steps.Merging.{IsOpenedAlone}
+use Rattle.placed_shards.specs.Steps.MergingSteps.{IsOpenedAlone}
 use Rattle.placed_shards.proofs.OpenedInputs.{all_read, contents_opened}
 use Rattle.placed_shards.proofs.findings.find_disagreements.Goals as goal
 

@@ -3,7 +3,7 @@ use Rattle.std.specs.Prelude.{⊤}
 use Rattle.std.specs.List.{AllZip}
 use Rattle.std.proofs.lemmas.List.{length-map}
 use Rattle.std.proofs.lemmas.Result.{err_from_is_err_and}
-use Rattle.placed_shards.specs.Steps.Merging.{IsOpenedAlone}
+use Rattle.placed_shards.specs.Steps.MergingSteps.{IsOpenedAlone}
 use Rattle.placed_shards.proofs.OpenedInputs.{alone_up_to, bytes_at, first_unread, one_more_alone}
 use Rattle.placed_shards.proofs.findings.open_all.Goals as goal
 

@@ -1,6 +1,6 @@
 use Rattle.std.proofs.Common.{map, take}
 use Rattle.std.specs.List.{AllZip}
-use Rattle.placed_shards.specs.Steps.Merging.{IsOpenedAlone}
+use Rattle.placed_shards.specs.Steps.MergingSteps.{IsOpenedAlone}
 use Rattle.placed_shards.proofs.findings.open_all.Given as goal
 
 abbrev pub invariant-loop-input : goal.invariant-loop-input

@@ -1,4 +1,4 @@
-use Rattle.placed_shards.proofs.TablesInARow.{tables_lose_no_record}
+use Rattle.placed_shards.proofs.ConsecutiveTables.{tables_lose_no_record}
 use Rattle.placed_shards.proofs.laws.tables_lose_no_record.Goals as goal
 
 pub returns : goal.returns

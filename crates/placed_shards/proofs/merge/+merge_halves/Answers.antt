@@ -1,6 +1,6 @@
 use Rattle.std.proofs.Common.{◌<◌, length, refl, rules}
 use Rattle.std.proofs.lemmas.Result.{err_from_is_err_and}
-use Rattle.placed_shards.specs.Merging.MergeRefusal.{of_none}
+use Rattle.placed_shards.specs.MergedLists.MergeRefusal.{of_none}
 use Rattle.placed_shards.proofs.Merges.{bytes_of, no_bytes, only_bytes, halves_of}
 use Rattle.placed_shards.proofs.StrictMerges.{alone, together, together_strictly, not_first, not_second}
 use Rattle.placed_shards.proofs.merge.+merge_halves.Goals as goal

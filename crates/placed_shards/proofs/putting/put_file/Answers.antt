@@ -4,7 +4,7 @@ use Rattle.xet_records.specs.declared.file_structs.header.FileDataSequenceHeader
 use Rattle.xet_records.specs.FileRecord.{as_read, file_record_bytes, file_records, rows_after}
 use Rattle.xet_records.proofs.RecordKinds.{file_laws, length-record_bytes}
 use Rattle.xet_shards.specs.Write.Puts.{Puts}
-use Rattle.placed_shards.specs.Records.{file_as}
+use Rattle.placed_shards.specs.StoredFiles.{file_as}
 use Rattle.placed_shards.proofs.Filling.{file_parts, file_put}
 use Rattle.placed_shards.proofs.putting.put_file.Goals as goal
 

@@ -5,7 +5,7 @@ use Rattle.xet_records.specs.declared.file_structs.MDBFileInfo.{MDBFileInfo}
 use Rattle.xet_records.specs.FileRecord.{file_record_bytes, file_records, row_count}
 use Rattle.xet_records.specs.FileRow.{header_row}
 use Rattle.xet_shards.specs.Write.Puts.{Puts}
-use Rattle.placed_shards.specs.Records.{file_as, files_as}
+use Rattle.placed_shards.specs.StoredFiles.{file_as, files_as}
 use Rattle.placed_shards.proofs.Filling.{files_as-push, record_put, section_put}
 use Rattle.placed_shards.proofs.putting.put_files.Goals as goal
 

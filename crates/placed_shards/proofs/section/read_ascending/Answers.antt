@@ -2,7 +2,7 @@ use Rattle.std.proofs.Common.{◌≡◌, ◌∷◌, ◌++◌, [], IfSome, Some, 
 use Rattle.std.specs.declared.cmp.Ordering.TheVariants.{Less}
 use Rattle.xet_base.specs.Hash.{hash_cmp}
 use Rattle.xet_records.specs.RecordKind.{in_version}
-use Rattle.placed_shards.specs.Sections.{TakesRecord}
+use Rattle.placed_shards.specs.TakenRecords.{TakesRecord}
 use Rattle.placed_shards.proofs.Ascending.{AscendsTo, ascends_on, descends, nothing_before}
 use Rattle.placed_shards.proofs.Sections.{none_taken, taken_more}
 use Rattle.placed_shards.proofs.section.read_ascending.Goals as goal

@@ -3,7 +3,7 @@ use Rattle.std.specs.Prelude.{MatchOption}
 use Rattle.std.specs.declared.cmp.Ordering.TheVariants.{Less, Greater}
 use Rattle.xet_base.specs.Hash.{hash_cmp}
 use Rattle.xet_core_structures.specs.Records.RecordPairs.{key_of_record}
-use Rattle.placed_shards.specs.Steps.Sets.{MakesNone, MakesRecord}
+use Rattle.placed_shards.specs.Steps.SetsSteps.{MakesNone, MakesRecord}
 use Rattle.placed_shards.proofs.Uniting.{first_alone, second_alone, first_less, second_less, both_next, both_none}
 use Rattle.placed_shards.proofs.sets.next_turn.Goals as goal
 

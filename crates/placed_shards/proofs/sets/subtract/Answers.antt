@@ -1,5 +1,5 @@
 use Rattle.std.proofs.Common.{drop, map, Some, None, sym, ap, ◌∙◌, subst, append-nil}
-use Rattle.placed_shards.specs.Steps.Sets.{IsPass}
+use Rattle.placed_shards.specs.Steps.SetsSteps.{IsPass}
 use Rattle.placed_shards.proofs.Subtracting.{IsSubtracting, subtracting_start, subtracting_on, subtracting_ends}
 use Rattle.placed_shards.proofs.Uniting.{pushed_read}
 use Rattle.placed_shards.proofs.sets.subtract.Goals as goal

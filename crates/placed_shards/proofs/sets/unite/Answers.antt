@@ -1,6 +1,6 @@
 use Rattle.std.proofs.Common.{◌≡◌, ◌+◌, inr, drop, map, refl, sym, ap, ◌∙◌, subst}
 use Rattle.xet_shards.specs.Write.Section.{total_rows}
-use Rattle.placed_shards.specs.Steps.Sets.{CountsRows, IsTurn}
+use Rattle.placed_shards.specs.Steps.SetsSteps.{CountsRows, IsTurn}
 use Rattle.placed_shards.proofs.Uniting.{IsUniting, uniting_start, uniting_on, after_all, no_record, fewer_left, pushed_read}
 use Rattle.placed_shards.proofs.sets.unite.Goals as goal
 

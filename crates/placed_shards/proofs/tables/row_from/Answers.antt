@@ -1,6 +1,6 @@
 use Rattle.std.proofs.Common.{◌≡◌, ◌+◌, ◌-◌, ◌/◌, length, sym, ap, ◌∙◌, arith}
 use Rattle.std.specs.Prelude.{nat_lt}
-use Rattle.placed_shards.specs.Tables.{word_in}
+use Rattle.placed_shards.specs.RangeRows.{word_in}
 use Rattle.placed_shards.proofs.Bisection.{goes_behind, goes_before, is_below, is_not_below}
 use Rattle.placed_shards.proofs.tables.row_from.Goals as goal
 

@@ -1,6 +1,6 @@
 use Rattle.std.proofs.Common.{◌/◌, length}
 use Rattle.std.specs.Prelude.{nat_lt}
-use Rattle.placed_shards.specs.Tables.{word_in}
+use Rattle.placed_shards.specs.RangeRows.{word_in}
 use Rattle.placed_shards.proofs.Bisection.{IsBisecting}
 use Rattle.placed_shards.proofs.tables.row_from.Given as goal
 

@@ -3,7 +3,7 @@ use Rattle.std.specs.Prelude.{All, Contains}
 use Rattle.std.proofs.lemmas.Result.{IfOk-weaker}
 use Rattle.shard_bytes.specs.declared.check.Finding.{Finding}
 use Rattle.shard_bytes.specs.Checking.{IsWhole, IsIntact, IsFinding, IsNote, HoldsSomeShard}
-use Rattle.shard_bytes.specs.Steps.Checking.{IsReport}
+use Rattle.shard_bytes.specs.Steps.CheckingSteps.{IsReport}
 use Rattle.shard_bytes.proofs.Reading.{not_loaded}
 use Rattle.shard_bytes.proofs.Whole.{nothing_wrong, nothing_lost, holds_one}
 use Rattle.shard_bytes.proofs.check.check_bytes.Goals as goal

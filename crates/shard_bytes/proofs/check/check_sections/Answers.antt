@@ -10,7 +10,7 @@ use Rattle.xet_shards.specs.Write.Section.{total_rows}
 use Rattle.xet_shards.specs.Write.Tables.{hash_in}
 use Rattle.shard_bytes.specs.declared.check.Section.TheVariants.{Files, Xorbs}
 use Rattle.shard_bytes.specs.Checking.{IsReadAs}
-use Rattle.shard_bytes.specs.Steps.Checking.{IsReport, IsUnreadable, AddsDisorder, AddsMalformed}
+use Rattle.shard_bytes.specs.Steps.CheckingSteps.{IsReport, IsUnreadable, AddsDisorder, AddsMalformed}
 use Rattle.shard_bytes.proofs.Checking.{header_in, report_of}
 use Rattle.shard_bytes.proofs.Reading.{files_unread, xorbs_unread}
 use Rattle.shard_bytes.proofs.check.check_sections.Goals as goal

@@ -1,4 +1,4 @@
-use Rattle.shard_bytes.specs.Steps.Checking.{AddsSize, Compares}
+use Rattle.shard_bytes.specs.Steps.CheckingSteps.{AddsSize, Compares}
 use Rattle.shard_bytes.proofs.Checking.{OnOk-weaker, adds_all_parts}
 use Rattle.shard_bytes.proofs.check.compare.Goals as goal
 

@@ -1,7 +1,7 @@
 use Rattle.std.proofs.Common.{sym, ◌∙◌, subst, refl}
 use Rattle.std.specs.List.{slice_range}
 use Rattle.shard_bytes.specs.Checking.{IsReorderedTable}
-use Rattle.shard_bytes.specs.Steps.Checking.{IsWrittenTable, FindsInTable}
+use Rattle.shard_bytes.specs.Steps.CheckingSteps.{IsWrittenTable, FindsInTable}
 use Rattle.shard_bytes.proofs.Checking.{table_same}
 use Rattle.shard_bytes.proofs.Reordered.{alike_itself, written_table}
 use Rattle.shard_bytes.proofs.check.push_chunk_table.Goals as goal

@@ -6,7 +6,7 @@ use Rattle.xet_core_structures.specs.Layout.{layout_of}
 use Rattle.xet_core_structures.specs.TwoShards.ByteResults.{LoadRefusal}
 use Rattle.xet_shards.specs.Read.SectionsBehindHeader.{options_of}
 use Rattle.placed_shards.specs.Content.{Content, HasFilesIn, content_layout}
-use Rattle.shard_bytes.specs.Steps.Checking.{Compares}
+use Rattle.shard_bytes.specs.Steps.CheckingSteps.{Compares}
 use Rattle.shard_bytes.proofs.Checking.{footer_read, never_refused, written_unless, xorbs_fit}
 use Rattle.shard_bytes.proofs.check.push_differences.Goals as goal
 use Rattle.shard_bytes.proofs.check.push_differences.Goals.{In_ok-written}

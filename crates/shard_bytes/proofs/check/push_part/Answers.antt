@@ -1,6 +1,6 @@
 use Rattle.shard_bytes.specs.declared.check.Finding.TheVariants.{Differs}
 use Rattle.shard_bytes.specs.Checking.{IsSamePart}
-use Rattle.shard_bytes.specs.Steps.Checking.{AddsPart}
+use Rattle.shard_bytes.specs.Steps.CheckingSteps.{AddsPart}
 use Rattle.shard_bytes.proofs.Checking.{OnOk-weaker, adds_if}
 use Rattle.shard_bytes.proofs.check.push_part.Goals as goal
 

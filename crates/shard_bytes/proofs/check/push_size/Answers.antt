@@ -1,6 +1,6 @@
 use Rattle.std.proofs.Common.{◌≡◌, ◌↔◌, IsTrue, length, nat_eq, rules}
 use Rattle.shard_bytes.specs.declared.check.Finding.TheVariants.{Size}
-use Rattle.shard_bytes.specs.Steps.Checking.{AddsSize}
+use Rattle.shard_bytes.specs.Steps.CheckingSteps.{AddsSize}
 use Rattle.shard_bytes.proofs.Checking.{OnOk-weaker, adds_if}
 use Rattle.shard_bytes.proofs.check.push_size.Goals as goal
 

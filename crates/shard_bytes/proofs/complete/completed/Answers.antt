@@ -1,7 +1,7 @@
 use Rattle.std.proofs.Common.{◌∙◌}
 use Rattle.std.proofs.lemmas.Result.{err_from_is_err_and}
 use Rattle.xet_core_structures.specs.KeyedExport.{ExportCase}
-use Rattle.placed_shards.specs.Records.{files_as}
+use Rattle.placed_shards.specs.StoredFiles.{files_as}
 use Rattle.shard_bytes.proofs.MemoryErrors.{not_read_in_memory}
 use Rattle.shard_bytes.proofs.complete.completed.Goals as goal
 

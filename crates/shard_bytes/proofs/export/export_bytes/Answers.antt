@@ -4,7 +4,7 @@ use Rattle.xet_core_structures.specs.declared.error.CoreError.TheVariants.{OutOf
 use Rattle.placed_shards.specs.Content.{content}
 use Rattle.placed_shards.proofs.Outcomes.{if_written}
 use Rattle.shard_bytes.specs.Exporting.{ExportsBytes, HoldsExport, RefusesExport}
-use Rattle.shard_bytes.specs.Sizes.{IsRewriteSize}
+use Rattle.shard_bytes.specs.ResultSizes.{IsRewriteSize}
 use Rattle.shard_bytes.specs.Versions.{LaidOutIn, NotLaidOutIn}
 use Rattle.shard_bytes.proofs.Compositions.{IsWritten, IsNotWritten, made_in, refused_in, exports_made, export_fits}
 use Rattle.shard_bytes.proofs.ExportedShards.{export_held, export_size, only_out_of_memory}

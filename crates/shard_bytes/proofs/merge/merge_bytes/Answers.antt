@@ -1,9 +1,9 @@
 use Rattle.std.proofs.Common.{◌≡◌, ℕ, List, Bor, inl, length, map, refl, subst, sym}
 use Rattle.std.proofs.lemmas.Result.{err_from_is_err_and}
 use Rattle.placed_shards.specs.Content.{Content, content}
-use Rattle.placed_shards.specs.Merging.{IsMergeOf, MergeRefusal, shard_content}
-use Rattle.placed_shards.specs.Merging.MergeRefusal.{no_memory}
-use Rattle.placed_shards.specs.Sizes.{IsResultSize}
+use Rattle.placed_shards.specs.MergedLists.{IsMergeOf, MergeRefusal, shard_content}
+use Rattle.placed_shards.specs.MergedLists.MergeRefusal.{no_memory}
+use Rattle.placed_shards.specs.MergeSizes.{IsResultSize}
 use Rattle.xet_core_structures.specs.Trees.MergeTrees.{MergeRefused}
 use Rattle.placed_shards.proofs.Outcomes.{if_written}
 use Rattle.shard_bytes.specs.Versions.{IsWrittenIn, NotWrittenIn}

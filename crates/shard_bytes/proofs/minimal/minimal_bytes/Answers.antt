@@ -3,7 +3,7 @@ use Rattle.std.proofs.lemmas.Result.{err_from_is_err_and}
 use Rattle.placed_shards.specs.Content.{content}
 use Rattle.placed_shards.proofs.Outcomes.{if_written}
 use Rattle.shard_bytes.specs.Minimal.{MinimalBytes, RefusesMinimalBytes}
-use Rattle.shard_bytes.specs.Sizes.{IsMinimalSize}
+use Rattle.shard_bytes.specs.ResultSizes.{IsMinimalSize}
 use Rattle.shard_bytes.specs.Versions.{LaidOutIn, NotLaidOutIn}
 use Rattle.shard_bytes.proofs.Compositions.{IsWritten, IsNotWritten, made_in, refused_in}
 use Rattle.shard_bytes.proofs.InVersions.{not_laid_out_for, size_laid_out}

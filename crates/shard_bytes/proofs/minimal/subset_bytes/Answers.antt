@@ -3,7 +3,7 @@ use Rattle.placed_shards.proofs.Outcomes.{if_written}
 use Rattle.xet_core_structures.specs.KeyedExport.{ExportCase}
 use Rattle.shard_bytes.specs.Minimal.{SubsetBytes}
 use Rattle.shard_bytes.specs.Outcomes.{InMemory}
-use Rattle.shard_bytes.specs.Sizes.{IsMinimalSize}
+use Rattle.shard_bytes.specs.ResultSizes.{IsMinimalSize}
 use Rattle.shard_bytes.specs.Versions.{LaidOutIn}
 use Rattle.shard_bytes.proofs.Compositions.{IsWritten, IsNotWritten, made_in}
 use Rattle.shard_bytes.proofs.InVersions.{size_laid_out}

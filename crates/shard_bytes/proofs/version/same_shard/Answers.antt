@@ -4,7 +4,7 @@ use Rattle.xet_core_structures.specs.declared.shard_format.MDBShardInfo.{MDBShar
 use Rattle.xet_core_structures.specs.Ends.{HasHeaderAndFooter}
 use Rattle.xet_core_structures.specs.KeyedExport.{ExportCase}
 use Rattle.xet_core_structures.specs.TwoShards.ByteResults.{LoadRefusal}
-use Rattle.placed_shards.specs.Records.{files_as}
+use Rattle.placed_shards.specs.StoredFiles.{files_as}
 use Rattle.shard_bytes.proofs.MemoryErrors.{not_read_in_memory}
 use Rattle.shard_bytes.proofs.version.same_shard.Goals as goal
 

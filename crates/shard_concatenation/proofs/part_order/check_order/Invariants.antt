@@ -1,5 +1,5 @@
 use Rattle.std.proofs.Common.{List, All, take}
-use Rattle.shard_concatenation.specs.Steps.Sections.{HoldSections, all_of}
+use Rattle.shard_concatenation.specs.Steps.SectionsSteps.{HoldSections, all_of}
 use Rattle.xet_shards.specs.Write.WithOptions.{Ascends}
 use Rattle.shard_concatenation.proofs.PartOrder.{AscendTo}
 use Rattle.shard_concatenation.proofs.part_order.check_order.Given as goal

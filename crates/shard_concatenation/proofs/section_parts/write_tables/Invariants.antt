@@ -1,5 +1,5 @@
 use Rattle.std.proofs.Common.{List, take}
-use Rattle.shard_concatenation.specs.Steps.Sections.{HoldSections}
+use Rattle.shard_concatenation.specs.Steps.SectionsSteps.{HoldSections}
 use Rattle.shard_concatenation.proofs.SectionParts.{HasWrittenTables}
 use Rattle.shard_concatenation.proofs.section_parts.write_tables.Given as goal
 

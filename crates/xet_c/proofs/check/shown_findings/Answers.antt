@@ -1,6 +1,6 @@
 use Rattle.std.proofs.Common.{◌≡◌, map, ap, ◌∙◌}
 use Rattle.std.proofs.lemmas.Result.{IfOk-weaker}
-use Rattle.xet_c.specs.Checking.{c_finding, ShowsFindings}
+use Rattle.xet_c.specs.ShownChecks.{c_finding, ShowsFindings}
 use Rattle.xet_c.proofs.check.shown_findings.Goals as goal
 
 pub returns-clause-ok : goal.returns-clause-ok

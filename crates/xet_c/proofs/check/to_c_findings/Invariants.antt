@@ -1,5 +1,5 @@
 use Rattle.std.proofs.Common.{◌≡◌, map, take}
-use Rattle.xet_c.specs.Checking.{c_finding}
+use Rattle.xet_c.specs.ShownChecks.{c_finding}
 use Rattle.xet_c.proofs.check.to_c_findings.Given as goal
 
 abbrev pub invariant-loop-finding : goal.invariant-loop-finding

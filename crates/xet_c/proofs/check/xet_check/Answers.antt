@@ -2,7 +2,7 @@ use Rattle.std.proofs.Common.{◌≡◌, Ok, Err, MatchResult}
 use Rattle.std.specs.Prelude.{IfOk, IfErr}
 use Rattle.std.specs.declared.result.Result.{Result}
 use Rattle.xet_core_structures.specs.declared.error.CoreError.TheVariants.{OutOfMemory}
-use Rattle.xet_c.specs.Checking.{ShowsFindings}
+use Rattle.xet_c.specs.ShownChecks.{ShowsFindings}
 use Rattle.xet_c.proofs.Outcomes.{outcome}
 use Rattle.xet_c.proofs.check.xet_check.Goals as goal
 

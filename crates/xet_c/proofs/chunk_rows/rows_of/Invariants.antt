@@ -1,5 +1,5 @@
 use Rattle.std.proofs.Common.{◌≡◌, map, take}
-use Rattle.xet_c.specs.Parts.{c_chunk_row}
+use Rattle.xet_c.specs.ShownParts.{c_chunk_row}
 use Rattle.xet_c.proofs.chunk_rows.rows_of.Given as goal
 
 abbrev pub invariant-loop-entry : goal.invariant-loop-entry

@@ -6,7 +6,7 @@ use Rattle.xet_core_structures.specs.Records.ShardContents.{HoldsShard}
 use Rattle.xet_core_structures.specs.declared.record_reader.FormatVersion.TheVariants.{V3}
 use Rattle.placed_shards.specs.Content.{content, content_layout}
 use Rattle.shard_bytes.specs.Completing.{Completes, RefusesCompletion}
-use Rattle.shard_bytes.specs.Sizes.{IsRewriteSize}
+use Rattle.shard_bytes.specs.ResultSizes.{IsRewriteSize}
 use Rattle.shard_bytes.specs.Versions.{LaidOutIn, NotLaidOutIn}
 use Rattle.shard_bytes.proofs.Completing.{whole_holds, only_memory_lacks, completes_made, size_completed}
 use Rattle.shard_bytes.proofs.Compositions.{made_in, refused_in as not_made_in}

@@ -1,7 +1,7 @@
 use Rattle.std.proofs.Common.{inl, refl}
 use Rattle.std.proofs.lemmas.Result.{err_from_is_err_and}
 use Rattle.placed_shards.specs.Content.{content}
-use Rattle.shard_bytes.specs.Sizes.{IsRewriteSize}
+use Rattle.shard_bytes.specs.ResultSizes.{IsRewriteSize}
 use Rattle.shard_bytes.specs.Versions.{IsInVersion, IsSameShard, RefusesSameShard, RefusesVersion}
 use Rattle.shard_bytes.proofs.Compositions.{written_of, not_written_of, size_in_version}
 use Rattle.xet_c.proofs.Versions.{no_version, refused_in, filled_in, size_filled}

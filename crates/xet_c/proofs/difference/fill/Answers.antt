@@ -1,7 +1,7 @@
 use Rattle.std.proofs.Common.{[], ◌∷◌, inl, refl}
 use Rattle.std.proofs.lemmas.Result.{err_from_is_err_and}
 use Rattle.placed_shards.specs.Content.{content}
-use Rattle.placed_shards.specs.Sizes.{IsResultSize}
+use Rattle.placed_shards.specs.MergeSizes.{IsResultSize}
 use Rattle.shard_bytes.specs.declared.combine.Operation.TheVariants.{Difference}
 use Rattle.shard_bytes.specs.Combining.{CombinesTo, RefusesCombining}
 use Rattle.shard_bytes.specs.Versions.{IsWrittenIn, NotWrittenIn}

@@ -1,5 +1,5 @@
 use Rattle.std.proofs.Common.{[], ◌∷◌, arith}
-use Rattle.placed_shards.specs.Sizes.{IsResultSize}
+use Rattle.placed_shards.specs.MergeSizes.{IsResultSize}
 use Rattle.xet_c.proofs.Outcomes.{outcome_of_fill, size_given}
 use Rattle.xet_c.proofs.difference.xet_difference.Goals as goal
 

@@ -2,7 +2,7 @@ use Rattle.std.proofs.Common.{inl, refl}
 use Rattle.std.proofs.lemmas.Result.{err_from_is_err_and}
 use Rattle.placed_shards.specs.Content.{content}
 use Rattle.shard_bytes.specs.Exporting.{ExportsBytes, RefusesExport}
-use Rattle.shard_bytes.specs.Sizes.{IsRewriteSize}
+use Rattle.shard_bytes.specs.ResultSizes.{IsRewriteSize}
 use Rattle.shard_bytes.specs.Versions.{LaidOutIn, NotLaidOutIn}
 use Rattle.shard_bytes.proofs.Compositions.{made_in, refused_in as not_made_in, exports_made, export_fits}
 use Rattle.shard_bytes.proofs.ExportedShards.{export_size}

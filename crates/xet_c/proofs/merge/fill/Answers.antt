@@ -2,9 +2,9 @@ use Rattle.std.proofs.Common.{◌≡◌, Bor, ℕ, List, inl, length, map, refl,
 use Rattle.std.proofs.lemmas.Result.{err_from_is_err_and}
 use Rattle.xet_core_structures.specs.Trees.MergeTrees.{MergeRefused}
 use Rattle.placed_shards.specs.Content.{Content, content}
-use Rattle.placed_shards.specs.Merging.{IsMergeOf, MergeRefusal, shard_content}
-use Rattle.placed_shards.specs.Merging.MergeRefusal.{no_memory}
-use Rattle.placed_shards.specs.Sizes.{IsResultSize}
+use Rattle.placed_shards.specs.MergedLists.{IsMergeOf, MergeRefusal, shard_content}
+use Rattle.placed_shards.specs.MergedLists.MergeRefusal.{no_memory}
+use Rattle.placed_shards.specs.MergeSizes.{IsResultSize}
 use Rattle.shard_bytes.specs.Versions.{IsWrittenIn, NotWrittenIn}
 use Rattle.shard_bytes.proofs.Compositions.{IsWritten, IsNotWritten, written_of, not_written_of}
 use Rattle.xet_c.proofs.Versions.{no_version, refused_in, filled_in, size_filled}

@@ -1,6 +1,6 @@
 use Rattle.std.proofs.Common.{◌≡◌, Bor, ℕ, List, length, map, subst, sym, ◌∙◌, true}
 use Rattle.placed_shards.specs.Content.{content}
-use Rattle.placed_shards.specs.Sizes.{IsResultSize}
+use Rattle.placed_shards.specs.MergeSizes.{IsResultSize}
 use Rattle.placed_shards.specs.Strict.{IsAgreedOr, IsJoinedMerge}
 use Rattle.placed_shards.proofs.MergeSizes.{size_of_merge}
 use Rattle.xet_c.proofs.merge.fill_if_agreeing.Goals as goal

@@ -2,7 +2,7 @@ use Rattle.std.proofs.Common.{inl, refl, subst}
 use Rattle.std.proofs.lemmas.Result.{err_from_is_err_and}
 use Rattle.placed_shards.specs.Content.{content}
 use Rattle.shard_bytes.specs.Minimal.{IsMinimalOf, MinimalBytes, RefusesMinimalBytes}
-use Rattle.shard_bytes.specs.Sizes.{IsMinimalSize}
+use Rattle.shard_bytes.specs.ResultSizes.{IsMinimalSize}
 use Rattle.shard_bytes.specs.Versions.{LaidOutIn, NotLaidOutIn}
 use Rattle.shard_bytes.proofs.Compositions.{made_in, refused_in as not_made_in}
 use Rattle.shard_bytes.proofs.InVersions.{not_laid_out_for, size_laid_out}

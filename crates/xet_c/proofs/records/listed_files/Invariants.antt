@@ -1,5 +1,5 @@
 use Rattle.std.proofs.Common.{◌≡◌, map, take}
-use Rattle.xet_c.specs.Recording.{c_listed_file}
+use Rattle.xet_c.specs.ListedRecords.{c_listed_file}
 use Rattle.xet_c.proofs.records.listed_files.Given as goal
 
 abbrev pub invariant-loop-file : goal.invariant-loop-file

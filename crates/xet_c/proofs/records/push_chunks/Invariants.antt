@@ -1,5 +1,5 @@
 use Rattle.std.proofs.Common.{◌≡◌, ◌++◌, map, take}
-use Rattle.xet_c.specs.Walking.{c_chunk}
+use Rattle.xet_c.specs.ShownRecords.{c_chunk}
 use Rattle.xet_c.proofs.records.push_chunks.Given as goal
 
 abbrev pub invariant-loop-entry : goal.invariant-loop-entry

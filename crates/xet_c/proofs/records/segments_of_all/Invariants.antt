@@ -1,5 +1,5 @@
 use Rattle.std.proofs.Common.{◌≡◌, take}
-use Rattle.xet_c.specs.Recording.{all_segments}
+use Rattle.xet_c.specs.ListedRecords.{all_segments}
 use Rattle.xet_c.proofs.records.segments_of_all.Given as goal
 
 abbrev pub invariant-loop-file : goal.invariant-loop-file

@@ -4,7 +4,7 @@ use Rattle.xet_core_structures.specs.KeyedExport.{ExportCase}
 use Rattle.placed_shards.specs.Content.{content, content_layout}
 use Rattle.xet_core_structures.specs.declared.record_reader.FormatVersion.TheVariants.{V3}
 use Rattle.shard_bytes.specs.Outcomes.{InMemory}
-use Rattle.shard_bytes.specs.Sizes.{IsMinimalSize}
+use Rattle.shard_bytes.specs.ResultSizes.{IsMinimalSize}
 use Rattle.shard_bytes.specs.Versions.{LaidOutIn}
 use Rattle.shard_bytes.proofs.Compositions.{made_in}
 use Rattle.shard_bytes.proofs.InVersions.{size_laid_out}

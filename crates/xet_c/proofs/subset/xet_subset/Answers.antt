@@ -1,5 +1,5 @@
 use Rattle.std.proofs.Common.{arith}
-use Rattle.shard_bytes.specs.Sizes.{IsMinimalSize}
+use Rattle.shard_bytes.specs.ResultSizes.{IsMinimalSize}
 use Rattle.xet_c.proofs.Outcomes.{outcome_of_fill, size_given}
 use Rattle.xet_c.proofs.subset.xet_subset.Goals as goal
 

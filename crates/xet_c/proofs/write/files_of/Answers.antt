@@ -1,5 +1,5 @@
 use Rattle.std.proofs.Common.{inr, refl, arith}
-use Rattle.xet_c.specs.Recording.{IsListedFile}
+use Rattle.xet_c.specs.ListedRecords.{IsListedFile}
 use Rattle.xet_c.proofs.Listing.{more_listed, too_few, too_many, are_left}
 use Rattle.xet_c.proofs.write.files_of.Goals as goal
 

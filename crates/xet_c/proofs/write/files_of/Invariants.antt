@@ -1,4 +1,4 @@
-use Rattle.xet_c.specs.Recording.{IsListedFile}
+use Rattle.xet_c.specs.ListedRecords.{IsListedFile}
 use Rattle.xet_c.proofs.Listing.{HasListed}
 use Rattle.xet_c.proofs.write.files_of.Given as goal
 

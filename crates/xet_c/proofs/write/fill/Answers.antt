@@ -3,7 +3,7 @@ use Rattle.std.proofs.lemmas.Result.{err_from_is_err_and}
 use Rattle.placed_shards.specs.Content.{Content, content}
 use Rattle.placed_shards.specs.Given.{plain_content, shard_of as given_shard}
 use Rattle.shard_bytes.proofs.GivenRecords.{can_given, not_given, records_written, records_refused}
-use Rattle.xet_c.specs.Recording.{RefusesListed, WritesListed}
+use Rattle.xet_c.specs.ListedRecords.{RefusesListed, WritesListed}
 use Rattle.xet_c.proofs.Versions.{no_version, refused_in, filled_in}
 use Rattle.xet_c.proofs.WrittenLists.{no_files, no_xorbs, not_written, written}
 use Rattle.xet_c.proofs.write.fill.Goals as goal

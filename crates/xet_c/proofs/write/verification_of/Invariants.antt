@@ -1,5 +1,5 @@
 use Rattle.std.proofs.Common.{map, take}
-use Rattle.xet_c.specs.Recording.{AreHashRows}
+use Rattle.xet_c.specs.ListedRecords.{AreHashRows}
 use Rattle.xet_c.proofs.write.verification_of.Given as goal
 
 abbrev pub invariant-loop-segment : goal.invariant-loop-segment

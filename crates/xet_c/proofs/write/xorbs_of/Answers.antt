@@ -1,5 +1,5 @@
 use Rattle.std.proofs.Common.{inr, refl, arith}
-use Rattle.xet_c.specs.Recording.{IsListedXorb}
+use Rattle.xet_c.specs.ListedRecords.{IsListedXorb}
 use Rattle.xet_c.proofs.Listing.{more_listed, too_few, too_many, are_left}
 use Rattle.xet_c.proofs.write.xorbs_of.Goals as goal
 

@@ -1,4 +1,4 @@
-use Rattle.xet_c.specs.Recording.{IsListedXorb}
+use Rattle.xet_c.specs.ListedRecords.{IsListedXorb}
 use Rattle.xet_c.proofs.Listing.{HasListed}
 use Rattle.xet_c.proofs.write.xorbs_of.Given as goal
 

@@ -7,7 +7,7 @@ use Rattle.xet_shards.specs.Write.Section.{section_bytes, total_rows}
 use Rattle.xet_shards.proofs.Write.Layouts.{length-file_section, length-xorb_section, length-shard_header_bytes}
 use Rattle.placed_shards.specs.Content.{content, options_in}
 use Rattle.xet_shards.specs.Write.Puts.{Puts}
-use Rattle.placed_shards.specs.Records.{files_as}
+use Rattle.placed_shards.specs.StoredFiles.{files_as}
 use Rattle.placed_shards.proofs.Contents.{rows_of_files, shard_put, size_of_parts, widths_of_files}
 use Rattle.placed_shards.proofs.placed_shard.PlacedShard.put_all.Goals as goal
 

@@ -3,7 +3,7 @@ use Rattle.xet_records.specs.FileRecord.{file_records}
 use Rattle.xet_records.specs.XorbRecord.{xorb_records}
 use Rattle.xet_shards.specs.Write.Section.{total_rows}
 use Rattle.placed_shards.specs.Ranges.{is_within}
-use Rattle.placed_shards.specs.Records.{files_as}
+use Rattle.placed_shards.specs.StoredFiles.{files_as}
 use Rattle.placed_shards.proofs.Changing.{passing_files}
 use Rattle.placed_shards.proofs.Within.{rows_passing}
 use Rattle.placed_shards.proofs.placed_shard.PlacedShard.within.Goals as goal

@@ -1,5 +1,5 @@
 use Rattle.std.proofs.Common.{ap, ◌∙◌}
-use Rattle.placed_shards.specs.Records.{files_as}
+use Rattle.placed_shards.specs.StoredFiles.{files_as}
 use Rattle.placed_shards.proofs.Changing.{no_files}
 use Rattle.placed_shards.proofs.placed_shard.PlacedShard.without_files.Goals as goal
 

@@ -1,6 +1,6 @@
 use Rattle.std.proofs.Common.{rules, sym, ◌∙◌, IsTrue, false, subst}
 use Rattle.shard_bytes.specs.Checking.{WordsAscend}
-use Rattle.shard_bytes.specs.Steps.Checking.{IsSortedOf}
+use Rattle.shard_bytes.specs.Steps.CheckingSteps.{IsSortedOf}
 use Rattle.shard_bytes.proofs.Reordered.{same_size, table_is_reordered, found_ascends, sorted_same}
 use Rattle.shard_bytes.proofs.check.reordered.is_reordered.Goals as goal
 

@@ -1,6 +1,0 @@
-use Rattle.std.proofs.Common.{◌≡◌, map, take}
-use Rattle.xet_c.specs.Parts.{c_chunk_place}
-use Rattle.xet_c.proofs.parts.places_of.Given as goal
-
-abbrev pub invariant-loop-place : goal.invariant-loop-place
-invariant-loop-place l = l.shown.items ≡ map c_chunk_place (take l.place-index l.places)
