@@ -10,6 +10,7 @@ use Rattle.placed_shards.specs.MergedLists.{IsPartOf}
 use Rattle.placed_shards.specs.Parts.{HasRecordsInOrder}
 use Rattle.placed_shards.specs.Ranges.{is_within, ranges_between, AreCuts}
 use Rattle.shard_concatenation.specs.Concatenation.{ShardPart, bytes_of_part, IsPartUnder, files_in, xorbs_in, parts_layout, AscendBoth, AreConsecutiveParts, AreBytesOf, latest_of, IsConcatenation, keyed_layout_in, IsHeldLayout, RefusesConcatenation}
+pub use Rattle.shard_concatenation.specs.Spans.{FillsSpan, FillsSpanWith}
 use Rattle.shard_bytes.specs.Outcomes.{InMemory}
 
 -- byte strings are concatenated: `Gives IsMade IsCause` says that bytes with the one property are

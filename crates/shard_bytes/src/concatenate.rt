@@ -2,10 +2,10 @@
 
 ghost use Rattle.std.specs.Prelude.{map};
 ghost use Rattle.placed_shards.specs.Filling.{FillsWith};
-ghost use Rattle.shard_bytes.specs.Concatenations.{Concatenates};
+ghost use Rattle.shard_bytes.specs.Concatenations.{Concatenates, FillsSpanWith};
 
 use crate::memory::in_memory;
-use shard_concatenation::concatenate_shards_into;
+use shard_concatenation::{concatenate_shards_into, concatenated_span_into};
 use std::alloc::Global;
 use xet_core_structures::error::Result;
 
@@ -31,6 +31,29 @@ pub fn concatenate_into(alloc: Global, shards: &[&[u8]], out: &mut [u8]) -> Resu
         (λ IsMade IsCause. FillsWith IsMade IsCause out.old out.new result) }
 {
     match concatenate_shards_into(alloc, shards, out) {
+        Ok(size) => Ok(size),
+        Err(error) => Err(in_memory(error)),
+    }
+}
+
+/// Fills `out` with the bytes from the offset `from` on of what [`concatenate_into`] puts, and returns
+/// the size of the whole. If they pass its end, `out` stays as it is, and so it does after any error.
+/// Spans that follow one another from 0 to the size are the whole
+/// (`shard_concatenation::laws::spans_are_the_whole`), so threads can write it side by side: the size
+/// is returned also for a span of no bytes.
+///
+/// The errors are those of [`concatenate_into`], and so is the memory, but for the tables of files
+/// and of xorbs, and for that of chunks if `out` has some of it: they are made beside `out`.
+pub fn concatenate_span_into(
+    alloc: Global,
+    shards: &[&[u8]],
+    from: usize,
+    out: &mut [u8],
+) -> Result<usize>
+    ensures { Concatenates (map (λ x. x.now) shards.now)
+        (λ IsMade IsCause. FillsSpanWith IsMade IsCause from out.old out.new result) }
+{
+    match concatenated_span_into(alloc, shards, from, out) {
         Ok(size) => Ok(size),
         Err(error) => Err(in_memory(error)),
     }

@@ -50,25 +50,25 @@ rows_joined : {R : Type 0} (bytes : R → List ℕ) (records : List (List R)) �
 rows_joined bytes [] = refl
 rows_joined bytes (rs ∷ records) = ap (λ more. flat_map bytes rs ++ more) (rows_joined bytes records) ∙ sym (flat_map-append bytes rs (all_of records))
 
-rows_of_parts : {R : Type 0} (bytes : R → List ℕ) (sections : List SectionPart) (records : List (List R)) → map (λ s. s.rows.now) sections ≡ map (flat_map bytes) records
+pub rows_of_parts : {R : Type 0} (bytes : R → List ℕ) (sections : List SectionPart) (records : List (List R)) → map (λ s. s.rows.now) sections ≡ map (flat_map bytes) records
     → flat_map (λ s. s.rows.now) sections ≡ flat_map bytes (all_of records)
 rows_of_parts bytes sections records are =
     sym (flat_map-map (λ (bs : List ℕ). bs) (λ (s : SectionPart). s.rows.now) sections) ∙ ap (flat_map (λ bs. bs)) are ∙ flat_map-map (λ (bs : List ℕ). bs) (flat_map bytes) records ∙ rows_joined bytes records
 
-all_files : (parts : List ShardPart) → all_of (map (λ p. p.files) parts) ≡ files_in parts
+pub all_files : (parts : List ShardPart) → all_of (map (λ p. p.files) parts) ≡ files_in parts
 all_files parts = flat_map-map (λ (rs : List MDBFileInfo). rs) (λ (p : ShardPart). p.files) parts
 
-all_xorbs : (parts : List ShardPart) → all_of (map (λ p. p.xorbs) parts) ≡ xorbs_in parts
+pub all_xorbs : (parts : List ShardPart) → all_of (map (λ p. p.xorbs) parts) ≡ xorbs_in parts
 all_xorbs parts = flat_map-map (λ (rs : List MDBXorbInfo). rs) (λ (p : ShardPart). p.xorbs) parts
 
-layout_from_parts : (files : List MDBFileInfo) (xorbs : List MDBXorbInfo) (version : FormatVersion) (key : DataHash) → (((((((shard_header_bytes (header_value version) ++ flat_map file_records.record_bytes files) ++ file_records.header_bytes file_records.bookend)
+pub layout_from_parts : (files : List MDBFileInfo) (xorbs : List MDBXorbInfo) (version : FormatVersion) (key : DataHash) → (((((((shard_header_bytes (header_value version) ++ flat_map file_records.record_bytes files) ++ file_records.header_bytes file_records.bookend)
     ++ flat_map xorb_records.record_bytes xorbs) ++ xorb_records.header_bytes xorb_records.bookend) ++ table_bytes file_records files) ++ table_bytes xorb_records xorbs) ++ chunk_table_bytes xorbs) ++ shard_footer_bytes (footer_value files xorbs (options_under version key))
     ≡ layout_of files xorbs (options_under version key)
 unfolding layout_of section_bytes
 layout_from_parts files xorbs version key = simp (append_assoc)
 
 -- the rows that were merged are the chunk table
-merged_table : (xorbs : List MDBXorbInfo) (rows : List ChunkTableRow) (old new : Option (List ℕ)) → IsPermutation (chunk_table_rows xorbs) rows → Merges rows old new → Appends old new (chunk_table_bytes xorbs)
+pub merged_table : (xorbs : List MDBXorbInfo) (rows : List ChunkTableRow) (old new : Option (List ℕ)) → IsPermutation (chunk_table_rows xorbs) rows → Merges rows old new → Appends old new (chunk_table_bytes xorbs)
 unfolding chunk_table_bytes
 merged_table xorbs rows old new moved merges =
     subst (λ rs. Appends old new (flat_map chunk_table_row_bytes rs))
@@ -263,3 +263,21 @@ layout_size totals footer files xorbs version key fit are end =
       xorb_rows-chunks xorbs,
       length-chunk_table xorbs,
     )
+
+-- pieces put one after another, with a chunk table in three parts, are the layout
+pub pieces_are : (files xorbs : List SectionPart) (parts : List ShardPart) (version : FormatVersion) (key : DataHash) (footer : MDBShardFileFooter) (h fe xe t front rows back f : List ℕ)
+    → HoldSections file_records files (map (λ part. part.files) parts) → HoldSections xorb_records xorbs (map (λ part. part.xorbs) parts) → h ≡ shard_header_bytes (header_value version) → fe ≡ file_records.header_bytes file_records.bookend → xe ≡ xorb_records.header_bytes xorb_records.bookend
+    → t ≡ table_bytes file_records (files_in parts) ++ table_bytes xorb_records (xorbs_in parts) → chunk_table_bytes (xorbs_in parts) ≡ (front ++ rows) ++ back → f ≡ shard_footer_bytes footer → footer ≡ footer_value (files_in parts) (xorbs_in parts) (options_under version key)
+    → ((((((((h ++ flat_map (λ s. s.rows.now) files) ++ fe) ++ flat_map (λ s. s.rows.now) xorbs) ++ xe) ++ t) ++ front) ++ rows) ++ back) ++ f ≡ layout_of (files_in parts) (xorbs_in parts) (options_under version key)
+pieces_are files xorbs parts version key footer h fe xe t front rows back f files_held xorbs_held h_is fe_is xe_is t_is c_is f_is footer_is =
+    let fs = files_in parts in
+    let xs = xorbs_in parts in
+    let fr : flat_map (λ s. s.rows.now) files ≡ flat_map file_records.record_bytes fs = rows_of_parts file_records.record_bytes files (map (λ p. p.files) parts) files_held.rows ∙ ap (flat_map file_records.record_bytes) (all_files parts) in
+    let xr : flat_map (λ s. s.rows.now) xorbs ≡ flat_map xorb_records.record_bytes xs = rows_of_parts xorb_records.record_bytes xorbs (map (λ p. p.xorbs) parts) xorbs_held.rows ∙ ap (flat_map xorb_records.record_bytes) (all_xorbs parts) in
+    let sections : List ℕ = (((h ++ flat_map (λ s. s.rows.now) files) ++ fe) ++ flat_map (λ s. s.rows.now) xorbs) ++ xe in
+    let table : (((sections ++ t) ++ front) ++ rows) ++ back ≡ (sections ++ t) ++ chunk_table_bytes xs =
+    ap (λ l. l ++ back) (append_assoc (sections ++ t) front rows) ∙ append_assoc (sections ++ t) (front ++ rows) back ∙ ap (λ l. (sections ++ t) ++ l) (sym c_is) in
+    let tables : sections ++ t ≡ (sections ++ table_bytes file_records fs) ++ table_bytes xorb_records xs = ap (λ l. sections ++ l) t_is ∙ sym (append_assoc sections (table_bytes file_records fs) (table_bytes xorb_records xs)) in
+    ap (λ l. l ++ f) (table ∙ ap (λ l. l ++ chunk_table_bytes xs) tables)
+    ∙ (λ i. ((((((((h_is i) ++ fr i) ++ fe_is i) ++ xr i) ++ xe_is i) ++ table_bytes file_records fs) ++ table_bytes xorb_records xs) ++ chunk_table_bytes xs) ++ (f_is ∙ ap shard_footer_bytes footer_is) i)
+    ∙ layout_from_parts fs xs version key

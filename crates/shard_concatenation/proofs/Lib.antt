@@ -10,4 +10,5 @@ pub mod Permutations
 pub mod RangeParts
 pub mod RowShard
 pub mod SectionParts
+pub mod WithinSpan
 pub mod TableMerge

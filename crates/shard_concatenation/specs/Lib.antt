@@ -1,2 +1,3 @@
 pub mod Concatenation
+pub mod Spans
 pub mod Steps

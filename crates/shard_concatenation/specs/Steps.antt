@@ -5,3 +5,4 @@ pub mod Gathering
 pub mod PartFilling
 pub mod PartOrder
 pub mod SectionsSteps
+pub mod SpansSteps

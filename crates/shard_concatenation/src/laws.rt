@@ -1,6 +1,6 @@
 //! Laws of concatenation that no contract of a single call states.
 
-ghost use Rattle.std.specs.Prelude.{◌≡◌, ℕ, List, None};
+ghost use Rattle.std.specs.Prelude.{◌≡◌, ℕ, List, None, flat_map, length, sum_by};
 ghost use Rattle.std.specs.List.{AllZip};
 ghost use Rattle.xet_base.specs.KeyedHash.{no_key};
 ghost use Rattle.xet_base.specs.declared.merklehash.DataHash.{DataHash};
@@ -10,6 +10,7 @@ ghost use Rattle.xet_shards.specs.Write.Layout.{layout_in};
 ghost use Rattle.placed_shards.specs.MergedLists.{IsPartOf};
 ghost use Rattle.placed_shards.specs.Ranges.{is_within, ranges_between, AreCuts};
 ghost use Rattle.shard_concatenation.specs.Concatenation.{keyed_layout_in, IsHeldLayout, AreRangesOf};
+ghost use Rattle.shard_concatenation.specs.Spans.{spans_from};
 
 /// Does nothing. Its contract says that the layouts, in one version, of the parts of a shard in ranges
 /// that follow one another and leave no hash out can be concatenated. So
@@ -23,4 +24,12 @@ pub fn ranges_concatenate()
         parts → AllZip (IsHeldLayout version key) parts bytes → AreRangesOf version key join bytes }
     ensures no_key { (version : FormatVersion) → (join : Shard)
         → keyed_layout_in version join no_key ≡ layout_in version join None }
+{}
+
+/// Does nothing. Its contract says that spans that follow one another, as
+/// [`concatenated_span_into`](crate::concatenated_span_into) writes them, are the whole if their sizes add up
+/// to its size.
+pub fn spans_are_the_whole()
+    ensures { (sizes bytes : List ℕ) → sum_by (λ size. size) sizes ≡ length bytes
+        → flat_map (λ span. span) (spans_from 0 sizes bytes) ≡ bytes }
 {}

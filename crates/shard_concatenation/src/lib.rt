@@ -12,7 +12,9 @@ mod ordered_parts;
 mod part_order;
 mod part_split;
 mod section_parts;
+mod spans;
 mod table_merge;
 mod version;
 
 pub use concatenate::concatenate_shards_into;
+pub use spans::concatenated_span_into;
