@@ -8,7 +8,7 @@
 #include <string.h>
 
 /* The first calls write no count, and the last four do not allocate. */
-enum { ROOM = 1 << 20, COUNTING = 5, ALLOCATING = 29, CALLS = ALLOCATING + 4 };
+enum { ROOM = 1 << 20, COUNTING = 5, ALLOCATING = 30, CALLS = ALLOCATING + 4 };
 
 void *__real_malloc(size_t size);
 void *__real_realloc(void *block, size_t size);
@@ -169,6 +169,8 @@ static uint32_t call(int number, size_t *count) {
         return xet_hash_to_hex(&file, out.bytes, ROOM, count);
     case 28:
         return xet_shard_name(&file, out.bytes, ROOM, count);
+    case 29:
+        return xet_concatenate_span(both, 1, 100, out.bytes, 50, count);
     case ALLOCATING:
         return xet_hash_from_hex((const uint8_t *)name, 64, out.hashes);
     case ALLOCATING + 1:

@@ -93,6 +93,19 @@ static uint32_t call_concatenate(const struct input *input, void *out, size_t ca
     return xet_concatenate(list, input->count, out, capacity, written);
 }
 
+/* The whole in two spans, cut where the first word of the chunks says. */
+static uint32_t call_concatenate_span(const struct input *input, void *out, size_t capacity, size_t *written) {
+    xet_bytes list[SHARDS];
+    list_shards(input, list);
+    uint32_t error = xet_concatenate_span(list, input->count, 0, out, 0, written);
+    if (error || capacity < *written)
+        return error ? error : XET_SHORT;
+    const xet_hash *chunk = (const void *)input->chunks.bytes;
+    size_t cut = input->chunks.length ? (size_t)(chunk->words[0] % (*written + 1)) : *written / 2, size = *written;
+    error = xet_concatenate_span(list, input->count, cut, (uint8_t *)out + cut, size - cut, written);
+    return error ? error : xet_concatenate_span(list, input->count, 0, out, cut, written);
+}
+
 /* A record that no shard may have is told exactly if there is one, and is of a shard of the list. */
 static void check_malformed(const struct input *input, const struct block *found, bool is_told) {
     xet_disagreement record;
@@ -397,6 +410,7 @@ static const struct filling fillings[] = {
     {"xet_merge, in a range", 1, OF_STRICT_MERGING, call_merge_range, AS_ASKED},
     {"xet_merge, by tables", 1, OF_STRICT_MERGING, call_merge_by_tables, AS_ASKED},
     {"xet_concatenate", 1, OF_MERGING, call_concatenate, OF_INPUTS},
+    {"xet_concatenate_span", 1, OF_MERGING, call_concatenate_span, OF_INPUTS},
     {"xet_find_disagreements", sizeof(xet_disagreement), OF_SECTIONS, call_find_disagreements, NO_SHARD},
     {"xet_export", 1, OF_MERGING, call_export, AS_ASKED},
     {"xet_minimal", 1, OF_MERGING, call_minimal, AS_ASKED},

@@ -300,6 +300,19 @@ uint32_t xet_find_malformed(const xet_bytes *shards, size_t count, bool *malform
  *     sum of bytes 64 bits, or the rows of a table of chunks do not ascend, or are not as many as the chunks. */
 uint32_t xet_concatenate(const xet_bytes *shards, size_t count, uint8_t *out, size_t capacity, size_t *written);
 
+/* Writes the `length` bytes from the offset `from` on of what xet_concatenate writes, and sets `*size` to the size of
+ * the whole, also if they pass its end. So threads write a concatenation side by side: spans that follow one another
+ * from 0 to the size are the whole if all succeed. A call with `length` 0 asks for the size alone.
+ *
+ * Each call reads and tests all tables, as xet_concatenate does. Beside `out` it takes memory for the tables of files
+ * and of xorbs, and if the span has some of the table of chunks, for that too. This is the last before the footer, 16
+ * bytes for each chunk, and merging it takes longest. So let one thread write it, and the others what is before it.
+ *
+ * XET_INVALID_ARGUMENTS: also if the span passes the end of the whole; with other causes `*size` is 0. The other errors
+ *     are those of xet_concatenate. */
+uint32_t xet_concatenate_span(const xet_bytes *shards, size_t count, size_t from, uint8_t *out, size_t length,
+                              size_t *size);
+
 /* What an export is to have. With flags of zero it has all parts. */
 typedef struct xet_export_options {
     uint64_t key[4];        /* of the chunk hashes; zeros leave them as they are */

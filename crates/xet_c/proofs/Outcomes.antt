@@ -11,6 +11,7 @@ use Rattle.xet_core_structures.specs.Errors.{CoreResult, variant_number}
 use Rattle.xet_core_structures.specs.KeyedHash.{no_key}
 use Rattle.xet_core_structures.specs.Shard.{Shard}
 use Rattle.placed_shards.specs.Filling.{Fills, FillsWith}
+use Rattle.shard_bytes.specs.Concatenations.{FillsSpanWith}
 use Rattle.xet_core_structures.specs.WrittenQueries.{RunAmong, RunInXorb}
 use Rattle.xet_core_structures.specs.WrittenShard.{IsBytesOf}
 use Rattle.xet_core_structures.specs.XorbRecord.{xorb_records}
@@ -19,7 +20,7 @@ use Rattle.shard_bytes.specs.Section.{StartsAt}
 use Rattle.xet_c.specs.declared.hash.XetHash.{XetHash}
 use Rattle.xet_c.specs.declared.segment.XetSegment.{XetSegment}
 use Rattle.xet_c.specs.Arguments.{AnswersRun, AnswersRunAt, IsRun, RefusesRun, RefusesRunAt, ShowsRun, c_hash}
-use Rattle.xet_c.specs.Output.{Answers, Delivers, Refuses, Outcome}
+use Rattle.xet_c.specs.Output.{Answers, AnswersSpan, Delivers, Refuses, Outcome, SpanOutcome}
 
 pub outcome : {X Z : Type 0} (IsMade : List X → Type 0) (IsCause : CoreError → Type 0) (old new : List X) (written answer : ℕ) (made : Result (Vec X Z) CoreError)
     → MatchResult made (λ items. IsMade items.items) IsCause
@@ -56,6 +57,19 @@ pub outcome_of_fill : (IsMade : List ℕ → Type 0) (IsCause : CoreError → Ty
 outcome_of_fill IsMade IsCause old new room written answer (Ok size) room_is (bytes, made, fills) answers =
     inl (bytes, made, delivers bytes old new room written answer size room_is fills answers)
 outcome_of_fill IsMade IsCause old new room written answer (Err e) room_is (cause, stays) (answers, none) = inr (e, cause, (answers, none, stays))
+
+-- a span that was put into the output itself
+pub outcome_of_span : (IsMade : List ℕ → Type 0) (IsCause : CoreError → Type 0) (from : ℕ) (old new : List ℕ) (count size answer : ℕ) (r : Result ℕ CoreError) → count ≡ length old
+    → FillsSpanWith IsMade IsCause from old new r
+    → MatchResult r (AnswersSpan from count size answer) (λ e. (answer ≡ variant_number e) × (size ≡ 0))
+    → SpanOutcome IsMade IsCause from old new size answer
+outcome_of_span IsMade IsCause from old new count size answer (Ok whole) count_is (bytes, made, (whole_is, inl (within, filled))) (size_is, inl (zero, fits)) =
+    inl (bytes, made, size_is ∙ whole_is, inl (zero, omega (arith, within, whole_is), filled))
+outcome_of_span IsMade IsCause from old new count size answer (Ok whole) count_is (bytes, made, (whole_is, inl (within, filled))) (size_is, inr (refused, past)) = absurd (omega (arith, within, past, count_is))
+outcome_of_span IsMade IsCause from old new count size answer (Ok whole) count_is (bytes, made, (whole_is, inr (past, same))) (size_is, inl (zero, fits)) = absurd (omega (arith, past, fits, count_is))
+outcome_of_span IsMade IsCause from old new count size answer (Ok whole) count_is (bytes, made, (whole_is, inr (past, same))) (size_is, inr (refused, also)) =
+    inl (bytes, made, size_is ∙ whole_is, inr (refused, omega (arith, past, whole_is), same))
+outcome_of_span IsMade IsCause from old new count size answer (Err e) count_is (cause, stays) (answers, none) = inr (e, cause, (answers, none, stays))
 
 -- what is said of the size of what was made, and of none, is said of the number that is returned
 pub size_given : (Says : ℕ → Type 0) (room written answer : ℕ) (r : Result ℕ CoreError) → IfOk r Says → Says 0

@@ -1,12 +1,14 @@
 //! Concatenation: one shard made of many whose records follow one another.
 
-ghost use Rattle.std.specs.Prelude.{map};
+ghost use Rattle.std.specs.Prelude.{◌≡◌, MatchResult, map};
 ghost use Rattle.shard_bytes.specs.Concatenations.{Concatenates};
-ghost use Rattle.xet_c.specs.Output.{Outcome};
+ghost use Rattle.xet_core_structures.specs.Errors.{variant_number};
+ghost use Rattle.xet_c.specs.Output.{Outcome, AnswersSpan, SpanOutcome};
 
-use crate::output::answer;
-use shard_bytes::concatenate::concatenate_into;
+use crate::output::{answer, error_number};
+use shard_bytes::concatenate::{concatenate_into, concatenate_span_into};
 use std::alloc::Global;
+use xet_core_structures::error::{CoreError, Result};
 
 /// The shard that has the records of all shards, in their order, to the front of `out`, to which it
 /// is written at once. It is of version 2 if all shards are, else of version 3. The hashes of files
@@ -24,4 +26,44 @@ pub extern "C" fn xet_concatenate(
 {
     let filled = concatenate_into(alloc, shards, out);
     answer(filled, out.len(), written)
+}
+
+/// The bytes from the offset `from` on of what [`xet_concatenate`] writes, as many as `out` has. `size`
+/// is that of the whole, also if they pass its end; then the answer is 1 and `out` stays. The other
+/// errors are those of [`concatenate_span_into`].
+#[unsafe(no_mangle)]
+pub extern "C" fn xet_concatenate_span(
+    alloc: Global,
+    shards: &[&[u8]],
+    from: usize,
+    out: &mut [u8],
+    size: &mut usize,
+) -> u32
+    ensures { Concatenates (map (λ x. x.now) shards.now)
+        (λ IsMade IsCause. SpanOutcome IsMade IsCause from out.old out.new size.new result) }
+{
+    let filled = concatenate_span_into(alloc, shards, from, out);
+    answer_span(filled, from, out.len(), size)
+}
+
+// The result of a call that filled `count` bytes from an offset on of so many as were made: 0, the
+// number of `InvalidArguments` if they pass the end, or the number of the error.
+fn answer_span(filled: Result<usize>, from: usize, count: usize, size: &mut usize) -> u32
+    ensures { MatchResult filled (AnswersSpan from count size.new result)
+        (λ error. (result ≡ variant_number error) × (size.new ≡ 0)) }
+{
+    match filled {
+        Ok(whole) => {
+            *size = whole;
+            if from <= whole && count <= whole - from {
+                0
+            } else {
+                error_number(&CoreError::InvalidArguments)
+            }
+        }
+        Err(error) => {
+            *size = 0;
+            error_number(&error)
+        }
+    }
 }
