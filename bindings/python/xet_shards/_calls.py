@@ -25,6 +25,7 @@ _CALLS = {
     "xet_find_disagreements": [*_LIST, POINTER(_Disagreement), c_size_t, POINTER(c_size_t)],
     "xet_find_malformed": [*_LIST, POINTER(c_bool), POINTER(_Disagreement)],
     "xet_concatenate": [*_LIST, *_OUT],
+    "xet_concatenate_span": [*_LIST, c_size_t, *_OUT],
     "xet_export": [*_SHARD, POINTER(_ExportOptions), c_uint64, *_OUT],
     "xet_minimal": [*_SHARD, POINTER(_MinimalOptions), c_uint64, *_OUT],
     "xet_subset": [*_SHARD, POINTER(_SubsetOptions), *_HASHES, c_uint64, *_OUT],

@@ -50,7 +50,7 @@ def merge(
     below `stop`. Of well-formed shards that agree, ranges that follow one another have together each record of the join
     once, so each may be merged by a thread or a machine of its own. All shards are read for each range.
 
-    With `threads` so many threads at most merge a range each, and `concatenate` puts the results together. Bytes and
+    With `threads` so many threads at most merge a range each, and then write a span each of what `concatenate` makes of the results. Bytes and
     errors are the same, whatever is given; the bytes of the output are in memory twice.
 
     It is in version 3 of the format, or in `version` 2, which no file with an auxiliary row may have.
