@@ -1,5 +1,6 @@
 //! A block: the next records of a section, as a shard that has only these.
 
+use crate::counts::{Counts, with_rows};
 use shard_bytes::check::Section;
 use std::alloc::Global;
 use xet_core_structures::error::{CoreError, Result};
@@ -8,9 +9,7 @@ use xet_core_structures::input::OfReader;
 use xet_core_structures::merklehash::{HMACKey, MerkleHash};
 use xet_core_structures::record_reader::{FormatVersion, SectionRecord, read_header};
 use xet_core_structures::rows::{ROW_LIMIT, ROW_SIZE};
-use xet_core_structures::shard_format::{
-    HEADER_SIZE, MDBShardFileFooter, MDBShardFileHeader, MDBShardInfo,
-};
+use xet_core_structures::shard_format::{HEADER_SIZE, MDBShardFileHeader, MDBShardInfo};
 use xet_core_structures::xorb_structs::{MDBXorbInfo, XorbChunkSequenceHeader};
 
 /// How far a section is read.
@@ -89,40 +88,41 @@ impl Block {
     }
 
     /// The bytes of the shard that has the records in the first bytes of the rows, and no tables.
-    pub fn shard_of(self, rows: usize, key: HMACKey) -> Result<Vec<u8>> {
+    pub fn shard_of(self, alloc: Global, rows: usize, key: HMACKey) -> Result<Vec<u8>> {
         let Block {
             mut bytes,
             section,
             ..
         } = self;
         bytes.truncate(rows_start(section).saturating_add(rows));
+        let rows = rows_of(bytes.as_slice(), section).len();
         put_bookend(&mut bytes)?;
         match section {
             Section::Files => {
-                let xorb_info_offset = bytes.len() as u64;
                 put_bookend(&mut bytes)?;
-                put_footer(&mut bytes, xorb_info_offset, key)?;
+                put_footer(alloc, &mut bytes, rows, 0, key)?;
             }
-            Section::Xorbs => put_footer(&mut bytes, HEADER_SIZE + ROW_SIZE as u64, key)?,
+            Section::Xorbs => put_footer(alloc, &mut bytes, 0, rows, key)?,
         }
         Ok(bytes)
     }
 }
 
-/// Puts the footer of a shard without tables behind its sections.
-pub fn put_footer(bytes: &mut Vec<u8>, xorb_info_offset: u64, key: HMACKey) -> Result<()> {
-    let end = bytes.len() as u64;
-    let footer = MDBShardFileFooter {
-        file_info_offset: HEADER_SIZE,
-        xorb_info_offset,
-        file_lookup_offset: end,
-        xorb_lookup_offset: end,
-        chunk_lookup_offset: end,
-        chunk_hash_hmac_key: key,
-        footer_offset: end,
-        ..MDBShardFileFooter::default()
+/// Puts the footer of a shard without tables behind its sections, whose rows have so many bytes
+/// without the bookends. `InvalidShard` if the rows of a section pass 32 bits.
+pub fn put_footer(
+    alloc: Global,
+    bytes: &mut Vec<u8>,
+    files: usize,
+    xorbs: usize,
+    key: HMACKey,
+) -> Result<()> {
+    let counts = Counts {
+        file_rows: with_rows(alloc, 0, files as u64, ROW_SIZE as u64)?,
+        xorb_rows: with_rows(alloc, 0, xorbs as u64, ROW_SIZE as u64)?,
+        ..Counts::none()
     };
-    footer.serialize(bytes)?;
+    counts.footer(key, None).serialize(bytes)?;
     Ok(())
 }
 

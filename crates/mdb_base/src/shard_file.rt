@@ -260,11 +260,11 @@ impl<'a> Cursor<'a> {
     ) -> Result<Vec<u8>, RoundFault<'a>> {
         let alloc = rt.alloc();
         if self.mark.ended {
-            return Ok(block.shard_of(0, self.shard.key())?);
+            return Ok(block.shard_of(alloc, 0, self.shard.key())?);
         }
         self.mark = block.read(alloc, self.mark, limit)?;
         self.offset = self.offset.saturating_add(self.mark.bytes as u64);
-        Ok(block.shard_of(self.mark.bytes, self.shard.key())?)
+        Ok(block.shard_of(alloc, self.mark.bytes, self.shard.key())?)
     }
 }
 

@@ -16,6 +16,7 @@ use xet_core_structures::error::Result as ShardResult;
 use xet_core_structures::file_structs::FileDataSequenceHeader;
 use xet_core_structures::merklehash::{HMACKey, MerkleHash};
 use xet_core_structures::record_reader::FormatVersion;
+use xet_core_structures::rows::ROW_SIZE;
 use xet_core_structures::shard_format::{MDBShardFileHeader, MDBShardInfo};
 use xet_core_structures::shard_writer::bytes_from;
 use xet_core_structures::xorb_structs::XorbChunkSequenceHeader;
@@ -165,11 +166,11 @@ fn hash_shard(alloc: Global, hashes: &[MerkleHash], key: HMACKey) -> ShardResult
         FileDataSequenceHeader::new(*hash, 0, false, false).serialize(&mut bytes)?;
     }
     put_bookend(&mut bytes)?;
-    let xorb_info_offset = bytes.len() as u64;
     for hash in &sorted {
         XorbChunkSequenceHeader::new(*hash, 0, 0).serialize(&mut bytes)?;
     }
     put_bookend(&mut bytes)?;
-    put_footer(&mut bytes, xorb_info_offset, key)?;
+    let rows = sorted.len().saturating_mul(ROW_SIZE);
+    put_footer(alloc, &mut bytes, rows, rows, key)?;
     Ok(bytes)
 }
