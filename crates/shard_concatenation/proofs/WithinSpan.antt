@@ -1,5 +1,5 @@
 -- What a span of a whole has of bytes that are put one after another.
-use Rattle.std.proofs.Common.{◌≡◌, ℕ, zero, suc, ◌+◌, ◌-◌, ◌*◌, ◌^◌, ◌<◌, ◌≤◌, ◌⊎◌, inl, inr, Ok, Err, List, [], ◌∷◌, ◌++◌, length, take, drop, get_or, flat_map, refl, sym, ap, ◌∙◌, subst, append_assoc, append-nil, arith}
+use Rattle.std.proofs.Common.{◌≡◌, ℕ, zero, suc, ◌+◌, ◌-◌, ◌^◌, ◌<◌, ◌≤◌, ◌⊎◌, inl, inr, Ok, Err, List, [], ◌∷◌, ◌++◌, length, take, drop, get_or, flat_map, refl, sym, ap, ◌∙◌, subst, append_assoc, append-nil, arith}
 use Rattle.std.specs.Prelude.{min, slice_range, sum_by, replicate, IfOk}
 use Rattle.std.specs.declared.result.Result.{Result}
 use Rattle.std.proofs.Math.Seq.{take-length}
@@ -66,14 +66,6 @@ more_put from at place skip count end before bytes rest part old new at_is place
 
 pub rest_is : (skip : ℕ) (bytes : List ℕ) → take (length bytes - skip) (drop skip bytes) ≡ drop skip bytes
 rest_is skip bytes = take_all (length bytes - skip) (drop skip bytes) (omega (arith, length-drop skip bytes))
-
-pub nothing_put : (from at place skip count : ℕ) (before bytes rest old : List ℕ) → at ≡ length before → place ≡ at - from → skip ≡ min (from - at) (length bytes) → rest ≡ drop skip bytes → count ≡ min (length old - place) (length rest) → count ≡ 0
-    → HoldsSpan from before old → HoldsSpan from (before ++ bytes) old
-nothing_put from at place skip count before bytes rest old at_is place_is skip_is rest_is count_is none holds =
-    let room = length old - place in
-    let rest_all : rest ≡ drop (from - at) bytes = rest_is ∙ ap (λ k. drop k bytes) skip_is ∙ drop_min (from - at) bytes in
-    let empty : take room rest ≡ [] = sym (take_min room rest) ∙ ap (λ k. take k rest) (sym count_is ∙ none) in
-    none_within from at before bytes old at_is (ap (λ k. take (length old - k) (drop (from - at) bytes)) (sym place_is) ∙ ap (take room) (sym rest_all) ∙ empty) holds
 
 -- bytes that are before the span, or none
 pub before_span : (from at : ℕ) (before bytes slice : List ℕ) → at ≡ length before → (bytes ≡ []) ⊎ (at + length bytes ≤ from) → HoldsSpan from before slice → HoldsSpan from (before ++ bytes) slice

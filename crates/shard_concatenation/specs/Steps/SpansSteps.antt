@@ -1,5 +1,5 @@
 -- Steps towards a span of a concatenation, which only contracts inside the crate speak of.
-use Rattle.std.specs.Prelude.{◌≡◌, ◌⊎◌, ℕ, ◌+◌, ◌*◌, ◌≤◌, List, [], ◌++◌, length, take, drop}
+use Rattle.std.specs.Prelude.{◌≡◌, ◌⊎◌, ℕ, ◌+◌, ◌≤◌, List, [], ◌++◌, length, take, drop}
 use Rattle.shard_concatenation.specs.declared.spans.ChunkSpan.{ChunkSpan}
 
 -- what a span of so many bytes from an offset on has of the bytes that were put so far

@@ -9,7 +9,7 @@ use Rattle.shard_concatenation.specs.declared.section_parts.SectionPart.{Section
 use Rattle.shard_concatenation.specs.Concatenation.{files_in, xorbs_in, options_under}
 use Rattle.shard_concatenation.specs.Steps.SectionsSteps.{HoldSections}
 use Rattle.shard_concatenation.specs.Steps.SpansSteps.{HoldsSpan}
-use Rattle.xet_shards.specs.Write.Layout.{shard_header_bytes, shard_footer_bytes, layout_of}
+use Rattle.xet_shards.specs.Write.Layout.{shard_header_bytes, layout_of}
 use Rattle.xet_shards.specs.Write.Tables.{table_bytes}
 use Rattle.xet_shards.proofs.Write.Layouts.{length-shard_header_bytes, length-shard_footer_bytes}
 use Rattle.xet_shards.proofs.Write.Tables.{length-table_bytes}
