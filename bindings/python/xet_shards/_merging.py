@@ -93,7 +93,7 @@ def merge_into(
 
     If the buffer is too small it stays as it is: then the number is greater than its length. With inputs and output in
     files that are mapped, a merge needs memory of its own only for tables and for where records lie, and with `threads`
-    as much as the output has. On a full disk the process ends where the output's file has a hole, as `truncate` makes
+    as much as the output has, and the tables once more a thread. On a full disk the process ends where the output's file has a hole, as `truncate` makes
     them; `os.posix_fallocate` makes none, and raises an `OSError` there.
 
     The buffer shares no memory with a shard: that is a `ValueError`. Two maps of one file are not found out.

@@ -45,8 +45,9 @@ def merge_in_threads_to(
 ) -> Optional[int]:
     """Writes a merge to the front of a buffer, and returns the number of its bytes.
 
-    It returns None, and writes nothing, if there is no hash to cut at or if anything fails. A merge by one call then
-    gives the error. It also gives the bytes of shards that can be merged, but whose parts can't be concatenated.
+    It returns None if there is no hash to cut at or if anything fails, and then it wrote nothing, unless memory was
+    lacking. A merge by one call then gives the error. It also gives the bytes of shards that can be merged, but whose
+    parts can't be concatenated.
     """
     try:
         # An output that shares memory with a shard is an error before anything is written to it.

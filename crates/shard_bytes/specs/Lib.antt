@@ -2,11 +2,11 @@ pub mod Checking
 pub mod ChunkRows
 pub mod Combining
 pub mod Completing
+pub mod Concatenations
 pub mod Expiry
 pub mod Exporting
 pub mod Finding
 pub mod Format
-pub mod Concatenations
 pub mod Minimal
 pub mod Outcomes
 pub mod PartLookups

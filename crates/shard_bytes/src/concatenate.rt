@@ -36,14 +36,15 @@ pub fn concatenate_into(alloc: Global, shards: &[&[u8]], out: &mut [u8]) -> Resu
     }
 }
 
-/// Fills `out` with the bytes from the offset `from` on of what [`concatenate_into`] puts, and returns
-/// the size of the whole. If they pass its end, `out` stays as it is, and so it does after any error.
-/// Spans that follow one another from 0 to the size are the whole
-/// (`shard_concatenation::laws::spans_are_the_whole`), so threads can write it side by side: the size
-/// is returned also for a span of no bytes.
+/// Fills `out` with the bytes from the offset `from` on of the shard that [`concatenate_into`] makes,
+/// and returns the size of the whole, also for a span of no bytes. If they pass its end, `out` stays
+/// as it is, and so it does after any error. Spans that follow one another from 0 to the size are the
+/// whole if all succeed (`shard_concatenation::laws::spans_are_the_whole`), so threads can write it
+/// side by side.
 ///
-/// The errors are those of [`concatenate_into`], and so is the memory, but for the tables of files
-/// and of xorbs, and for that of chunks if `out` has some of it: they are made beside `out`.
+/// Beside `out`, memory is needed for a few hundred bytes a shard, for the tables of files and of
+/// xorbs, and for the chunk table if the span has a byte of it. The errors are those of
+/// [`concatenate_into`].
 pub fn concatenate_span_into(
     alloc: Global,
     shards: &[&[u8]],

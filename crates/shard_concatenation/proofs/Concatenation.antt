@@ -214,7 +214,7 @@ fit_together s shard =
       on_disk = sums 0 0 (omega arith);
     }
 
--- shards that one shard has in a row are parts in a row
+-- shards whose records one shard has in their order are consecutive parts
 pub consecutive_parts : (shards : List Shard) (bytes : List (Bor (List ℕ))) (all : Shard) → IsShard all → HasRecordsInOrder shards all → AreBytesOf shards (map (λ x. x.now) bytes)
     → {version : FormatVersion} (are : ArePartsOf version shards (map (λ x. x.now) bytes)) → 0 < length bytes → AreConsecutiveParts no_key are.parts
 consecutive_parts shards bytes all shard row is are some =
@@ -228,7 +228,7 @@ consecutive_parts shards bytes all shard row is are some =
       together = subst (λ fs. FitTogether fs (xorbs_in are.parts)) files (subst (FitTogether (values all.files)) xorbs (fit_together all shard));
     }
 
--- the order of parts in a row is not refused
+-- the order of consecutive parts is not refused
 module _ (key : DataHash) (parts : List ShardPart) (files xorbs : List SectionPart) (cursors : List Cursor) (totals : Totals) (row : AreConsecutiveParts key parts) (held : HasGathered files xorbs cursors totals parts) (P : Type 0) where
   pub files_not_refused : ((records : List (List MDBFileInfo)) → HoldSections file_records files records → All (All file_records.IsStored) records → All (Ascends file_records) records → P × (Ascends file_records (all_of records) → ⊥)) → ⊥
   files_not_refused refused =

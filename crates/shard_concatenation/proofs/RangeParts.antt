@@ -1,4 +1,4 @@
--- Layouts of the parts of a shard in ranges that follow one another are parts in a row.
+-- Layouts of the parts of a shard in ranges that follow one another are consecutive parts.
 use Rattle.std.proofs.Common.{◌≡◌, ℕ, ◌<◌, List, [], ◌∷◌, ◌++◌, map, flat_map, length, None, refl, sym, ap, ◌∙◌, subst, arith}
 use Rattle.std.specs.Prelude.{All}
 use Rattle.std.specs.FinMap.{values}

@@ -22,7 +22,8 @@ use xet_records::xorb_structs::MDBXorbInfo;
 use xet_shards::shard_format::{CHUNK_ROW_SIZE, HEADER_SIZE, MDBShardFileFooter, START_ROW_SIZE};
 
 /// The parts of these shards, if they are under one key and their hashes ascend from each part to
-/// the next. The errors are those of [`concatenate_shards_into`], but for the tables, and `OutOfMemory`.
+/// the next. The errors are those of [`concatenate_shards_into`], but for the tables, and
+/// `OutOfMemory`.
 pub fn ordered_parts<'a>(alloc: Global, shards: &[&'a [u8]]) -> Result<GatheredParts<'a>>
     ensures gathered { (key : DataHash) → (parts : List ShardPart) → All (IsPartUnder key) parts
         → map bytes_of_part parts ≡ map (λ x. x.now) shards.now

@@ -1,5 +1,5 @@
 //! A span of a concatenation: the bytes from one offset of the whole up to another, so that threads
-//! can write the whole side by side. Each reads the rows of the tables alone that it needs.
+//! can write the whole side by side.
 
 ghost use Rattle.std.specs.Prelude.{◌≡◌, ◌+◌, ◌-◌, ◌*◌, ◌<◌, ◌≤◌, ◌^◌, ◌++◌, ⊤, ℕ, List, [], All, IfOk, IfErr, Some, map, flat_map, length, sum_by, slice_range};
 ghost use Rattle.std.specs.Io.KnownBytes.{Appends};
@@ -36,14 +36,14 @@ use xet_shards::shard_format::{
 };
 
 /// Fills `out` with the bytes from the offset `from` on of what
-/// [`concatenate_shards_into`](crate::concatenate_shards_into) writes, and returns the size of the whole.
-/// If they pass its end, `out` stays as it is, and so it does after any error. So spans that follow
-/// one another, from 0 to the size, are the whole (`laws::spans_are_the_whole`), and each may be
-/// written by a thread.
+/// [`concatenate_shards_into`](crate::concatenate_shards_into) writes, and returns the size of the
+/// whole. If they pass its end, `out` stays as it is, and so it does after any error. Spans that
+/// follow one another, from 0 to the size, are the whole if all succeed
+/// (`laws::spans_are_the_whole`), and each may be written by a thread.
 ///
 /// Beside `out`, memory is needed for a few hundred bytes a shard, for the tables of files and of
-/// xorbs, and for the rows of the chunk table in the span. All tables are read and tested, as by the
-/// call for the whole, and the errors are the same.
+/// xorbs, and for the chunk table if the span has a byte of it. All tables are read and tested, as by
+/// the call for the whole, and the errors are the same.
 pub fn concatenated_span_into(
     alloc: Global,
     shards: &[&[u8]],
@@ -144,14 +144,15 @@ fn add_table<R: SectionRecord>(
     }
 }
 
-/// Rows of the chunk table, and how many bytes of it are before them.
+/// All rows of the chunk table, or none, and how many bytes of it are before these.
 #[derive(Drop)]
 pub struct ChunkSpan {
     pub before: usize,
     pub rows: Vec<u8>,
 }
 
-// The rows of the chunk table that a span needs, from one offset of the whole up to another.
+// All rows of the chunk table if the span, from one offset of the whole up to another, has a byte of
+// it, else none.
 fn chunk_span(
     alloc: Global,
     cursors: &[Cursor<'_>],

@@ -28,9 +28,9 @@ pub extern "C" fn xet_concatenate(
     answer(filled, out.len(), written)
 }
 
-/// The bytes from the offset `from` on of what [`xet_concatenate`] writes, as many as `out` has. `size`
-/// is that of the whole, also if they pass its end; then the answer is 1 and `out` stays. The other
-/// errors are those of [`concatenate_span_into`].
+/// The bytes from the offset `from` on of what [`xet_concatenate`] writes, as many as `out` has.
+/// `size` is that of the whole. If they pass its end, the answer is that of `InvalidArguments`, `out`
+/// stays, and `size` is set too. With the other errors, those of [`concatenate_span_into`], it is 0.
 #[unsafe(no_mangle)]
 pub extern "C" fn xet_concatenate_span(
     alloc: Global,
