@@ -170,7 +170,7 @@ static uint32_t call(int number, size_t *count) {
     case 28:
         return xet_shard_name(&file, out.bytes, ROOM, count);
     case 29:
-        return xet_concatenate_span(both, 1, 100, out.bytes, 50, count);
+        return xet_concatenate_span(both, 1, 100, out.bytes, first_length - 100, count);
     case ALLOCATING:
         return xet_hash_from_hex((const uint8_t *)name, 64, out.hashes);
     case ALLOCATING + 1:

@@ -93,17 +93,31 @@ static uint32_t call_concatenate(const struct input *input, void *out, size_t ca
     return xet_concatenate(list, input->count, out, capacity, written);
 }
 
-/* The whole in two spans, cut where the first word of the chunks says. */
+/* The whole in two spans, cut where the first word of the chunks says: the bytes of one call. A span that passes the
+ * end is refused. */
 static uint32_t call_concatenate_span(const struct input *input, void *out, size_t capacity, size_t *written) {
     xet_bytes list[SHARDS];
     list_shards(input, list);
     uint32_t error = xet_concatenate_span(list, input->count, 0, out, 0, written);
-    if (error || capacity < *written)
-        return error ? error : XET_SHORT;
+    size_t size = *written;
+    if (error)
+        return error;
+    if (capacity < size) {
+        error = xet_concatenate_span(list, input->count, size - capacity + 1, out, capacity, written);
+        require(error == XET_INVALID_ARGUMENTS && *written == size, "a span passes the end");
+        return XET_SHORT;
+    }
     const xet_hash *chunk = (const void *)input->chunks.bytes;
-    size_t cut = input->chunks.length ? (size_t)(chunk->words[0] % (*written + 1)) : *written / 2, size = *written;
+    size_t cut = input->chunks.length ? (size_t)(chunk->words[0] % (size + 1)) : size / 2;
     error = xet_concatenate_span(list, input->count, cut, (uint8_t *)out + cut, size - cut, written);
-    return error ? error : xet_concatenate_span(list, input->count, 0, out, cut, written);
+    if (!error)
+        error = xet_concatenate_span(list, input->count, 0, out, cut, written);
+    uint8_t *whole = malloc(size);
+    require(whole && !xet_concatenate(list, input->count, whole, size, written) && *written == size &&
+                (error || !memcmp(whole, out, size)),
+            "the spans are not the whole");
+    free(whole);
+    return error;
 }
 
 /* A record that no shard may have is told exactly if there is one, and is of a shard of the list. */
