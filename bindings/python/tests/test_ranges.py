@@ -2,7 +2,6 @@
 
 Runs with pytest, or as a program, which ends with the line 'N passed, M failed'.
 """
-import ctypes
 import mmap
 import os
 import random
@@ -254,34 +253,11 @@ def test_ranges_are_of_about_one_size():
         assert len(sizes) == 4 and max(sizes) < 0.35 * sum(sizes), sizes
 
 
-def test_spans_are_the_whole():
-    """Threads write what one call writes, a span each, and no span passes the end."""
-    parts = ranges.range_merges([ONE_FILE, XORB_AND_FILE], 2, False, None, None, 3)
-    whole = xet_shards.concatenate(parts)
-    for threads in (1, 2, 3, 7, 100):
-        out = bytearray(len(whole) + 1)
-        assert ranges.concatenate_in_threads_to(parts, out, threads) == len(whole)
-        assert out == whole + bytes(1)
-    for room in (0, 1, len(whole) - 1):
-        out = bytearray(room)
-        assert ranges.concatenate_in_threads_to(parts, out, 3) == len(whole)
-        assert out == bytes(room)
-    for start in range(len(whole)):
-        stop = min(start + 1 + start % 50, len(whole))
-        out = (ctypes.c_char * len(whole))()
-        assert ranges._put_span(parts, out, start, stop) == len(whole)
-        assert bytes(out) == bytes(start) + whole[start:stop] + bytes(len(whole) - stop)
-    for start, stop in ((0, len(whole) + 1), (len(whole), len(whole) + 1)):
-        out = (ctypes.c_char * (len(whole) + 1))()
-        error = raises(xet_shards.XetError, ranges._put_span, parts, out, start, stop)
-        assert error.name == "InvalidArguments" and bytes(out) == bytes(len(whole) + 1)
-
-
 def test_a_range_that_fails():
     """The bytes are those of a merge without threads if a part can't be made, or the parts not put together."""
     shards = [ONE_FILE, XORB_AND_FILE]
     whole = xet_shards.merge(shards)
-    for name in ("_options", "_advise_large_pages", "_merge_to", "_put_span"):
+    for name in ("_options", "_advise_large_pages", "_merge_to", "concatenate_into"):
         original = getattr(ranges, name)
 
         def fails(*_):
