@@ -1,5 +1,6 @@
 """Rows of .ci/mdb for what sessions cannot show: devices, links, modes, owners, killed runs, terminals, the clock. Used
 by .ci/mdb."""
+import contextlib
 import json
 import os
 import re
@@ -238,14 +239,14 @@ def on_terminal(place, *words):
     run = subprocess.run(
         [place.program, *words], stdout=subprocess.PIPE, stderr=terminal, cwd=place.folder, timeout=20, check=False
     )
-    os.set_blocking(ours, False)
-    try:
-        said = os.read(ours, 4096).replace(b"\r\n", b"\n")
-    except OSError:
-        said = b""
     os.close(terminal)
+    said = b""
+    # Once the other end is closed, a read fails if nothing is left.
+    with contextlib.suppress(OSError):
+        while part := os.read(ours, 4096):
+            said += part
     os.close(ours)
-    return run.returncode, run.stdout, said
+    return run.returncode, run.stdout, said.replace(b"\r\n", b"\n")
 
 
 def check_says_how_much_it_looked_at(place):
