@@ -39,6 +39,9 @@ pub enum Exception {
     KeyCarried,
     /// Different ones are `InvalidArguments`.
     KeysDiffer,
+    /// A union or a difference reads the first shard whole before it looks at the second; the original
+    /// loads both, and then reads their sections side by side. So it tells the fault of the first.
+    ReadInTurn,
     /// A section whose hashes do not ascend is `InvalidShard`.
     HashesDescend,
     /// Files that have to be combined, with different numbers of segments, are `InvalidShard`.
@@ -57,7 +60,7 @@ pub enum Exception {
 use Exception::*;
 
 impl Exception {
-    pub const ALL: [Exception; 18] = [
+    pub const ALL: [Exception; 19] = [
         HeaderVersion,
         AuxFlagInVersion2,
         AuxRow,
@@ -70,6 +73,7 @@ impl Exception {
         QueryReadsOneMore,
         KeyCarried,
         KeysDiffer,
+        ReadInTurn,
         HashesDescend,
         SegmentCountsDiffer,
         KeyedAgain,
@@ -261,6 +265,9 @@ impl Difference<'_> {
                 return Some(aux);
             }
         }
+        if self.is_of_first() {
+            return Some(ReadInTurn);
+        }
         if !self.is_refused() {
             return None;
         }
@@ -278,6 +285,14 @@ impl Difference<'_> {
             second.has(|other| other.hash == file.hash && have_to_be_combined(file, other))
         };
         (*self.call == Call::Union && first.has(cannot_combine)).then_some(SegmentCountsDiffer)
+    }
+
+    /// Both refuse, and the port as the original refuses the first shard alone.
+    fn is_of_first(&self) -> bool {
+        matches!(self.call, Call::Union | Call::Difference)
+            && matches!(self.port, Answer::Error(_))
+            && matches!(self.original, Answer::Error(_) | Answer::Panic)
+            && original::answer(self.call, self.first, self.first) == *self.port
     }
 
     fn in_export(&self, options: &Export) -> Option<Exception> {
