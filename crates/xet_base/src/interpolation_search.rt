@@ -1,8 +1,7 @@
 //! Search for the rows of a key in a table that is sorted by its keys.
 //!
-//! A search probes the row of its window where the key would be if keys rose evenly, or the row 256
-//! further if that is nearer, so that any two probes pass 256 rows. Once fewer than 256 rows are
-//! left, it reads them in turn.
+//! A search probes the row of its window where the key would be if keys rose evenly, but at least
+//! 256 rows from the last probe. Once at most 256 rows are left, it reads them in turn.
 
 ghost use Rattle.std.specs.Prelude.{◌≡◌, ◌+◌, ◌<◌, ◌≤◌, length, min, MatchResult, IfOk, OnOk, IfErr};
 ghost use Rattle.xet_base.specs.Source.{FillFails, next_bytes, NoFailure};
