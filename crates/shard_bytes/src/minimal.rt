@@ -4,7 +4,7 @@ ghost use Rattle.std.specs.Prelude.{◌≡◌, ◌⊎◌, ◌↔◌, true, lengt
 ghost use Rattle.std.specs.List.{Any};
 ghost use Rattle.xet_core_structures.specs.declared.error.CoreError.{CoreError};
 ghost use Rattle.xet_core_structures.specs.KeyedExport.{ExportCase};
-ghost use Rattle.xet_core_structures.specs.MinimalShard.{minimal_options, IsKept};
+ghost use Rattle.xet_core_structures.specs.MinimalShard.{IsKept};
 ghost use Rattle.xet_core_structures.specs.Shard.{xorb_hash_of};
 ghost use Rattle.xet_core_structures.specs.View.{LacksVerification};
 ghost use Rattle.placed_shards.specs.Anew.{HasInstead};
@@ -24,7 +24,7 @@ use std::alloc::{AllocError, Global};
 use std::io::{self, ErrorKind};
 use xet_core_structures::error::{CoreError, Result};
 use xet_core_structures::file_structs::KeptParts;
-use xet_core_structures::merklehash::{HMACKey, MerkleHash};
+use xet_core_structures::merklehash::MerkleHash;
 use xet_core_structures::record_reader::FormatVersion;
 use xet_core_structures::shard_writer::LayoutOptions;
 use xet_core_structures::sorted_hashes::SortedHashes;
@@ -88,7 +88,7 @@ pub fn minimal<'a>(
         return Err(CoreError::Io(io::Error::from(ErrorKind::Other)));
     }
     let shard = shard.with_marks(alloc, arena)?.with_parts(arena, kept)?;
-    Ok(shard.with_options(minimal_options(now, None)))
+    Ok(shard.with_options(LayoutOptions::minimal(now, None)))
 }
 
 // Whether a file has no verification rows.
@@ -98,21 +98,6 @@ fn lack_verification(files: &[PlacedFile<'_>]) -> bool
     files
         .iter()
         .any(|file| !file.header().contains_verification())
-}
-
-// No tables, a creation, and an expiry or 0.
-fn minimal_options(now: u64, expiry: Option<u64>) -> LayoutOptions
-    ensures { result ≡ minimal_options now expiry }
-{
-    LayoutOptions {
-        version: FormatVersion::V3,
-        file_table: false,
-        xorb_table: false,
-        chunk_table: false,
-        key: HMACKey::default(),
-        creation: now,
-        expiry: expiry.unwrap_or(0),
-    }
 }
 
 /// The bytes, in a version of the format, of a shard with some of the xorbs and none of the files of
@@ -148,7 +133,7 @@ pub fn subset_of<'a>(
 {
     let shard = with_kept_xorbs(alloc, open_behind_header(alloc, bytes)?, &chosen.kept)?;
     let shard = shard.with_marks(alloc, arena)?.without_files();
-    Ok(shard.with_options(minimal_options(chosen.now, chosen.expiry)))
+    Ok(shard.with_options(LayoutOptions::minimal(chosen.now, chosen.expiry)))
 }
 
 // The shard with those of its xorbs that a subset keeps.

@@ -27,9 +27,7 @@ use std::alloc::Global;
 use std::io;
 use std::io::{ErrorKind, Write};
 use xet_base::error::{CoreError, Result};
-use xet_base::merklehash::HMACKey;
 use xet_records::file_structs::{KeptParts, MDBFileInfoView};
-use xet_records::record_reader::FormatVersion;
 use xet_records::rows::ROW_SIZE;
 use xet_records::xorb_structs::MDBXorbInfoView;
 
@@ -103,7 +101,7 @@ impl MDBMinimalShard {
         if kept.verification && !all_have_verification(files) {
             return Err(CoreError::Io(io::Error::from(ErrorKind::Other)));
         }
-        let options = minimal_options(now, None);
+        let options = LayoutOptions::minimal(now, None);
         let all = |_xorb: &MDBXorbInfoView| -> bool
             ensures { IsTrue result }
         { true };
@@ -145,7 +143,7 @@ impl MDBMinimalShard {
             self.now (minimal_options now expiry)) }
         ensures causes { IfErr result IsWriteError }
     {
-        let options = minimal_options(now, expiry);
+        let options = LayoutOptions::minimal(now, expiry);
         let kept = KeptParts {
             verification: false,
             ..KeptParts::ALL
@@ -192,21 +190,6 @@ fn all_have_verification(files: &[MDBFileInfoView]) -> bool
         }
     }
     true
-}
-
-// Version 3, no tables, no key, the creation, and an expiry or 0.
-fn minimal_options(now: u64, expiry: Option<u64>) -> LayoutOptions
-    ensures { result ≡ minimal_options now expiry }
-{
-    LayoutOptions {
-        version: FormatVersion::V3,
-        file_table: false,
-        xorb_table: false,
-        chunk_table: false,
-        key: HMACKey::default(),
-        creation: now,
-        expiry: expiry.unwrap_or(0),
-    }
 }
 
 // Writes the file section, with these parts of each file.

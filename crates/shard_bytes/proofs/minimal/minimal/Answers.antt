@@ -31,5 +31,5 @@ returns c =
           (none_found a.kept.verification w.lack_verification.result w.as_slice.result.now w.if-kept.true w.lack_verification.ensures w.if-lack_verification.false))
       | else-kept-via-else-kept w ↦ (none_wanted a.kept.verification files w.if-kept.false)
     ] in
-    minimal_steps a.kept a.now a.bytes.now opened c.in_ok-with_marks.field-0 c.in_ok-shard-2.shard c.with_options.result c.minimal_options.result c.in_ok-shard.ensures.0 c.in_ok-shard.ensures.1 none
-    c.in_ok-with_marks.ensures c.in_ok-shard-2.ensures c.with_options.ensures.content c.minimal_options.ensures
+    minimal_steps a.kept a.now a.bytes.now opened c.in_ok-with_marks.field-0 c.in_ok-shard-2.shard c.with_options.result c.minimal.result c.in_ok-shard.ensures.0 c.in_ok-shard.ensures.1 none
+    c.in_ok-with_marks.ensures c.in_ok-shard-2.ensures c.with_options.ensures.content c.minimal.ensures

@@ -11,5 +11,5 @@ returns-in_err-open_behind_header c =
 
 pub returns : goal.returns
 returns c =
-    subset_steps c.args.chosen.now c.args.bytes.now c.in_ok-open_behind_header.field-0 c.in_ok-shard.shard c.in_ok-with_marks.field-0 c.without_files-shard.result c.with_options.result c.minimal_options.result
-    c.in_ok-open_behind_header.ensures.0 c.in_ok-shard.ensures.0 c.in_ok-shard.ensures.1 c.in_ok-with_marks.ensures c.without_files-shard.ensures.content c.with_options.ensures.content c.minimal_options.ensures
+    subset_steps c.args.chosen.now c.args.bytes.now c.in_ok-open_behind_header.field-0 c.in_ok-shard.shard c.in_ok-with_marks.field-0 c.without_files-shard.result c.with_options.result c.minimal.result
+    c.in_ok-open_behind_header.ensures.0 c.in_ok-shard.ensures.0 c.in_ok-shard.ensures.1 c.in_ok-with_marks.ensures c.without_files-shard.ensures.content c.with_options.ensures.content c.minimal.ensures

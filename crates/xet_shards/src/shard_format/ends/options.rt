@@ -2,6 +2,7 @@
 
 ghost use Rattle.std.specs.Prelude.{◌≡◌};
 ghost use Rattle.xet_shards.specs.Read.SectionsBehindHeader.{options_of};
+ghost use Rattle.xet_shards.specs.StreamingShard.MinimalShard.{minimal_options};
 ghost use Rattle.xet_shards.specs.Write.Layout.{plain_options};
 
 use super::info::MDBShardInfo;
@@ -36,6 +37,21 @@ impl LayoutOptions {
             key: HMACKey::default(),
             creation: 0,
             expiry: expiry.unwrap_or(u64::MAX),
+        }
+    }
+
+    /// Version 3, no tables, no key, a creation, and an expiry, or 0 if there is none.
+    pub fn minimal(creation: u64, expiry: Option<u64>) -> LayoutOptions
+        ensures { result ≡ minimal_options creation expiry }
+    {
+        LayoutOptions {
+            version: FormatVersion::V3,
+            file_table: false,
+            xorb_table: false,
+            chunk_table: false,
+            key: HMACKey::default(),
+            creation,
+            expiry: expiry.unwrap_or(0),
         }
     }
 

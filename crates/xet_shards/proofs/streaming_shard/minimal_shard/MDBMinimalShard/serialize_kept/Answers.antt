@@ -13,4 +13,4 @@ returns-clause-written g c =
     all_written _ (λ x b answer. answer.says.met) (contents c.args.writer.now) (contents c.write.new.writer) kept c.args.now m c.write.result
     (subst (λ fs. IfOk c.write.result (WritesKept _ (contents c.args.writer.now) (contents c.write.new.writer) (map (as_kept kept) fs) m (minimal_options c.args.now None))) c.files-files.ensures.files
     (subst (λ options. IfOk c.write.result (WritesKept _ (contents c.args.writer.now) (contents c.write.new.writer) (map (as_kept kept) c.files-files.result.now) m options))
-    c.minimal_options-options.ensures c.write.ensures.written))
+    c.minimal-options.ensures c.write.ensures.written))
