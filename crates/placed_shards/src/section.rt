@@ -64,7 +64,7 @@ pub fn read_section<'a, P: PlacedRecord<'a> + Drop>(
 /// `UnexpectedEof` if the bytes end before the bookend, `InvalidShard` if the version does not have
 /// a header, the rows pass 4294967295, or a hash is not above the one before it. `OutOfMemory` if an
 /// allocation fails. Of several faults the first in the bytes is answered.
-pub fn read_ascending<'a, P: PlacedRecord<'a> + Drop>(
+pub(crate) fn read_ascending<'a, P: PlacedRecord<'a> + Drop>(
     alloc: Global,
     bytes: &'a [u8],
     version: FormatVersion,
