@@ -32,7 +32,7 @@ use Rattle.xet_shards.proofs.ShardInMemory.ChunkLookups.{All-front}
 use Rattle.xet_shards.proofs.Ends.EndsUnique.{only_info, not_unsupported, not_too_short}
 use Rattle.xet_shards.proofs.Read.SectionHashes.{ascend_adjacent}
 use Rattle.xet_shards.proofs.Ends.Loading.{header_of, one_version}
-use Rattle.xet_shards.proofs.Export.Rewriting.{only_sections, sections_fit, is_layout}
+use Rattle.xet_shards.proofs.Read.SectionsOfBytes.{only_sections, sections_fit, is_layout}
 use Rattle.xet_shards.proofs.Read.WholeSections.{files_not_cut, files_not_refused, layout_ends, xorbs_not_cut, xorbs_not_refused}
 use Rattle.placed_shards.specs.Content.{HasFilesIn}
 use Rattle.placed_shards.proofs.Equations.Reopened.{has_files}

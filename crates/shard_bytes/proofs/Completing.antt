@@ -17,7 +17,7 @@ use Rattle.xet_core_structures.specs.WithOptions.{FitsSection}
 use Rattle.xet_core_structures.specs.XorbRecord.{xorb_records}
 use Rattle.xet_records.specs.declared.record_reader.FormatVersion.TheVariants.{V3}
 use Rattle.xet_shards.specs.Read.SectionsBehindHeader.{HasSections}
-use Rattle.xet_shards.proofs.Export.Rewriting.{only_sections}
+use Rattle.xet_shards.proofs.Read.SectionsOfBytes.{only_sections}
 use Rattle.xet_shards.proofs.Read.Readback.{file_section_in, xorb_section_in}
 use Rattle.xet_shards.proofs.Read.WholeSections.{layout_ends}
 use Rattle.xet_shards.proofs.Write.Sections.{fits_ever}

@@ -44,7 +44,7 @@ use Rattle.xet_shards.proofs.Content.KeyedShards.{keyed_is_shard, values-keyed}
 use Rattle.xet_shards.proofs.Content.Maps.{values-empty}
 use Rattle.xet_shards.proofs.Content.ShardsWithoutAux.{values-without_aux, without_aux-is_shard}
 use Rattle.xet_shards.proofs.Ends.EndsUnique.{only_info}
-use Rattle.xet_shards.proofs.Export.Rewriting.{only_sections}
+use Rattle.xet_shards.proofs.Read.SectionsOfBytes.{only_sections}
 use Rattle.xet_shards.proofs.Read.Readback.{file_section_in, xorb_section_in}
 use Rattle.xet_shards.proofs.Read.WholeSections.{layout_ends, files_not_cut, files_not_refused, xorbs_not_cut, xorbs_not_refused}
 use Rattle.xet_shards.proofs.Write.Sections.{fits_ever}

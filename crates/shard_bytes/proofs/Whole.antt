@@ -36,7 +36,7 @@ use Rattle.xet_shards.specs.Write.Tables.{hash_in, chunk_table, chunk_table_byte
 use Rattle.xet_shards.proofs.Ends.EndsUnique.{only_info, not_unsupported, not_too_short}
 use Rattle.xet_shards.proofs.Ends.Loading.{header_of, one_version}
 use Rattle.xet_shards.proofs.Export.KeyedExport.{footer_last}
-use Rattle.xet_shards.proofs.Export.Rewriting.{only_sections, form_again}
+use Rattle.xet_shards.proofs.Read.SectionsOfBytes.{only_sections, form_again}
 use Rattle.xet_shards.proofs.Read.Readback.{all_as_read}
 use Rattle.xet_shards.proofs.Read.SectionHashes.{ascend_adjacent}
 use Rattle.xet_shards.proofs.Read.WholeSections.{version_again, layout_ends, files_not_cut, files_not_refused, xorbs_not_cut, xorbs_not_refused}

@@ -1,4 +1,3 @@
--- Copying a shard record by record: keyed exports. The sections and layout options that bytes have.
+-- Copying a shard record by record: keyed exports.
 
 pub mod KeyedExport
-pub mod Rewriting

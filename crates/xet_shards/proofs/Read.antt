@@ -5,6 +5,7 @@ pub mod SectionReading
 pub mod SectionWalks
 pub mod SectionHashes
 pub mod SectionUnique
+pub mod SectionsOfBytes
 pub mod WholeSections
 pub mod TableReading
 pub mod FileRanges

@@ -16,7 +16,7 @@ use Rattle.xet_shards.specs.Write.Tables.{chunk_table, starts}
 use Rattle.xet_shards.specs.Write.WithOptions.{FitsSection}
 use Rattle.xet_shards.specs.declared.shard_format.ends.info.MDBShardInfo.{MDBShardInfo}
 use Rattle.xet_shards.specs.declared.shard_format.ends.options.LayoutOptions.{LayoutOptions}
-use Rattle.xet_shards.proofs.Export.Rewriting.{form_again}
+use Rattle.xet_shards.proofs.Read.SectionsOfBytes.{form_again}
 use Rattle.xet_shards.proofs.Read.Readback.{file_section_in, xorb_section_in}
 use Rattle.xet_shards.proofs.Read.WholeSections.{layout_ends}
 use Rattle.xet_shards.proofs.Write.Tables.{length-starts}
