@@ -1,5 +1,4 @@
-//! Laws of shards, their names, hashes and errors that no contract of a single call states. Each is
-//! a function that does nothing; its contract is the law.
+//! Laws of shards, names, hashes and errors. Each function does nothing; its contract is the law.
 
 ghost use Rattle.xet_records.specs.XorbRecord.{xorb_records, IsXorb};
 ghost use Rattle.xet_records.specs.declared.record_reader.FormatVersion.{FormatVersion};
@@ -60,7 +59,7 @@ pub fn unions_exist()
     ensures one { (a b c d : Shard) → IsUnion a b c → IsUnion a b d → c ≡ d }
 {}
 
-/// The union of shards that agree is their join, and the same in either order.
+/// The union of shards that agree is their join, in either order.
 pub fn union_commutes()
     ensures join { (a b c : Shard) → IsShard a → IsShard b → ShardsAgree a b → IsUnion a b c
         → IsJoinOf (Contains (a ∷ b ∷ [])) c }
@@ -68,9 +67,8 @@ pub fn union_commutes()
         → IsUnion a b c → IsUnion b a d → c ≡ d }
 {}
 
-/// Shards that agree pairwise have exactly one join, and that of two groups of them is the union of
-/// the joins of each. The join is of a set, so order, grouping and repetition don't matter. If the
-/// rows of the join of two groups fit `u32`, so do those of the join of the first.
+/// Shards that agree pairwise have exactly one join. That of two groups is the union of their
+/// joins; if its rows fit `u32`, so do those of the first join.
 pub fn joins_exist()
     ensures exists { (shards : List Shard) → AgreePairwise (Contains shards)
         → (c : Shard) × IsJoinOf (Contains shards) c }
@@ -83,7 +81,7 @@ pub fn joins_exist()
         → IsJoinOf (Contains (xs ++ ys)) c → RowsFitU32 c → RowsFitU32 a }
 {}
 
-/// The union of three shards is the same in either grouping.
+/// Unions associate.
 pub fn union_associates()
     ensures { (a b c ab bc left right : Shard)
         → IsUnion a b ab → IsUnion ab c left → IsUnion b c bc → IsUnion a bc right → left ≡ right }
@@ -94,13 +92,13 @@ pub fn union_repeats()
     ensures { (a c : Shard) → IsShard a → IsUnion a a c → c ≡ a }
 {}
 
-/// The union of a shard with the empty one, on either side, is that shard.
+/// The empty shard is neutral in unions.
 pub fn union_with_nothing()
     ensures right { (a c : Shard) → IsUnion a empty_shard c → c ≡ a }
     ensures left { (a c : Shard) → IsUnion empty_shard a c → c ≡ a }
 {}
 
-/// The empty shard is a shard, and so is a difference of which the second is one.
+/// The empty shard is a shard, and so is a difference whose second input is one.
 pub fn empty_and_differences_are_shards()
     ensures empty { IsShard empty_shard }
     ensures difference { (a b d : Shard) → IsShard b → IsDifference a b d → IsShard d }
@@ -134,8 +132,8 @@ pub fn records_start_after_smaller_hashes()
         xorbs }
 {}
 
-/// The chunk table has exactly one row for each chunk of the xorbs, in strictly ascending order: by
-/// first word, then by the row at which the xorb starts, then by the index in the xorb.
+/// The chunk table has exactly one row for each chunk, strictly ascending by first word, by the row
+/// at which the xorb starts and by the index in it.
 pub fn chunk_table_is_sorted()
     ensures sorted { (xorbs : List MDBXorbInfo)
         → IsStrictlySortedBy chunk_table_row_cmp (chunk_table xorbs) }
@@ -143,18 +141,15 @@ pub fn chunk_table_is_sorted()
         → Contains (chunk_table xorbs) p ↔ Contains (chunk_table_rows xorbs) p }
 {}
 
-/// The name of the shard file of a hash spells that hash, and no other: so `parse_shard_filename`
-/// gives it back. From the 64 digits alone `DataHash::from_hex` gives it back, by its own contract
-/// (`back`).
+/// The name of a shard file spells its hash alone, so `parse_shard_filename` gives it back.
 pub fn shard_name_is_read()
     ensures named { (hash : DataHash) → NamesShard (shard_name hash) hash }
     ensures alone { (name : List ℕ) (a b : DataHash) → IsHash a → IsHash b
         → NamesShard name a → NamesShard name b → a ≡ b }
 {}
 
-/// Shards have equal bytes if and only if they are equal. If they are written with an expiry, in
-/// seconds, or none, equal bytes mean equal expiries too; no expiry is stored as the greatest
-/// `u64`.
+/// Shards have equal bytes if and only if they and their expiries are equal, where none is the
+/// greatest `u64`.
 pub fn equal_bytes_mean_equal_shards()
     ensures contents { (s t : Shard) → IsShard s → IsShard t
         → (layout s None ≡ layout t None) ↔ (s ≡ t) }
@@ -164,16 +159,14 @@ pub fn equal_bytes_mean_equal_shards()
         ↔ ((s ≡ t) × (unwrap_or e 18446744073709551615 ≡ unwrap_or f 18446744073709551615)) }
 {}
 
-/// The 64 digits of a hash spell that hash, and no other. So `DataHash::from_hex`, which reads the
-/// hash that a text spells, is the inverse of `hex`.
+/// The 64 digits of a hash spell it alone, so `DataHash::from_hex` is the inverse of `hex`.
 pub fn hex_is_read()
     ensures named { (hash : DataHash) → IsHexText (hash_hex hash) × Spells (hash_hex hash) hash }
     ensures alone { (text : List ℕ) (a b : DataHash) → IsHash a → IsHash b
         → Spells text a → Spells text b → a ≡ b }
 {}
 
-/// Errors are equal by `==` if and only if their variants are equal, and this is an equivalence
-/// relation.
+/// Errors are equal by `==`, an equivalence relation, if and only if their variants are.
 pub fn errors_are_equal_by_variant()
     ensures variants { (e f : CoreError) → IsTrue (error_eq e f)
         ↔ (variant_number e ≡ variant_number f) }
@@ -183,11 +176,9 @@ pub fn errors_are_equal_by_variant()
         → IsTrue (error_eq e f) → IsTrue (error_eq f g) → IsTrue (error_eq e g) }
 {}
 
-/// A union, a difference and a tree with at least one union write bytes of a shard under a key,
-/// whether their inputs agree or not. From such bytes `load_from_reader` reads the header and the
-/// footer that were returned, and a file lookup finds what the shard has, within bounds. Queries
-/// for chunks require well-formed xorbs. A union has such xorbs if both inputs do, a difference if
-/// the second does, and a tree if all inputs at its leaves do.
+/// What a union, a difference or a tree with a union writes is loaded, and its files looked up, as
+/// bytes of a shard under a key. Its xorbs are well-formed, as queries for chunks require, if the
+/// inputs' are; of a difference, the second's.
 pub fn lookups_on_results()
     ensures trees { (inputs : List (List ℕ)) → (plan : MergePlan) → (bytes : List ℕ) → HasUnion plan
         → TreeWrites inputs plan bytes
@@ -213,9 +204,8 @@ pub fn lookups_on_results()
         → IsBytesUnderKey key c bytes info → Holds bytes info c }
 {}
 
-/// The inputs at the leaves of a tree with a union hold shards that agree pairwise, without a key.
-/// What the tree writes is the bytes of their join without expiry; `load_from_reader` reads the
-/// header and the footer of these, and a file lookup finds what the join has, within bounds.
+/// As [`lookups_on_results`], of a tree with a union of shards without a key that agree pairwise:
+/// it writes the bytes of their join without expiry.
 pub fn lookups_on_trees()
     ensures premises { (inputs : List (List ℕ)) → (plan : MergePlan) → (shards : List Shard)
         → (join : Shard) → (old new : Source) → (info : MDBShardInfo)
@@ -228,15 +218,10 @@ pub fn lookups_on_trees()
         → LooksUpFile info hash loaded new found → FindsInShard join hash loaded new found }
 {}
 
-/// A union reads the key and the sections of its inputs, and nothing else. So if bytes hold shards
-/// under one key that agree pairwise, any tree with a union merges them to the layout of their join
-/// under this key, whatever tables, timestamps and sums the inputs have (`bytes`). It refuses only
-/// if an allocation fails or the join has too many rows (`refusals`). Bytes that hold a shard are,
-/// for example: its bytes in either version (`written`), its layout with any options whose version
-/// has its files (`any_options`), its exports under the key (`exports`), and the result of a tree
-/// (`again`). So two trees with a union, each over its own inputs, write the same bytes if their
-/// leaves hold the same shards, in whatever order and however often, under one key, and these agree
-/// pairwise (`same`).
+/// Of inputs that hold shards under one key that agree pairwise, a tree with a union writes the
+/// layout of their join under this key. Refused only if an allocation fails or the join has too
+/// many rows. A shard's bytes in either version, its layouts with any options, exports and the
+/// results of trees hold shards.
 pub fn trees_of_held_shards()
     ensures written { (s : Shard) → (bytes : List ℕ) → IsBytesOf s bytes
         → HoldsShard no_key s bytes }
@@ -266,11 +251,8 @@ pub fn trees_of_held_shards()
         → TreeWrites inputs plan x → TreeWrites others other y → x ≡ y }
 {}
 
-/// A reader finds exactly one of three things in the bytes of a section: records and then a
-/// bookend; an end before the bookend; or a header that is refused, since its record has too many
-/// rows or, in version 2, an auxiliary row. So bytes hold at most one shard (`holds`), and a set
-/// operation does not refuse its sections (`whole`). In bytes that it refuses, an early end or
-/// something invalid comes first, and not the other too (`first`).
+/// Bytes hold at most one shard. If they hold one, they are neither truncated nor malformed; no
+/// bytes are both.
 pub fn sections_are_read_in_one_way()
     ensures files { (version : FormatVersion) → (bytes : List ℕ)
         → IsReadInOneWay (file_records_in version) bytes }
@@ -283,17 +265,16 @@ pub fn sections_are_read_in_one_way()
         → ¬ IsMalformed bytes info }
 {}
 
-/// Two shards have at most one union of the kind that `shard_set_union` writes and at most one
-/// difference, and the bytes of two have at most one union, whether they agree or not.
+/// Two shards have at most one union as `shard_set_union` writes it and one difference, and two
+/// byte strings one union.
 pub fn results_are_one()
     ensures union { (a b c d : Shard) → IsByteUnion a b c → IsByteUnion a b d → c ≡ d }
     ensures difference { (a b c d : Shard) → IsDifference a b c → IsDifference a b d → c ≡ d }
     ensures bytes { (x y u v : List ℕ) → UnitesBytes x y u → UnitesBytes x y v → u ≡ v }
 {}
 
-/// Of any bytes that hold shards that agree, under one key, one union is the same byte string in
-/// either order and in either grouping. With the same shard, and with the empty one on either side,
-/// it is the shard's layout under the key.
+/// Bytes that hold shards that agree, under one key, have the same union in either order and
+/// grouping. With the same shard or the empty one it is the shard's layout.
 pub fn unions_of_bytes()
     ensures order { (key : DataHash) → (a b : Shard) → (a_1 a_2 b_1 b_2 x y : List ℕ)
         → ShardsAgree a b → HoldsShard key a a_1 → HoldsShard key a a_2 → HoldsShard key b b_1
@@ -316,9 +297,8 @@ pub fn unions_of_bytes()
         → x ≡ keyed_layout a key }
 {}
 
-/// Let shards a and b agree, and let each file of both have in a every optional part that it has in
-/// b. Then the union of a with the difference of a and b is the union of a and b, for any bytes
-/// that hold these shards under one key.
+/// As bytes under one key, the union of a with the difference of a and b is that of a and b, if
+/// they agree and each file of both has in a every optional part that it has in b.
 pub fn unions_with_differences()
     ensures { (key : DataHash) → (a b d : Shard) → (a_1 a_2 b_1 d_1 x y : List ℕ)
         → ShardsAgree a b → HasPartsOf a b → IsDifference a b d → HoldsShard key a a_1

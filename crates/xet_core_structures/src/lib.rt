@@ -1,5 +1,4 @@
-//! Metadata shards of Xet storage: unions and differences of their bytes, laws, and those modules
-//! of the crates below that callers need.
+//! Metadata shards of Xet storage: unions and differences of their bytes, and laws.
 #![tactic(auto)]
 
 pub mod laws;

@@ -23,24 +23,19 @@ use xet_base::source::{MemorySource, ShardSource};
 use xet_records::row_copier::CopyFailure;
 use xet_shards::shard_format::MDBShardInfo;
 
-/// Writes the union of two shards, each of either version, in version 3: header, sections, lookup
-/// tables and footer, with the key of both, creation 0 and no expiry. Returns the header and the
-/// footer, as `load_from_reader` reads them from these bytes. Of the inputs' footers it uses the
-/// key and the offsets of the sections, and it reads each section once, by one seek. Each row is
-/// written as it is read, and only the rows of the lookup tables are held. So the output may be
-/// begun when the call fails.
+/// Writes the union of two shards of either version in version 3, with all lookup tables, their
+/// key, creation 0 and no expiry, and returns its header and footer. Each section is read once, and
+/// only rows of lookup tables are held. On failure the output may be begun.
 ///
-/// If both have a file with one hash, it takes the record whose flags include the other's, the
-/// first if the flags are equal. If neither includes the other, it takes the first's segments, and
-/// each optional part from the first if it has it, else from the second. Of two xorbs with one hash
-/// it takes the first's.
+/// Of two files with one hash it takes the one whose flags include the other's, the first if they
+/// are equal; if neither does, the first's segments, and each optional part of the first, else of
+/// the second. Of two xorbs it takes the first's.
 ///
-/// `InvalidArguments` if the keys differ, before anything is read or written. `UnexpectedEof` if a
-/// section ends before its bookend, `InvalidShard` if its version does not have the header of a
-/// file, its rows pass 4294967295 or its hashes do not strictly ascend. `InvalidShard` too if files
-/// that have to be combined differ in their count of segments, or the rows of a section of the
-/// union pass 4294967295. Of several faults of an input, the one that reading meets first is
-/// answered. Else the error is a device's, or `OutOfMemory` if an allocation fails.
+/// `InvalidArguments` if the keys differ, before anything is read or written; `UnexpectedEof` if a
+/// section ends before its bookend; `InvalidShard` if its version does not have the header of a
+/// file, its rows pass 4294967295 or its hashes do not strictly ascend, or if files that are
+/// combined differ in their count of segments or a section of the union passes 4294967295 rows;
+/// `OutOfMemory`; or a device's error. Of several faults of an input, the first that is read.
 pub fn shard_set_union<S: ShardSource, T: ShardSource, W: Write>(
     alloc: Global,
     s1: &MDBShardInfo,
@@ -59,14 +54,8 @@ pub fn shard_set_union<S: ShardSource, T: ShardSource, W: Write>(
     Ok(operate::<OfUnion, S, T, W>(alloc, s1, r1, s2, r2, out)?)
 }
 
-/// Writes the difference of two shards, the second's records whose hashes the first does not have,
-/// in the same form, each row as it is read.
-///
-/// `InvalidArguments` if the keys differ, before anything is read or written. `UnexpectedEof` if a
-/// section ends before its bookend, `InvalidShard` if its version does not have the header of a
-/// file, its rows pass 4294967295 or its hashes do not strictly ascend. Of several faults of an
-/// input, the one that reading meets first is answered. Else the error is a device's, or
-/// `OutOfMemory` if an allocation fails.
+/// Writes the second's records whose hashes the first does not have, in the form of
+/// [`shard_set_union`], and with its errors but for those of combined files and the union's rows.
 pub fn shard_set_difference<S: ShardSource, T: ShardSource, W: Write>(
     alloc: Global,
     s1: &MDBShardInfo,
@@ -90,19 +79,16 @@ pub fn shard_set_difference<S: ShardSource, T: ShardSource, W: Write>(
 pub enum MergePlan {
     /// The input at this index.
     Leaf(usize),
-    /// The union of what both sides give, the left one first.
+    /// The union of both sides, the left one first.
     Both(Box<MergePlan>, Box<MergePlan>),
 }
 
-/// Unites the inputs at the leaves of a tree: each inner node gives the union of what its left and
-/// its right side give, and a tree of one leaf a copy of its input. So inputs that agree and have
-/// no key give one string of bytes if the tree has a union, whatever its shape and whatever the
-/// order and the repetition of its leaves.
+/// Unites the inputs at the leaves of a tree; a tree of one leaf copies its input, whatever it is.
+/// Inputs that agree and have no key give one string of bytes by any tree of unions over them.
 ///
-/// The error is that of the first leaf or union that fails, left sides first: `InvalidArguments` if
-/// a leaf has no input; of a union `ShardVersion` or `UnexpectedEof` if the header or the footer of
-/// a side is unsupported or truncated, or an error of `shard_set_union`. `OutOfMemory` if an
-/// allocation fails. A leaf that no union reads is copied, whatever it is.
+/// The error of the first leaf or union that fails, left sides first: `InvalidArguments` if a leaf
+/// has no input; `ShardVersion` or `UnexpectedEof` if the header or the footer of a side of a union
+/// is unsupported or truncated; one of [`shard_set_union`]; `OutOfMemory`.
 pub fn shard_union_tree(alloc: Global, plan: &MergePlan, inputs: &[&[u8]]) -> Result<Vec<u8>>
     ensures any_bytes { MatchResult result
         (λ bytes. TreeWrites (map (λ x. x.now) inputs.now) plan.now bytes.items)
@@ -114,7 +100,7 @@ pub fn shard_union_tree(alloc: Global, plan: &MergePlan, inputs: &[&[u8]]) -> Re
     merge(alloc, plan, inputs)
 }
 
-// The same, without the clause on inputs that agree.
+// As [`shard_union_tree`], without its second clause.
 fn merge(alloc: Global, plan: &MergePlan, inputs: &[&[u8]]) -> Result<Vec<u8>>
     ensures { MatchResult result
         (λ bytes. TreeWrites (map (λ x. x.now) inputs.now) plan.now bytes.items)
@@ -126,7 +112,7 @@ fn merge(alloc: Global, plan: &MergePlan, inputs: &[&[u8]]) -> Result<Vec<u8>>
     }
 }
 
-// What a tree gives, of which a leaf is lent: a union reads its inputs where they lie.
+// A leaf is lent: a union reads its inputs where they lie.
 fn merge_or_lend<'a>(
     alloc: Global,
     plan: &MergePlan,
@@ -158,7 +144,7 @@ fn input_at<'a>(inputs: &[&'a [u8]], index: usize) -> Result<&'a [u8]>
     Ok(inputs[index])
 }
 
-// The bytes of the union of two shards. Writing to a vector fails only if it is out of memory.
+// Writing to a vector fails only if it is out of memory.
 fn unite_bytes(alloc: Global, first: &[u8], second: &[u8]) -> Result<Vec<u8>>
     ensures { MatchResult result (λ bytes. UnitesBytes first.now second.now bytes.items)
         (BytesRefusal first.now second.now) }

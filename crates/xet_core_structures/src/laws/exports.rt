@@ -1,5 +1,4 @@
-//! Laws of shards whose chunk hashes are under a key. Each is a function that does nothing; its
-//! contract is the law.
+//! Laws of shards whose chunk hashes are under a key.
 
 ghost use Rattle.std.specs.Prelude.{◌≡◌, ◌↔◌, ◌+◌, ◌++◌, ◌≤◌, ℕ, Bool, List, [], length, map, Contains, Option, Some, true, All};
 ghost use Rattle.std.specs.FinMap.{get, values};
@@ -30,7 +29,7 @@ ghost use Rattle.xet_core_structures.specs.TwoShards.ByteResults.{keyed_layout};
 ghost use Rattle.xet_core_structures.specs.Trees.ExportTrees.{shard_with_aux_if, IsExportedAt, IsMergeOfExports, run_under};
 ghost use Rattle.xet_core_structures.specs.Trees.MergeTrees.{leaves, TreeWrites, TreeRefusal, IsMerge, IsMergeOfWritten, MergeRefused};
 
-/// A shard with its chunk hashes under a key is a shard, and an export with files is its layout.
+/// A shard under a key is a shard, and an export with files is its layout.
 pub fn keyed_shards_are_exported()
     ensures shards { (key : DataHash) → (s : Shard) → IsShard s → IsShard (keyed_shard key s) }
     ensures bytes { (s : Shard) → (options : LayoutOptions) → options.file_table ≡ true
@@ -39,8 +38,7 @@ pub fn keyed_shards_are_exported()
         ≡ layout_of (values keyed.files) (values keyed.xorbs) options }
 {}
 
-/// Chunk hashes can be put under a key before shards are merged or after: unions, joins and
-/// agreement of shards pass to the shards under one key.
+/// Unions, joins and agreement of shards pass to the shards under one key.
 pub fn keys_pass_to_joins()
     ensures union { (key : DataHash) → (a b c : Shard) → IsUnion a b c
         → IsUnion (keyed_shard key a) (keyed_shard key b) (keyed_shard key c) }
@@ -51,8 +49,8 @@ pub fn keys_pass_to_joins()
         → ShardsAgree (keyed_shard key a) (keyed_shard key b) }
 {}
 
-/// Merging loses no chunk to dedup against: a join has the xorb that any of the shards has under a
-/// hash, so the runs of hashes in it are the same, and under a key a run is at least as long.
+/// A join has the xorb that any of the shards has under a hash, and under a key a run of hashes is
+/// at least as long.
 pub fn joins_keep_runs()
     ensures xorbs { (shards : List Shard) → (s c : Shard) → (q : DataHash) → (xorb : MDBXorbInfo)
         → IsJoinOf (Contains shards) c → Contains shards s → get s.xorbs q ≡ Some xorb
@@ -62,14 +60,10 @@ pub fn joins_keep_runs()
         → run_length no_key hashes chunks ≤ run_length key hashes (map (keyed_chunk key) chunks) }
 {}
 
-/// An export of the bytes of a shard, in either version, writes the shard under the key, in version
-/// 3, with auxiliary rows or without (`exports`). Exports of shards that agree, in either version,
-/// under one key and with their files, merge to the export of their join under this key in version
-/// 3 with all tables, created at 0 and without expiry (`bytes`). Exports of one shard with all
-/// tables under one key differ in the two timestamps of the footer alone (`timestamps`). So the
-/// union of exports and the export of the union are the same bytes but for these (`exchanged`).
-/// Nothing is written only if an allocation fails or what is joined, with these rows or without,
-/// has too many (`refusals`).
+/// Exports with files, under one key, of shards that agree, all with auxiliary rows or all without,
+/// merge to the export of their join with all tables, creation 0 and no expiry. So exports and
+/// unions can be exchanged but for these timestamps. Refused only if an allocation fails or what is
+/// joined has too many rows.
 pub fn exports_merge_to_the_export_of_the_join()
     ensures exports { (aux : Bool) → (s : Shard) → (options : LayoutOptions) → (old new : Source)
         → (before after : Option (List ℕ)) → (size : ℕ) → IsBytesOf s (bytes_left old)
@@ -103,11 +97,8 @@ pub fn exports_merge_to_the_export_of_the_join()
         → MergeRefused (shard_with_aux_if aux join) e }
 {}
 
-/// The bytes that a tree writes for shards that agree have the runs of chunks of these shards, and
-/// no others. In those of their exports under a key a run is at least as long, and the shards under
-/// the key have such a join again. An export of the bytes writes the layout of the join under the
-/// options' key, with files if they are asked for (`exported`). A run in it is at least as long as
-/// in the join (`exported_runs`).
+/// A tree of shards that agree keeps their runs of chunks and adds none. Under a key, runs are at
+/// least as long.
 pub fn merges_keep_runs()
     ensures kept { (inputs : List (List ℕ)) → (plan : MergePlan) → (shards : List Shard)
         → (join s : Shard) → (out : List ℕ) → (q : DataHash) → (index : ℕ)
@@ -155,8 +146,7 @@ pub fn merges_keep_runs()
         AgreePairwise keyed × IsJoinOf keyed (keyed_shard key join) }
 {}
 
-/// Auxiliary rows can be dropped before shards are merged or after: agreement and joins of shards
-/// pass to the shards without these rows.
+/// Agreement and joins of shards pass to the shards without auxiliary rows.
 pub fn joins_without_auxiliary_rows()
     ensures shards { (s : Shard) → IsShard s → IsShard (shard_without_aux s) }
     ensures files { (s : Shard)

@@ -1,5 +1,4 @@
-//! Laws of minimal shards that are read again. Each is a function that does nothing; its contract
-//! is the law.
+//! Laws of minimal shards that are read again.
 
 ghost use Rattle.std.specs.Prelude.{◌≡◌, ℕ, Bool, true, List, [], map, flat_map, Option, Some};
 ghost use Rattle.std.specs.Fn.{FnReturnsAt};
@@ -13,11 +12,8 @@ ghost use Rattle.xet_shards.specs.StreamingShard.MinimalShard.{MinimalShard, is_
 
 use xet_records::xorb_structs::MDBXorbInfoView;
 
-/// Write some xorbs of a shard without files, with any expiry or none, and read them again: they
-/// have the same eligible chunks as in the shard, where a chunk at which a file starts is eligible.
-/// So `global_dedup_eligible_chunks` of what `from_reader` reads (`read`), and
-/// `filter_cas_chunks_for_global_dedup` on a source that has these bytes left (`source`), return
-/// the chunks that the shard has in these xorbs.
+/// Some xorbs of a shard, written without files and read again, keep their eligible chunks, also
+/// those at which a file of the shard starts.
 pub fn subsets_keep_eligible_chunks<F: Fn(&MDBXorbInfoView) -> bool>()
     ensures read { (filter : F) → (m n : MinimalShard) → (now size : ℕ) → (expiry : Option ℕ)
         → (first rest left : Option (List ℕ)) → (bytes : List ℕ)
@@ -38,9 +34,9 @@ pub fn subsets_keep_eligible_chunks<F: Fn(&MDBXorbInfoView) -> bool>()
         → hashes ≡ ascending_hashes (flat_map (eligible_in (is_start m.files)) subset.kept) }
 {}
 
-/// A shard that is read, written, read and written again, with the same choice of verification rows
-/// and auxiliary rows and the same timestamp, gives the same bytes. What is read in between is what
-/// was written: these parts of the files, and the xorbs with marks at the files' starts.
+/// A shard that is read, written, read and written again, with the same parts of files and the same
+/// timestamp, gives the same bytes. What is read in between has these parts, and marks at the
+/// files' starts.
 pub fn minimal_shards_are_written_again()
     ensures read { (with_files with_xorbs : Bool) → (kept : KeptParts) → (m n : MinimalShard)
         → (now size : ℕ) → (first rest left : Option (List ℕ)) → (bytes : List ℕ)

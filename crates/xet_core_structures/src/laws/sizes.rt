@@ -11,10 +11,8 @@ ghost use Rattle.xet_core_structures.specs.Records.ByteUnion.{IsByteUnion};
 ghost use Rattle.xet_core_structures.specs.Trees.MergeTrees.{leaves, HasUnion, TreeWrites};
 ghost use Rattle.xet_core_structures.specs.Records.Sizes.{rows_of_shard, bytes_at};
 
-/// A union has at most the rows of both shards. So a union of two byte strings, or of the inputs at
-/// the leaves of a tree, has at most 344 bytes more than 8/3 of its inputs', whatever these are: a
-/// row takes 48 bytes and at most 16 of a table, and both sections of an input may be the same
-/// bytes. If an input is united with itself it counts once; in a difference only the second input
+/// A union has at most the rows of both shards, and as bytes, also of a tree, at most 344 more than
+/// 8/3 of its inputs'. An input united with itself counts once; of a difference only the second
 /// counts.
 pub fn results_are_bounded()
     ensures rows { (a b c : Shard) → IsByteUnion a b c

@@ -1,4 +1,4 @@
-//! Union and difference of two shards, whose sections are read side by side.
+//! Union and difference of two shards, read side by side.
 
 pub(super) mod mix;
 pub(super) mod record_operation;

@@ -1,4 +1,4 @@
-//! A mix of two records of one file, written as both are read.
+//! A mix of two records of one file.
 
 ghost use Rattle.std.specs.Prelude.{◌≡◌, ◌*◌, ◌≤◌, IfOk};
 ghost use Rattle.xet_records.specs.FileRow.{hash_row, FitsHashRow, clear};
@@ -23,8 +23,8 @@ use xet_records::row_reader::skip_rows;
 use xet_records::rows::Row;
 use xet_shards::shard_writer::{WrittenFiles, WrittenSection};
 
-/// Writes the first's segments, and each optional part from the first where it has it, else from
-/// the second. `InvalidShard` if its rows do not fit the section; then both are read past.
+/// Writes the first's segments, and each optional part from the first if it has it, else from the
+/// second. `InvalidShard` if its rows do not fit the section; then both are read past.
 pub fn mix<S: ShardSource, T: ShardSource, W: Write>(
     alloc: Global,
     first: FileDataSequenceHeader,
@@ -56,7 +56,7 @@ pub fn mix<S: ShardSource, T: ShardSource, W: Write>(
     }
 }
 
-/// Writes the rows after the header of a mix, and returns the size of the file in bytes.
+/// Writes the rows after a mix's header, and returns the size of the file in bytes.
 pub fn mix_rows<S: ShardSource, T: ShardSource, W: Write>(
     first: &FileDataSequenceHeader,
     r1: &mut S,
@@ -77,7 +77,6 @@ pub fn mix_rows<S: ShardSource, T: ShardSource, W: Write>(
     Ok(size)
 }
 
-// Copies a part of the first, or if it has no such rows, that of the second.
 fn copy_part<S: ShardSource, T: ShardSource, W: Write>(
     first: &FileDataSequenceHeader,
     r1: &mut S,
@@ -94,7 +93,7 @@ fn copy_part<S: ShardSource, T: ShardSource, W: Write>(
     copy_either::<HashRow, S, T, W>(r1, first.part_rows(part), r2, second.part_rows(part), out)
 }
 
-// Copies the rows of the first, or if it has none, those of the second, and reads past the others.
+// Copies the first's rows, or if it has none, the second's, and reads past the others.
 fn copy_either<R: Row, S: ShardSource, T: ShardSource, W: Write>(
     r1: &mut S,
     count_1: u32,

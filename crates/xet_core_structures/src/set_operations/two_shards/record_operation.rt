@@ -1,4 +1,4 @@
-//! Union and difference of the records with one hash, which are written as they are read.
+//! Union and difference of the records with one hash.
 
 ghost use Rattle.std.specs.Prelude.{◌≡◌, ⊤, Option, None, Some, IfSome, MatchResult, IsErrAnd};
 ghost use Rattle.xet_records.specs.FileRecord.{file_records};
@@ -25,19 +25,19 @@ use xet_shards::shard_writer::{WrittenFiles, WrittenSection, WrittenXorbs};
 /// Marks the union.
 pub struct OfUnion {}
 
-/// Marks the difference, which has the second's records.
+/// Marks the difference.
 pub struct OfDifference {}
 
-/// An operation on two sections: `OfUnion` or `OfDifference`.
+/// An operation on two sections.
 pub trait RecordOperation<Sec: WrittenSection> {
-    // what is made of the records with one hash, where each section may have one
+    // what is made of the records with one hash
     ghost makes: { Option Sec.Record → Option Sec.Record → Option Sec.Record → Type 0 };
 
     ghost makes_nothing: { makes None None None };
 
-    /// Reads the records of these headers, which have one hash, and writes what is made of them, if
-    /// anything. `InvalidShard` if nothing can be made of them, or its rows do not fit the section;
-    /// then both are read, so that an input that is cut there is `UnexpectedEof`.
+    /// Writes what is made of the records of these headers, if anything. `InvalidShard` if nothing
+    /// can be made of them or its rows do not fit the section; then both are read, so an input that
+    /// is cut there is `UnexpectedEof`.
     fn write<S: ShardSource, T: ShardSource, W: Write>(
         alloc: Global,
         first: Option<<Sec::Record as SectionRecord>::Header>,
@@ -56,8 +56,7 @@ pub trait RecordOperation<Sec: WrittenSection> {
             (Sec.has_written written.old) (Sec.has_written written.new) result };
 }
 
-/// The record of either, or of two files the one whose flags have all bits of the other's, the
-/// first if both have the same; else a mix of both.
+/// Files are united as `shard_set_union` says.
 impl RecordOperation<WrittenFiles> for OfUnion {
     ghost use Rattle.std.specs.Prelude.{refl};
 
@@ -158,8 +157,8 @@ impl<Sec: WrittenSection> RecordOperation<Sec> for OfDifference {
     }
 }
 
-// Writes the record of the first header, and reads past that of the second, if there is one.
-// `InvalidShard` if its rows do not fit the section; then both are read past.
+// Writes `kept`'s record and reads past `passed`'s. `InvalidShard` if its rows do not fit; then
+// both are read past.
 fn keep<Sec: WrittenSection, S: ShardSource, T: ShardSource, W: Write>(
     alloc: Global,
     kept: <Sec::Record as SectionRecord>::Header,
@@ -185,8 +184,7 @@ fn keep<Sec: WrittenSection, S: ShardSource, T: ShardSource, W: Write>(
     Ok(())
 }
 
-// Of two files with one hash, the one whose flags have all bits of the other's, the first if both
-// have the same; else a mix of both. `InvalidShard` if a mix has unequal counts of segments.
+// `InvalidShard` if a mix has unequal counts of segments.
 fn unite_files<S: ShardSource, T: ShardSource, W: Write>(
     alloc: Global,
     first: FileDataSequenceHeader,
@@ -218,7 +216,7 @@ fn unite_files<S: ShardSource, T: ShardSource, W: Write>(
     }
 }
 
-/// Reads past the records of both headers. `InvalidShard` if they are there.
+/// Reads past the records of both headers, and fails with `InvalidShard`.
 pub fn refuse<R: SectionRecord, S: ShardSource, T: ShardSource>(
     alloc: Global,
     first: Option<R::Header>,
@@ -234,7 +232,6 @@ pub fn refuse<R: SectionRecord, S: ShardSource, T: ShardSource>(
     Err(CopyFailure::Input(CoreError::InvalidShard(String::new(alloc))))
 }
 
-// Reads past the records of both headers.
 fn skip_both<R: SectionRecord, S: ShardSource, T: ShardSource>(
     first: Option<R::Header>,
     r1: &mut S,
@@ -252,7 +249,6 @@ fn skip_both<R: SectionRecord, S: ShardSource, T: ShardSource>(
     Ok(())
 }
 
-// Reads past the record of a header, if there is one.
 fn pass<R: SectionRecord, S: ShardSource>(header: Option<R::Header>, source: &mut S) -> Result<()>
     ensures { MatchResult result
         (λ _. SkipsRecord R.kind header (S.meaning source.old) (S.meaning source.new))

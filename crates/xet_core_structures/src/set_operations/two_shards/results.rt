@@ -1,4 +1,4 @@
-//! The union and the difference of two inputs, written to an output.
+//! The union and the difference of two inputs.
 
 ghost use Rattle.std.specs.Prelude.{◌≡◌, ◌≢◌, ℕ, List, IfOk, OnOk, IfErr, IsErrAnd};
 ghost use Rattle.std.specs.Io.KnownBytes.{Appends};
@@ -33,7 +33,7 @@ use xet_shards::shard_writer::{
     LayoutOptions, WrittenFiles, WrittenSection, WrittenXorbs, write_end,
 };
 
-/// An operation on two shards: `OfUnion` or `OfDifference`.
+/// An operation on two shards.
 pub trait SetOperation {
     type Files: RecordOperation<WrittenFiles>;
 
@@ -42,16 +42,15 @@ pub trait SetOperation {
     // the result for two shards
     ghost IsResult: { Shard → Shard → Shard → Type 0 };
 
-    // why nothing is made of the bytes of two inputs
+    // why two inputs have no result
     ghost Refusal: { List ℕ → MDBShardInfo → List ℕ → MDBShardInfo → CoreError → Type 0 };
 
-    /// Does nothing. It says what holds of every operation.
+    /// Does nothing; says what holds of every operation.
     fn laws()
         ensures { OperationLaws IsResult Self.Files.makes Self.Xorbs.makes Refusal };
 }
 
-/// The union: `InvalidShard` if files with one hash can't be united, or the rows of a section pass
-/// 4294967295.
+/// The union.
 impl SetOperation for OfUnion {
     type Files = OfUnion;
 
@@ -64,7 +63,7 @@ impl SetOperation for OfUnion {
     fn laws() {}
 }
 
-/// The difference: the second's records whose hashes the first does not have.
+/// The difference.
 impl SetOperation for OfDifference {
     type Files = OfDifference;
 
@@ -77,9 +76,8 @@ impl SetOperation for OfDifference {
     fn laws() {}
 }
 
-/// Writes the result of an operation on two inputs, of equal keys, under their key. Both inputs are
-/// read side by side, each section once, and of what is written only the rows of the lookup tables
-/// are held.
+/// Writes the result for two inputs under their key, or `InvalidArguments` if their keys differ,
+/// before anything is read or written.
 pub fn operate<O: SetOperation, S: ShardSource, T: ShardSource, W: Write>(
     alloc: Global,
     s1: &MDBShardInfo,
@@ -120,7 +118,6 @@ pub fn operate<O: SetOperation, S: ShardSource, T: ShardSource, W: Write>(
     write_tables(out, &files, xorbs, &options)
 }
 
-// Where a section is in a source, and the version in which it is read.
 #[derive(Clone, Copy)]
 struct SectionAt {
     offset: u64,
@@ -128,7 +125,6 @@ struct SectionAt {
 }
 
 impl SectionAt {
-    // The file section of a shard.
     fn of_files(info: &MDBShardInfo) -> Self
         ensures { result ≡ record {
           offset = info.now.metadata.file_info_offset;
@@ -141,7 +137,7 @@ impl SectionAt {
         }
     }
 
-    // Its xorb section, which is alike in both versions.
+    // The section is alike in both versions.
     fn of_xorbs(info: &MDBShardInfo) -> Self
         ensures { result ≡ record { offset = info.now.metadata.xorb_info_offset; version = V3 } }
     {
@@ -152,7 +148,6 @@ impl SectionAt {
     }
 }
 
-// Combines two sections.
 fn combine_at<
     Op: RecordOperation<Sec>,
     Sec: WrittenSection + Drop,
@@ -187,7 +182,7 @@ pub fn seek<S: ShardSource>(source: &mut S, offset: u64) -> Result<()>
     Ok(source.seek_to(offset)?)
 }
 
-/// Writes the header of a shard. The failure is the output's.
+/// Writes the header. The failure is the output's.
 pub fn write_header<W: Write>(out: &mut W) -> CopyResult<()>
     ensures appended { OnOk result
         (Appends (W.contents out.old) (W.contents out.new) (shard_header_bytes (header_value V3))) }
@@ -199,8 +194,7 @@ pub fn write_header<W: Write>(out: &mut W) -> CopyResult<()>
     }
 }
 
-/// Writes the lookup tables and the footer of a shard with layout options, and returns its header
-/// and footer. The failure is the output's.
+/// Writes the lookup tables and the footer. The failure is the output's.
 pub fn write_tables<W: Write>(
     out: &mut W,
     files: &WrittenFiles,

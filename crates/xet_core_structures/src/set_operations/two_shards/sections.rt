@@ -1,5 +1,4 @@
-//! Reading two sections side by side, a record of each at a time, and writing the section that an
-//! operation makes of them.
+//! Two sections read side by side.
 
 ghost use Rattle.std.specs.Prelude.{◌≤◌, ◌⊎◌, ◌↔◌, IsTrue, IfSome, is_some, Option, MatchResult, IfErr, OnOk};
 ghost use Rattle.std.specs.Io.KnownBytes.{Appends};
@@ -21,12 +20,9 @@ use xet_records::row_copier::{CopyFailure, CopyResult};
 use xet_records::rows::ROW_LIMIT;
 use xet_shards::shard_writer::WrittenSection;
 
-/// Reads two sections from the positions of their sources on, and writes a section of what the
-/// operation makes of the records with one hash.
-///
-/// `UnexpectedEof` if a source ends before the bookend, `InvalidShard` if a section's version does
-/// not have a header, if its rows pass 4294967295, if its hashes do not strictly ascend, or if
-/// nothing can be made of two records.
+/// Reads two sections from their sources' positions on, and writes what the operation makes of the
+/// records with one hash. `UnexpectedEof` and `InvalidShard` are those that `shard_set_union` has
+/// of sections.
 pub fn combine_sections<
     Op: RecordOperation<Sec>,
     Sec: WrittenSection + Drop,
@@ -62,14 +58,13 @@ pub fn combine_sections<
     Ok(written)
 }
 
-// Whether either section has a next header.
 fn goes_on<H: Copy>(first: Option<H>, second: Option<H>) -> bool
     ensures { IsTrue result ↔ (IsTrue (is_some first) ⊎ IsTrue (is_some second)) }
 {
     first.is_some() || second.is_some()
 }
 
-// The one of the next headers with the lesser hash, or both if their hashes are equal.
+// The header with the lesser hash, or both if their hashes are equal.
 fn next_pair<R: SectionRecord>(
     first: Option<R::Header>,
     second: Option<R::Header>,
@@ -86,8 +81,7 @@ fn next_pair<R: SectionRecord>(
     }
 }
 
-// The next header of a section: read from the source if the record of `next` was passed, else
-// still `next`.
+// The next header: `next`, unless its record was passed.
 fn advance<R: SectionRecord, S: ShardSource>(
     alloc: Global,
     source: &mut S,
@@ -109,9 +103,9 @@ fn advance<R: SectionRecord, S: ShardSource>(
     }
 }
 
-/// Reads the next header of a section, or `None` at its bookend, and counts the record's rows down
-/// from `rows_left`. `InvalidShard` if its hash is not greater than that of the header before it,
-/// and then its rows are read, so that an input that is cut there is `UnexpectedEof`.
+/// Reads the next header, or `None` at the bookend, and counts the record's rows down from
+/// `rows_left`. `InvalidShard` if its hash is not greater than `before`'s; then its rows are read,
+/// so an input that is cut there is `UnexpectedEof`.
 pub fn next_header<R: SectionRecord, S: ShardSource>(
     alloc: Global,
     source: &mut S,
@@ -137,7 +131,6 @@ pub fn next_header<R: SectionRecord, S: ShardSource>(
     Ok(Some(header))
 }
 
-// Whether a header's hash is greater than that of the one before it, if there is one.
 fn follows<R: SectionRecord>(before: Option<R::Header>, header: &R::Header) -> bool
     ensures { IsTrue result ↔ Follows R.kind before header.now }
 {
