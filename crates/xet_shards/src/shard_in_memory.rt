@@ -1,7 +1,4 @@
-//! Shards in memory: a store of files, a store of xorbs with the chunk lookup, and sums of rows.
-//!
-//! Whatever may fail to allocate comes before the first change, and a union that has too many rows
-//! is refused before anything is built.
+//! Shards in memory. Whatever may fail to allocate comes before the first change.
 
 ghost use Rattle.std.specs.Prelude.{◌≡◌, ◌<◌, ◌≤◌, ◌↔◌, [], ◌∷◌, Contains, length, sum_by, OnOk, OnErr, IfOk, IfErr, IsTrue, MatchResult, None, IsSome};
 ghost use Rattle.std.specs.FinMap as finite;
@@ -44,10 +41,8 @@ use xet_records::xorb_structs::MDBXorbInfo;
 use xorb_store::XorbStore;
 pub use xorb_store::is_well_formed as is_well_formed_xorb;
 
-/// A shard in memory: file records and xorb records, each under its hash, and a lookup from the
-/// chunk hashes of these xorbs to a location of such a chunk.
-///
-/// Contracts see the two maps of records and the lookup.
+/// A shard in memory, which contracts see as its maps of file and xorb records and the lookup of
+/// the xorbs' chunk hashes.
 #[derive(Drop)]
 pub struct MDBInMemoryShard {
     files: FileStore,
@@ -86,7 +81,7 @@ impl MDBInMemoryShard {
     /// Inserts or replaces a xorb; replacing rebuilds the chunk lookup.
     ///
     /// `InvalidArguments` if the record is ill-formed or the rows of all xorbs would pass
-    /// 4294967295, `OutOfMemory` if an allocation fails. On error the shard is unchanged.
+    /// 4294967295; `OutOfMemory`. On error the shard is unchanged.
     pub fn add_xorb_block(&mut self, alloc: Global, xorb_block: MDBXorbInfo) -> Result<()>
         ensures ok { OnOk result (self.new.content ≡ add_xorb self.old.content xorb_block) }
         ensures err { OnErr result (self.new ≡ self.old) }
@@ -101,7 +96,6 @@ impl MDBInMemoryShard {
         Ok(())
     }
 
-    // The rows of all xorbs once this one is inserted.
     fn rows_with_xorb(&self, xorb_block: &MDBXorbInfo) -> u64
         requires { IsXorb xorb_block.now }
         ensures { result ≡ total_rows xorb_records
@@ -114,7 +108,7 @@ impl MDBInMemoryShard {
     /// Inserts or replaces a file.
     ///
     /// `InvalidArguments` if the record is ill-formed or the rows of all files would pass
-    /// 4294967295, `OutOfMemory` if an allocation fails. On error the shard is unchanged.
+    /// 4294967295; `OutOfMemory`. On error the shard is unchanged.
     pub fn add_file_reconstruction_info(
         &mut self,
         _alloc: Global,
@@ -133,8 +127,7 @@ impl MDBInMemoryShard {
         Ok(())
     }
 
-    // Whether the rows of all files fit `u32` once this one is inserted. The file that it replaces
-    // is looked up only where that decides.
+    // The file that it replaces is looked up only where that decides.
     fn has_room_for(&self, file_info: &MDBFileInfo) -> bool
         requires { IsWellFormed file_info.now }
         ensures { IsTrue result ↔ (total_rows file_records
@@ -155,7 +148,7 @@ impl MDBInMemoryShard {
         ensures xorbs { AreXorbs (shown_xorbs result.now.entries) }
         ensures rows { total_rows xorb_records (finite.values self.now.content.xorbs) ≤ MAX_ROWS }
     {
-        // The count is named so that the proof has its bound.
+        // Its bound is for the proof.
         let _rows = self.xorb_rows;
         self.xorbs.content()
     }
@@ -166,7 +159,7 @@ impl MDBInMemoryShard {
         ensures files { AreFiles result.now.entries }
         ensures rows { total_rows file_records (finite.values self.now.content.files) ≤ MAX_ROWS }
     {
-        // The count is named so that the proof has its bound.
+        // Its bound is for the proof.
         let _rows = self.file_rows;
         self.files.content()
     }
@@ -178,8 +171,8 @@ impl MDBInMemoryShard {
         have_aux_rows(self.file_content())
     }
 
-    /// Does nothing. Its contract says that each record is well-formed and is under its hash, and
-    /// that the rows of the files and those of the xorbs fit `u32`.
+    /// Does nothing. Each record is well-formed and under its hash, and the rows of the files and
+    /// those of the xorbs fit `u32`.
     pub fn invariant(&self)
         ensures { IsShard self.now.content }
     {
@@ -187,8 +180,7 @@ impl MDBInMemoryShard {
         self.xorb_content();
     }
 
-    /// The chunk lookup: for each chunk hash of the shard's xorbs, one of these xorbs and the index
-    /// of such a chunk in it.
+    /// For each chunk hash of the xorbs, one of these and the index of such a chunk in it.
     pub fn chunk_hash_lookup(&self) -> &HashMap<MerkleHash, (Rc<MDBXorbInfo>, u64)>
         ensures locations { (q : DataHash)
             → location_in result.now q ≡ finite.get self.now.locations q }
@@ -197,12 +189,11 @@ impl MDBInMemoryShard {
         self.xorbs.lookup()
     }
 
-    /// The records of both shards. Of two xorbs with the same hash it has that of `other`; of two
-    /// files with the same hash, this shard's with each optional part that only `other` has for it.
+    /// The records of both shards: of two xorbs with one hash, that of `other`; of two files, this
+    /// shard's with each optional part that only `other` has.
     ///
     /// `InvalidArguments` if such files have different numbers of segments, or the rows of all
-    /// files, or of all xorbs, of the union would pass 4294967295; `OutOfMemory` if an allocation
-    /// fails.
+    /// files, or of all xorbs, would pass 4294967295; `OutOfMemory`.
     pub fn union(&self, alloc: Global, other: &MDBInMemoryShard) -> Result<MDBInMemoryShard>
         ensures ok { IfOk result (λ s. IsUnion self.now.content other.now.content s.content) }
         ensures join { ShardsAgree self.now.content other.now.content
@@ -220,8 +211,6 @@ impl MDBInMemoryShard {
         Ok(MDBInMemoryShard::from_stores(files, xorbs))
     }
 
-    // Whether files with the same hash have equally many segments, and the rows of the union fit
-    // `u32`.
     fn can_unite(&self, other: &MDBInMemoryShard) -> bool
         ensures { IsTrue result ↔ CanUnite self.now.content other.now.content }
     {
@@ -233,8 +222,7 @@ impl MDBInMemoryShard {
         file_rows <= ROW_LIMIT && xorb_rows <= ROW_LIMIT
     }
 
-    /// The records of `other` whose hashes this shard does not have. `OutOfMemory` if an allocation
-    /// fails.
+    /// The records of `other` whose hashes this shard does not have, or `OutOfMemory`.
     pub fn difference(&self, alloc: Global, other: &MDBInMemoryShard) -> Result<MDBInMemoryShard>
         ensures ok { IfOk result (λ s. IsDifference self.now.content other.now.content s.content) }
         ensures causes { IfErr result (λ e. e ≡ CoreError.OutOfMemory) }
@@ -244,7 +232,6 @@ impl MDBInMemoryShard {
         Ok(MDBInMemoryShard::from_stores(files, xorbs))
     }
 
-    // The shard of these stores, whose rows fit `u32`.
     fn from_stores(files: FileStore, xorbs: XorbStore) -> MDBInMemoryShard
         requires { RowsFitU32 (record { files = files; xorbs = xorbs.xorbs }) }
         ensures { result ≡ record {
@@ -262,8 +249,7 @@ impl MDBInMemoryShard {
         }
     }
 
-    /// A shard with the same records and the same chunk lookup. `OutOfMemory` if an allocation
-    /// fails.
+    /// A copy with the same chunk lookup, or `OutOfMemory`.
     pub fn try_clone(&self, _alloc: Global) -> Result<MDBInMemoryShard>
         ensures ok { IfOk result (λ s. s.content ≡ self.now.content) }
         ensures locations { IfOk result (λ s. s.locations ≡ self.now.locations) }
@@ -278,13 +264,13 @@ impl MDBInMemoryShard {
         Ok(copy)
     }
 
-    /// Does nothing: the size of the shard is up to date after each call.
+    /// Does nothing: the size is up to date after each call.
     pub fn recalculate_shard_size(&mut self)
         ensures { self.new ≡ self.old }
     {}
 
-    /// A copy of the record of this file, or `None` if the shard has none. `OutOfMemory` if
-    /// copying a record fails to allocate; nothing else allocates.
+    /// A copy of the file's record, or `None`. `OutOfMemory` if copying a record fails to allocate;
+    /// nothing else allocates.
     pub fn get_file_reconstruction_info(
         &self,
         alloc: Global,
@@ -301,9 +287,9 @@ impl MDBInMemoryShard {
         }
     }
 
-    /// The longest run of these chunk hashes that begins at the location which the lookup has for
-    /// the first of them: its number of chunks, and their segment. `None` if no hash is given or no
-    /// xorb has the first. Does not allocate.
+    /// The number of chunks and the segment of the longest run of these hashes that begins at the
+    /// location which the lookup has for the first; `None` if no hash is given or no xorb has the
+    /// first. Does not allocate.
     pub fn chunk_hash_dedup_query(
         &self,
         query_hashes: &[MerkleHash],
@@ -328,7 +314,7 @@ impl MDBInMemoryShard {
         self.files.content().len()
     }
 
-    /// The size of all xorbs on disk, in bytes, by their headers.
+    /// The bytes of all xorbs on disk, by their headers.
     pub fn stored_bytes_on_disk(&self) -> u64
         ensures { result
             ≡ sum_by (λ x. x.metadata.num_bytes_on_disk) (finite.values self.now.content.xorbs) }
@@ -336,14 +322,14 @@ impl MDBInMemoryShard {
         stored_bytes_on_disk(self.xorb_content())
     }
 
-    /// The size of all files, in bytes: that of their segments.
+    /// The bytes of all files, by their segments.
     pub fn materialized_bytes(&self) -> u64
         ensures { result ≡ sum_by size_of_file (finite.values self.now.content.files) }
     {
         materialized_bytes(self.file_content())
     }
 
-    /// The unpacked size of all xorbs, in bytes, by their headers.
+    /// The unpacked bytes of all xorbs, by their headers.
     pub fn stored_bytes(&self) -> u64
         ensures { result
             ≡ sum_by (λ x. x.metadata.num_bytes_in_xorb) (finite.values self.now.content.xorbs) }
@@ -358,7 +344,7 @@ impl MDBInMemoryShard {
         self.files.content().is_empty() && self.xorbs.content().is_empty()
     }
 
-    /// The size of the shard when it is written without expiry, in bytes.
+    /// The bytes of the shard when it is written without expiry.
     pub fn shard_file_size(&self) -> u64
         ensures { result ≡ length (layout self.now.content None) }
     {
@@ -372,7 +358,7 @@ impl MDBInMemoryShard {
     }
 }
 
-// This number of rows, which fits `u32`, or `InvalidArguments`.
+// `InvalidArguments` if the rows do not fit `u32`.
 fn within_limit(rows: u64) -> Result<u64>
     ensures { MatchResult result
         (λ n. (n ≡ rows) × (rows ≤ MAX_ROWS))

@@ -1,5 +1,4 @@
-//! Writing shards with any layout options, for the crates that make shards from other shards: one
-//! record after another, and then the end of the shard.
+//! Writing shards with any layout options: one record after another, and then the end.
 
 pub use crate::shard_format::ends::options::LayoutOptions;
 pub use crate::shard_format::export::keyed_chunks::with_keyed_hashes;

@@ -1,4 +1,4 @@
-//! Reading sections in one pass, one record after another.
+//! Reading sections in one pass.
 
 ghost use Rattle.std.specs.Prelude.{◌≡◌, IsErrAnd};
 ghost use Rattle.xet_base.specs.Errors.{IsBareShardVersion};
@@ -23,12 +23,11 @@ use xet_records::record_reader::FormatVersion;
 use xet_records::view_reader::process_section;
 use xet_records::xorb_structs::{MDBXorbInfo, MDBXorbInfoView};
 
-/// Calls `callback` with a view of each record of a file section of version 3, in order, and stops
-/// at the first call that fails, with its error, or after the bookend.
+/// Calls `callback` with a view of each record of a file section of version 3, in order, up to the
+/// bookend or the first call that fails, whose error it returns.
 ///
-/// Other errors come from reading, and then `callback` was called with each record before:
-/// `UnexpectedEof` if the reader ends before the bookend, `InvalidShard` if the rows pass
-/// 4294967295, the device's own, `OutOfMemory`.
+/// Else, after a call with each record before: `UnexpectedEof` if the reader ends before the
+/// bookend; `InvalidShard` if the rows pass 4294967295; the device's error; `OutOfMemory`.
 pub fn process_shard_file_info_section<R: Read, F: FnMut(MDBFileInfoView) -> Result<()>>(
     alloc: Global,
     reader: &mut R,
@@ -43,10 +42,8 @@ pub fn process_shard_file_info_section<R: Read, F: FnMut(MDBFileInfoView) -> Res
     process_section::<MDBFileInfo, MDBFileInfoView, OfReader, R, F>(alloc, reader, newest, callback)
 }
 
-/// Does the same with a file section of a version, 2 or 3, and in version 2 `InvalidShard` is also
-/// the error of a header that announces an auxiliary row.
-///
-/// `ShardVersion` if the version is another number, and then nothing is read.
+/// As [`process_shard_file_info_section`], of version 2 or 3; in version 2 also `InvalidShard` if a
+/// header announces an auxiliary row. `ShardVersion` for another version, and then nothing is read.
 pub fn process_shard_file_info_section_versioned<R: Read, F: FnMut(MDBFileInfoView) -> Result<()>>(
     alloc: Global,
     reader: &mut R,
@@ -72,7 +69,7 @@ pub fn process_shard_file_info_section_versioned<R: Read, F: FnMut(MDBFileInfoVi
     }
 }
 
-/// Does the same with a xorb section, which is alike in both versions.
+/// As [`process_shard_file_info_section`], of a xorb section, which is alike in both versions.
 pub fn process_shard_xorb_info_section<R: Read, F: FnMut(MDBXorbInfoView) -> Result<()>>(
     alloc: Global,
     reader: &mut R,

@@ -1,4 +1,4 @@
-//! Small calls on hashes, names of shards and timestamps.
+//! Hashes, names of shards and timestamps.
 
 ghost use Rattle.std.specs.Prelude.{◌≡◌, ◌+◌, ◌^◌, ◌<◌, ◌≤◌, ◌↔◌, MatchResult, IsSome, IfSome, IfOk, IfErr, Some, string_bytes};
 ghost use Rattle.xet_base.specs.Hash.{IsHash};
@@ -9,7 +9,6 @@ use std::alloc::Global;
 use xet_base::error::{CoreError, Result};
 use xet_base::merklehash::MerkleHash;
 
-/// What follows the digits in the name of a shard file.
 const SHARD_FILE_ENDING: &str = ".mdb";
 
 /// The first word of a hash, by which lookup tables are sorted.
@@ -19,8 +18,7 @@ pub fn truncate_hash(hash: &MerkleHash) -> u64
     hash[0]
 }
 
-/// The name of the file of the shard with this hash: its 64 digits and `.mdb`.
-/// `OutOfMemory` if an allocation fails.
+/// The name of a shard's file: the 64 digits of its hash and `.mdb`; or `OutOfMemory`.
 pub fn shard_file_name(alloc: Global, hash: &MerkleHash) -> Result<String>
     ensures text { IfOk result (λ name. string_bytes name ≡ shard_name hash.now) }
     ensures causes { IfErr result (λ e. e ≡ CoreError.OutOfMemory) }
@@ -30,8 +28,8 @@ pub fn shard_file_name(alloc: Global, hash: &MerkleHash) -> Result<String>
     Ok(name)
 }
 
-/// The hash in the name of a shard file: 64 hexadecimal digits of either case, then `.mdb`.
-/// `None` for any other text, such as a path. Does not allocate.
+/// The hash in the name of a shard file: 64 hexadecimal digits of either case, then `.mdb`. `None`
+/// for any other text. Does not allocate.
 pub fn parse_shard_filename(filename: &str) -> Option<MerkleHash>
     ensures found { IfSome result (λ hash. NamesShard filename.now hash) }
     ensures accepted { IsSome result ↔ IsShardName filename.now }
@@ -44,12 +42,12 @@ pub fn parse_shard_filename(filename: &str) -> Option<MerkleHash>
     Some(hash)
 }
 
-// Does nothing. Its contract says that the words of a hash fit their width.
+// Does nothing: the words of a hash fit their width.
 fn widths(hash: MerkleHash)
     ensures { IsHash hash }
 {}
 
-/// The timestamp `valid_seconds` after `now`, in seconds. `InvalidArguments` if it does not fit
+/// `valid_seconds` after `now`, a timestamp in seconds; `InvalidArguments` if it does not fit
 /// `u64`.
 pub fn shard_expiry_time(now: u64, valid_seconds: u64) -> Result<u64>
     ensures { MatchResult result

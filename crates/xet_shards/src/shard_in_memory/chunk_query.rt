@@ -1,4 +1,4 @@
-//! The search for a run of hashes among the chunks of a shard in memory.
+//! The search for a run of hashes in a shard in memory.
 
 ghost use Rattle.std.specs.Prelude.{◌≡◌, ◌≤◌, ◌↔◌, None, length};
 ghost use Rattle.xet_base.specs.KeyedHash.{no_key};
@@ -10,9 +10,7 @@ use xet_base::merklehash::MerkleHash;
 use xet_records::file_structs::FileDataSequenceEntry;
 use xet_records::xorb_structs::{MDBXorbInfo, XorbChunkSequenceEntry};
 
-/// The longest run of these hashes that begins at the location which the lookup has for the first
-/// of them: its number of chunks, and their segment. `None` if no hash is given or no xorb has the
-/// first.
+/// See `MDBInMemoryShard::chunk_hash_dedup_query`.
 pub fn chunk_hash_dedup_query(
     xorbs: &XorbStore,
     query_hashes: &[MerkleHash],
@@ -24,7 +22,6 @@ pub fn chunk_hash_dedup_query(
     Some(run_at(xorb.as_ref(), *index, query_hashes))
 }
 
-// The run of these hashes in a xorb, from the chunk at this index on.
 fn run_at(
     xorb: &MDBXorbInfo,
     index: u64,
@@ -47,7 +44,7 @@ fn run_at(
     (length, segment)
 }
 
-// How many of these hashes, from the first on, equal the hashes of these chunks, one by one.
+// How many hashes equal those of the chunks, from the first on.
 fn run_length(query_hashes: &[MerkleHash], chunks: &[XorbChunkSequenceEntry]) -> usize
     ensures count { result ≡ run_length no_key query_hashes.now chunks.now }
     ensures within { result ≤ length chunks.now }

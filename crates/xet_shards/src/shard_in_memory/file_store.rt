@@ -22,7 +22,7 @@ use xet_base::merklehash::MerkleHash;
 use xet_records::file_structs::{FileDataSequenceHeader, MDBFileInfo, OptionalPart};
 use xet_records::rows::{ROW_LIMIT, Row, all_widths};
 
-/// Well-formed files, each under its hash. Contracts see the finite map.
+/// Well-formed files, each under its hash.
 #[derive(Drop)]
 pub struct FileStore {
     content: BTreeMap<MerkleHash, MDBFileInfo>,
@@ -68,8 +68,8 @@ impl FileStore {
         row_count(self.content.get(file_hash))
     }
 
-    /// Inserts or replaces a file, and returns the rows of the one that it replaces, or 0.
-    /// `OutOfMemory` if an allocation fails; then nothing changes.
+    /// Inserts or replaces a file, and returns the rows of the replaced one, or 0. On `OutOfMemory`
+    /// nothing changes.
     pub fn put(&mut self, file_info: MDBFileInfo) -> Result<u64>
         requires { IsWellFormed file_info }
         ensures ok { OnOk result
@@ -92,8 +92,8 @@ impl FileStore {
         self.content.contains_key(file_hash)
     }
 
-    /// Inserts those of these files whose hashes are neither in this store nor in `except`.
-    /// `OutOfMemory` if an allocation fails; then some of them are inserted.
+    /// Inserts the files whose hashes are neither in this store nor in `except`. On `OutOfMemory`
+    /// only some are inserted.
     fn append_missing(
         &mut self,
         alloc: Global,
@@ -113,7 +113,7 @@ impl FileStore {
         Ok(())
     }
 
-    /// A store with the same files. `OutOfMemory` if an allocation fails.
+    /// A copy, or `OutOfMemory`.
     pub fn try_clone(&self) -> Result<FileStore>
         ensures ok { IfOk result (λ t. t ≡ self.now) }
         ensures causes { IfErr result (λ e. e ≡ CoreError.OutOfMemory) }
@@ -123,8 +123,8 @@ impl FileStore {
         })
     }
 
-    /// The files of both stores. Of two files with the same hash, this store's with each optional
-    /// part that only `other` has for it. `OutOfMemory` if an allocation fails.
+    /// The files of both; of two with one hash, this store's with each optional part that only
+    /// `other` has. Or `OutOfMemory`.
     pub fn union(&self, alloc: Global, other: &FileStore) -> Result<FileStore>
         requires { CanJoinFiles self.now other.now }
         ensures ok { IfOk result (λ t. (q : DataHash) → finite.get t q
@@ -136,9 +136,7 @@ impl FileStore {
         Ok(joined)
     }
 
-    // Joins the store's files with the other files of the same hashes, and inserts the other files
-    // whose hashes the store does not have. `OutOfMemory` if an allocation fails; then only some of
-    // them are joined.
+    // As [`FileStore::union`], in place. On `OutOfMemory` only some are joined.
     fn join_all(&mut self, alloc: Global, others: &BTreeMap<MerkleHash, MDBFileInfo>) -> Result<()>
         requires sorted { T (is_sorted hash_cmp others.now.entries) }
         requires files { AreFiles others.now.entries }
@@ -155,8 +153,7 @@ impl FileStore {
         Ok(())
     }
 
-    // The file to be stored under the hash: a copy of `file_info`, or the store's file joined with
-    // it. `None` if the store's file has all parts already. `OutOfMemory` if an allocation fails.
+    // `file_info`, or the store's file joined with it; `None` if that has all parts already.
     fn joined_with(
         &self,
         alloc: Global,
@@ -183,8 +180,7 @@ impl FileStore {
         Ok(Some(joined))
     }
 
-    /// The files of `other` whose hashes this store does not have. `OutOfMemory` if an allocation
-    /// fails.
+    /// The files of `other` whose hashes this store does not have, or `OutOfMemory`.
     pub fn difference(&self, alloc: Global, other: &FileStore) -> Result<FileStore>
         ensures ok { IfOk result (λ t. (q : DataHash) → finite.get t q
             ≡ unless_in self.now (finite.get other.now) q) }
@@ -204,7 +200,6 @@ impl FileStore {
     }
 }
 
-// The rows of a file, or 0 if there is none.
 #[tactic(auto, using(xet_records::proofs::Record::rows_whole))]
 fn row_count(file_info: Option<&MDBFileInfo>) -> u64
     requires { IfSome file_info (λ file. IsWellFormed file.now) }
@@ -216,8 +211,7 @@ fn row_count(file_info: Option<&MDBFileInfo>) -> u64
     }
 }
 
-/// Whether two records are of one file, and the rows of the first with the parts that only the
-/// second has fit `u32`.
+/// Whether two records are of one file, and [`joined_rows`] fits `u32`.
 pub fn can_join(file_info: &MDBFileInfo, twin: &MDBFileInfo) -> bool
     requires own { IsWellFormed file_info.now }
     requires others { IsWellFormed twin.now }
@@ -229,7 +223,7 @@ pub fn can_join(file_info: &MDBFileInfo, twin: &MDBFileInfo) -> bool
     joined_rows(file_info, twin) <= ROW_LIMIT
 }
 
-/// The rows of the first of two records of one file, with the parts that only the second has.
+/// The rows of the first record with the parts that only the second has.
 pub fn joined_rows(file_info: &MDBFileInfo, twin: &MDBFileInfo) -> u64
     requires own { FitsItsHeader file_info.now }
     requires others { FitsItsHeader twin.now }
@@ -253,7 +247,7 @@ pub fn is_well_formed(file_info: &MDBFileInfo) -> bool
         && metadata.rows_after() < ROW_LIMIT
 }
 
-// Whether the reserved words in the rows of its parts are zero.
+// Whether the reserved words of its parts are zero.
 fn has_clear_parts(file_info: &MDBFileInfo) -> bool
     ensures { IsTrue result ↔ AreClear (optional_rows file_info.now) }
 {
@@ -282,7 +276,7 @@ fn is_clear(file_info: &MDBFileInfo, part: OptionalPart) -> bool
     }
 }
 
-// Does nothing. Its contract says that the numbers of a record in memory fit their widths.
+// Does nothing: the numbers of a record fit their widths.
 fn record_widths(file_info: &MDBFileInfo)
     ensures { FitsRecord file_info.now }
 {

@@ -1,4 +1,4 @@
-//! Sums over the files and the xorbs of a shard: their rows and their sizes.
+//! Sums over the files and the xorbs of a shard.
 
 ghost use Rattle.std.specs.Prelude.{◌≡◌, ◌≤◌, sum_by};
 ghost use Rattle.std.specs.BTreeMap.{values};
@@ -48,7 +48,7 @@ pub fn xorb_rows(xorbs: &BTreeMap<MerkleHash, Rc<MDBXorbInfo>>) -> u64
         .sum()
 }
 
-/// The size of files, in bytes. Their rows fit `u32`, so the sum fits `u64`.
+/// The size of files, in bytes.
 pub fn materialized_bytes(files: &BTreeMap<MerkleHash, MDBFileInfo>) -> u64
     requires files { AreFiles files.now.entries }
     requires rows { total_rows file_records (values files.now) ≤ MAX_ROWS }
@@ -57,7 +57,7 @@ pub fn materialized_bytes(files: &BTreeMap<MerkleHash, MDBFileInfo>) -> u64
     files.values().map(|file_info| file_info.file_size()).sum()
 }
 
-/// The size of xorbs on disk, in bytes. Their rows fit `u32`, so the sum fits `u64`.
+/// The size of xorbs on disk, in bytes.
 pub fn stored_bytes_on_disk(xorbs: &BTreeMap<MerkleHash, Rc<MDBXorbInfo>>) -> u64
     requires xorbs { AreXorbs (shown_xorbs xorbs.now.entries) }
     requires rows { total_rows xorb_records (xorbs_of xorbs.now.entries) ≤ MAX_ROWS }
@@ -69,7 +69,7 @@ pub fn stored_bytes_on_disk(xorbs: &BTreeMap<MerkleHash, Rc<MDBXorbInfo>>) -> u6
         .sum()
 }
 
-/// The unpacked size of xorbs, in bytes. Their rows fit `u32`, so the sum fits `u64`.
+/// The unpacked size of xorbs, in bytes.
 pub fn stored_bytes(xorbs: &BTreeMap<MerkleHash, Rc<MDBXorbInfo>>) -> u64
     requires xorbs { AreXorbs (shown_xorbs xorbs.now.entries) }
     requires rows { total_rows xorb_records (xorbs_of xorbs.now.entries) ≤ MAX_ROWS }

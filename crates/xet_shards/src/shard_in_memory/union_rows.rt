@@ -26,8 +26,8 @@ use xet_base::merklehash::MerkleHash;
 use xet_records::file_structs::MDBFileInfo;
 use xet_records::xorb_structs::MDBXorbInfo;
 
-/// The rows of the union of these files and those of `other`, which has `other_rows`; `None` if a
-/// file can't be joined with the one in `other` that has its hash.
+/// The rows of the union of these files and those of `other`; `None` if a file can't be joined with
+/// that in `other` under its hash.
 pub fn united_file_rows(
     files: &BTreeMap<MerkleHash, MDBFileInfo>,
     other: &FileStore,
@@ -56,7 +56,6 @@ pub fn united_file_rows(
     Some(rows)
 }
 
-// Whether a file can be joined with its twin, if it has one.
 fn can_join_twin(file_info: &MDBFileInfo, twin: Option<&MDBFileInfo>) -> bool
     requires own { IsWellFormed file_info.now }
     requires others { IfSome twin (λ t. IsWellFormed t.now) }
@@ -68,7 +67,7 @@ fn can_join_twin(file_info: &MDBFileInfo, twin: Option<&MDBFileInfo>) -> bool
     }
 }
 
-// The rows of a file joined with its twin, less those of the twin.
+// The rows of both joined, less those of the twin.
 #[tactic(auto, using(xet_records::proofs::Record::rows_whole, xet_records::proofs::Merging::merged_more, xet_records::proofs::Merging::merged_within))]
 fn rows_added(file_info: &MDBFileInfo, twin: Option<&MDBFileInfo>) -> u64
     requires own { IsWellFormed file_info.now }
@@ -85,7 +84,7 @@ fn rows_added(file_info: &MDBFileInfo, twin: Option<&MDBFileInfo>) -> u64
     }
 }
 
-/// The rows of the union of these xorbs and those of `other`, which has `other_rows`.
+/// The rows of the union of these xorbs and those of `other`.
 pub fn united_xorb_rows(
     xorbs: &BTreeMap<MerkleHash, Rc<MDBXorbInfo>>,
     other: &XorbStore,

@@ -1,4 +1,4 @@
-//! The xorbs of a shard in memory and the lookup of their chunks. Their rows are not limited here.
+//! The xorbs of a shard in memory. Their rows are not limited here.
 
 ghost use Rattle.std.specs.Prelude.{◌≡◌, ◌≤◌, ◌↔◌, IsTrue, None, Some, is_some, unwrap_or, option_map, All, length, OnOk, OnErr, IfOk, IfErr};
 ghost use Rattle.std.specs.FinMap as finite;
@@ -22,8 +22,7 @@ use xet_base::merklehash::MerkleHash;
 use xet_records::rows::{ROW_LIMIT, Row, all_widths};
 use xet_records::xorb_structs::{MAX_XORB_BYTES, MDBXorbInfo};
 
-/// Well-formed xorbs, each under its hash, and a location of each of their chunk hashes. Contracts
-/// see both as finite maps.
+/// Well-formed xorbs, each under its hash, and a location of each of their chunk hashes.
 #[derive(Drop)]
 pub struct XorbStore {
     content: BTreeMap<MerkleHash, Rc<MDBXorbInfo>>,
@@ -92,8 +91,7 @@ impl XorbStore {
         }
     }
 
-    /// Inserts a xorb whose hash is new. `OutOfMemory` if an allocation fails; then nothing
-    /// changes.
+    /// Inserts a xorb whose hash is new. On `OutOfMemory` nothing changes.
     pub fn append(&mut self, alloc: Global, xorb: Rc<MDBXorbInfo>) -> Result<()>
         requires absent { finite.get self.old.xorbs (xorb_hash_of xorb.value) ≡ None }
         requires well_formed { IsXorb xorb.value }
@@ -104,14 +102,13 @@ impl XorbStore {
         let owner = xorb.clone()?;
         let owners = owners_of(alloc, &xorb)?;
         self.lookup.reserve(owners.len())?;
-        // The last call that can fail, and the first that changes what the store holds.
+        // The last call that can fail, and the first that changes the store.
         self.content.insert(xorb.metadata.xorb_hash, owner)?;
         enter_chunks(&mut self.lookup, xorb.as_ref(), owners);
         Ok(())
     }
 
-    /// Inserts or replaces a xorb; replacing rebuilds the chunk lookup. `OutOfMemory` if an
-    /// allocation fails; then nothing changes.
+    /// Inserts or replaces a xorb; replacing rebuilds the lookup. On `OutOfMemory` nothing changes.
     pub fn put(&mut self, alloc: Global, xorb: Rc<MDBXorbInfo>) -> Result<()>
         requires { IsXorb xorb.value }
         ensures ok { OnOk result (self.new.xorbs ≡ put_xorb self.old.xorbs xorb.value) }
@@ -121,7 +118,7 @@ impl XorbStore {
         if !self.contains(&xorb.metadata.xorb_hash) {
             return self.append(alloc, xorb);
         }
-        // Other xorbs may have chunks of the replaced one too, so all chunks are entered again.
+        // Other xorbs may have chunks of the replaced one.
         let mut rebuilt = XorbStore::new(alloc);
         rebuilt.append(alloc, xorb)?;
         rebuilt.append_missing(alloc, self.content(), &XorbStore::new(alloc))?;
@@ -129,8 +126,8 @@ impl XorbStore {
         Ok(())
     }
 
-    /// Inserts those of these xorbs whose hashes are neither in this store nor in `except`.
-    /// `OutOfMemory` if an allocation fails; then some of them are inserted.
+    /// Inserts the xorbs whose hashes are neither in this store nor in `except`. On `OutOfMemory`
+    /// only some are inserted.
     fn append_missing(
         &mut self,
         alloc: Global,
@@ -151,7 +148,7 @@ impl XorbStore {
         Ok(())
     }
 
-    // The number of chunks of the xorbs whose hashes are neither in this store nor in `except`.
+    // The chunks of the xorbs that [`XorbStore::append_missing`] inserts.
     fn missing_chunks(
         &self,
         others: &BTreeMap<MerkleHash, Rc<MDBXorbInfo>>,
@@ -166,7 +163,6 @@ impl XorbStore {
         chunks
     }
 
-    // Reserves room in the lookup for so many chunks more. `OutOfMemory` if an allocation fails.
     fn reserve(&mut self, chunks: usize) -> Result<()>
         ensures same { self.new ≡ self.old }
         ensures causes { IfErr result (λ e. e ≡ CoreError.OutOfMemory) }
@@ -175,7 +171,7 @@ impl XorbStore {
         Ok(())
     }
 
-    /// A store with the same xorbs and the same lookup. `OutOfMemory` if an allocation fails.
+    /// A copy, or `OutOfMemory`.
     pub fn try_clone(&self) -> Result<XorbStore>
         ensures ok { IfOk result (λ t. t ≡ self.now) }
         ensures causes { IfErr result (λ e. e ≡ CoreError.OutOfMemory) }
@@ -186,8 +182,7 @@ impl XorbStore {
         })
     }
 
-    /// The xorbs of both stores. Of two xorbs with the same hash, that of `other`. `OutOfMemory` if
-    /// an allocation fails.
+    /// The xorbs of both; of two with one hash, that of `other`. Or `OutOfMemory`.
     pub fn union(&self, alloc: Global, other: &XorbStore) -> Result<XorbStore>
         ensures ok { IfOk result (λ t. (q : DataHash) → finite.get t.xorbs q
             ≡ option_or (finite.get other.now.xorbs q) (finite.get self.now.xorbs q)) }
@@ -198,8 +193,7 @@ impl XorbStore {
         Ok(joined)
     }
 
-    /// The xorbs of `other` whose hashes this store does not have. `OutOfMemory` if an allocation
-    /// fails.
+    /// The xorbs of `other` whose hashes this store does not have, or `OutOfMemory`.
     pub fn difference(&self, alloc: Global, other: &XorbStore) -> Result<XorbStore>
         ensures ok { IfOk result (λ t. (q : DataHash) → finite.get t.xorbs q
             ≡ unless_in self.now.xorbs (finite.get other.now.xorbs) q) }
@@ -212,7 +206,7 @@ impl XorbStore {
     }
 }
 
-// A reference to the xorb for each of its chunks.
+// A reference for each chunk.
 fn owners_of(alloc: Global, xorb: &Rc<MDBXorbInfo>) -> Result<Vec<Rc<MDBXorbInfo>>>
     ensures count { IfOk result (λ owners. length owners.items ≡ length xorb.now.value.chunks) }
     ensures owners { IfOk result
@@ -226,7 +220,6 @@ fn owners_of(alloc: Global, xorb: &Rc<MDBXorbInfo>) -> Result<Vec<Rc<MDBXorbInfo
     Ok(owners)
 }
 
-// Enters the chunks of a xorb into the lookup, which has capacity for them.
 fn enter_chunks(
     lookup: &mut HashMap<MerkleHash, (Rc<MDBXorbInfo>, u64)>,
     xorb: &MDBXorbInfo,
@@ -240,7 +233,7 @@ fn enter_chunks(
 {
     let mut index = 0;
     for chunk in xorb.chunks.as_slice() {
-        // There is an owner for each chunk and room for each entry, so neither call fails.
+        // There is an owner for each chunk and room for each entry.
         let owner = owners.pop().unwrap();
         let inserted: std::result::Result<_, _> = lookup.insert(chunk.chunk_hash, (owner, index));
         inserted.unwrap();
@@ -260,7 +253,6 @@ pub fn is_well_formed(xorb: &MDBXorbInfo) -> bool
         && sum_of_chunks(xorb) <= MAX_XORB_BYTES
 }
 
-// The bytes of a xorb's chunks.
 fn sum_of_chunks(xorb: &MDBXorbInfo) -> u64
     requires { HasItsChunks xorb.now }
     ensures { result ≡ size_of_chunks xorb.now }
@@ -273,7 +265,7 @@ fn sum_of_chunks(xorb: &MDBXorbInfo) -> u64
     bytes
 }
 
-// Does nothing. Its contract says that the numbers of a record in memory fit their widths.
+// Does nothing: the numbers of a record fit their widths.
 fn record_widths(xorb: &MDBXorbInfo)
     ensures { FitsXorb xorb.now }
 {

@@ -30,9 +30,8 @@ use xet_records::view_reader::read_view;
 use xet_records::xorb_structs::{MDBXorbInfo, MDBXorbInfoView};
 
 impl MDBMinimalShard {
-    /// The hashes of the chunks that the global index keeps, each once and in ascending order:
-    /// those of chunks that are marked, whose hash is eligible, or at which a file starts.
-    /// `OutOfMemory` is the only error.
+    /// The hashes of the chunks that are marked, whose hash is eligible, or at which a file starts,
+    /// each once and ascending; or `OutOfMemory`.
     pub fn global_dedup_eligible_chunks(&self, alloc: Global) -> Result<Vec<MerkleHash>>
         ensures ok { IfOk result
             (λ hashes. hashes.items ≡ eligible_hashes self.now.files self.now.xorbs) }
@@ -47,8 +46,8 @@ impl MDBMinimalShard {
         list_of(alloc, hashes)
     }
 
-    /// Reads a shard's header and both sections, and returns what `global_dedup_eligible_chunks`
-    /// does of them, but with one record at a time. The errors are those of `from_reader`.
+    /// As [`MDBMinimalShard::global_dedup_eligible_chunks`], of a header and both sections, read
+    /// one record at a time. The errors are those of [`MDBMinimalShard::from_reader`].
     pub fn eligible_chunks_from_reader<R: Read>(
         alloc: Global,
         reader: &mut R,
@@ -64,14 +63,8 @@ impl MDBMinimalShard {
 }
 
 impl MDBShardInfo {
-    /// Reads a shard's header and both sections from the source's position on, without a seek, and
-    /// returns the hashes of the chunks that the global index keeps, as
-    /// `MDBMinimalShard::global_dedup_eligible_chunks` does.
-    ///
-    /// `ShardVersion` if the header's tag or version is unsupported, `UnexpectedEof` if the source
-    /// ends before a bookend, `InvalidShard` if the version does not have the header of a file or
-    /// the rows of a section pass 4294967295, `OutOfMemory` if an allocation fails. Any other error
-    /// is the source's.
+    /// As [`MDBMinimalShard::eligible_chunks_from_reader`], from the source's position on, without
+    /// a seek, with the source's error for the reader's.
     pub fn filter_cas_chunks_for_global_dedup<S: ShardSource>(
         alloc: Global,
         source: &mut S,
@@ -87,7 +80,6 @@ impl MDBShardInfo {
     }
 }
 
-// Reads both sections, and returns the hashes of the eligible chunks.
 fn read_eligible<M, I: ByteInput<M>>(
     alloc: Global,
     input: &mut I,
@@ -103,7 +95,7 @@ fn read_eligible<M, I: ByteInput<M>>(
     read_eligible_after::<M, I>(alloc, input, starts.as_slice())
 }
 
-// Reads the xorb section, and returns the hashes of its eligible chunks. Files start at these chunks.
+// Files start at `starts`.
 fn read_eligible_after<M, I: ByteInput<M>>(
     alloc: Global,
     input: &mut I,
@@ -132,8 +124,7 @@ fn read_eligible_after<M, I: ByteInput<M>>(
     list_of(alloc, hashes)
 }
 
-// The hashes of a set in ascending order. `collect` would go on if its first allocation, of room
-// for all of them, fails.
+// `collect` would go on if its first allocation, of room for all hashes, fails.
 fn list_of(alloc: Global, hashes: BTreeSet<MerkleHash>) -> Result<Vec<MerkleHash>>
     ensures ok { IfOk result (λ listed. listed.items ≡ hashes.keys) }
     ensures causes { IfErr result (λ e. e ≡ CoreError.OutOfMemory) }
@@ -145,7 +136,6 @@ fn list_of(alloc: Global, hashes: BTreeSet<MerkleHash>) -> Result<Vec<MerkleHash
     Ok(listed)
 }
 
-// Inserts the hashes of the eligible chunks of a xorb.
 fn insert_eligible(
     hashes: &mut BTreeSet<MerkleHash>,
     xorb: &MDBXorbInfoView,
@@ -168,7 +158,6 @@ fn insert_eligible(
     Ok(())
 }
 
-// Inserts a hash, or does not.
 fn insert_if(wanted: bool, hashes: &mut BTreeSet<MerkleHash>, hash: MerkleHash) -> Result<()>
     ensures ok { OnOk result
         (hashes.new.keys

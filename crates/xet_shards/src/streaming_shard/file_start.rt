@@ -24,7 +24,7 @@ use xet_records::rows::{ROW_LIMIT, write_row};
 use xet_records::view_reader::read_view;
 use xet_records::xorb_structs::MDBXorbInfoView;
 
-/// A chunk of a xorb, by its index there. A file starts at the first chunk of its first segment.
+/// A chunk of a xorb. A file starts at the first chunk of its first segment.
 #[derive(Clone, Copy, Debug, PartialEq, Eq, PartialOrd, Ord)]
 pub struct FileStart {
     pub xorb_hash: MerkleHash,
@@ -32,7 +32,6 @@ pub struct FileStart {
 }
 
 impl FileStart {
-    /// The chunk at an index of a xorb.
     pub(super) fn of_chunk(xorb: &MDBXorbInfoView, index: usize) -> FileStart
         requires { index < 2 ^ 32 }
         ensures { result ≡ chunk_of xorb.now index }
@@ -44,7 +43,7 @@ impl FileStart {
     }
 }
 
-/// Where these files start, in ascending order. A file without segments starts nowhere.
+/// Where these files start, ascending. A file without segments starts nowhere.
 pub(super) fn starts_of(alloc: Global, files: &[MDBFileInfoView]) -> Result<Vec<FileStart>>
     ensures ok { IfOk result (λ starts. has_start starts.items ≡ is_start files.now) }
     ensures sorted { IfOk result (λ starts. IsSorted start_cmp starts.items) }
@@ -58,7 +57,7 @@ pub(super) fn starts_of(alloc: Global, files: &[MDBFileInfoView]) -> Result<Vec<
     Ok(starts)
 }
 
-/// Reads the file section, and returns where its files start, in ascending order.
+/// As [`starts_of`], of a file section that is read.
 pub(super) fn read_starts<M, I: ByteInput<M>>(
     alloc: Global,
     input: &mut I,
@@ -86,7 +85,6 @@ pub(super) fn read_starts<M, I: ByteInput<M>>(
     Ok(starts)
 }
 
-// Adds where a file starts, if it has a segment.
 fn push_start(starts: &mut Vec<FileStart>, file: &MDBFileInfoView) -> Result<()>
     ensures ok { OnOk result (starts.new.items ≡ starts.old.items ++ start_of_file file.now) }
     ensures causes { IfErr result (λ e. e ≡ CoreError.OutOfMemory) }
@@ -102,7 +100,6 @@ fn push_start(starts: &mut Vec<FileStart>, file: &MDBFileInfoView) -> Result<()>
     Ok(())
 }
 
-/// Whether a chunk is one of these starts.
 pub(super) fn is_start(starts: &[FileStart], chunk: &FileStart) -> bool
     requires { IsSorted start_cmp starts.now }
     ensures { result ≡ has_start starts.now chunk.now }
@@ -110,7 +107,7 @@ pub(super) fn is_start(starts: &[FileStart], chunk: &FileStart) -> bool
     starts.binary_search(chunk).is_ok()
 }
 
-// The starts from this one on. They may repeat.
+// They may repeat.
 fn starts_from<'a>(starts: &'a [FileStart], first: FileStart) -> &'a [FileStart]
     requires { IsSorted start_cmp starts.now }
     ensures { AreStartsFrom first starts.now result.now }
@@ -123,8 +120,8 @@ fn starts_from<'a>(starts: &'a [FileStart], first: FileStart) -> &'a [FileStart]
     &starts[place..]
 }
 
-/// Writes a xorb with a mark on each chunk that is a start, and its other marks as they are. The
-/// rows between starts are written as they are stored. The error is the writer's.
+/// Writes a xorb with a mark on each start, and all else as it is stored. The error is the
+/// writer's.
 pub(super) fn write_marked<W: Write>(
     writer: &mut W,
     xorb: &MDBXorbInfoView,

@@ -1,4 +1,4 @@
-//! Reading the sections of a minimal shard from any input, reader or source.
+//! Reading the sections of a minimal shard from any input.
 
 ghost use Rattle.std.specs.Prelude.{◌≡◌, List, [], ◌∷◌, ◌++◌, MatchResult, OnOk, IfErr, if◌then◌else◌};
 ghost use Rattle.xet_records.specs.RecordKind.{in_version};
@@ -16,11 +16,10 @@ use xet_records::rows::ROW_LIMIT;
 use xet_records::view_reader::{RecordView, read_view};
 use xet_records::xorb_structs::{MDBXorbInfo, MDBXorbInfoView};
 
-// The views of a shard share blocks of this many bytes, or more where a record is larger.
+// Views share blocks of this many bytes, or more where a record is larger.
 const BLOCK_SIZE: usize = 16 * 1024;
 
-/// Reads the file section and, if it is wanted, the xorb section after it. Files are kept if they
-/// are wanted.
+/// Reads the file section, kept if it is wanted, and the xorb section if it is wanted.
 pub(super) fn read_sections<M, I: ByteInput<M>>(
     alloc: Global,
     input: &mut I,
@@ -43,7 +42,7 @@ pub(super) fn read_sections<M, I: ByteInput<M>>(
     Ok(MDBMinimalShard::of_views(files, xorbs))
 }
 
-// Reads views of the records of a section up to its bookend, and keeps them if they are wanted.
+// Reads a section up to its bookend.
 fn read_views<R: SectionRecord, V: RecordView<R> + Drop, M, I: ByteInput<M>>(
     alloc: Global,
     input: &mut I,
@@ -58,7 +57,7 @@ fn read_views<R: SectionRecord, V: RecordView<R> + Drop, M, I: ByteInput<M>>(
 {
     R::laws();
     let mut views = Vec::new(alloc);
-    // Views that are dropped need no room, since the next one is read over them.
+    // The next view is read over one that is dropped.
     let mut buffer = BytesMut::with_capacity(alloc, if is_kept { BLOCK_SIZE } else { 0 })?;
     let mut rows_left = ROW_LIMIT;
     while let Some(view) = read_view::<R, V, M, I>(
@@ -73,7 +72,6 @@ fn read_views<R: SectionRecord, V: RecordView<R> + Drop, M, I: ByteInput<M>>(
     Ok(views)
 }
 
-// Pushes a view, or drops it.
 fn push_if<V: Drop>(wanted: bool, views: &mut Vec<V>, view: V) -> Result<()>
     ensures ok { OnOk result
         (views.new.items ≡ (if wanted then views.old.items ++ view ∷ [] else views.old.items)) }

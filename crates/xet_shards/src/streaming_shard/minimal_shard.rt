@@ -1,4 +1,4 @@
-//! A shard without its tables, kept as views of its records.
+//! A shard without tables, as views of its records.
 
 ghost use Rattle.std.proofs.Common.{rules};
 ghost use Rattle.std.specs.Prelude.{◌≡◌, ℕ, ◌*◌, ◌≤◌, false, length, nat_eq, slice_get, sum_by, MatchResult, IfOk, IfErr};
@@ -26,8 +26,7 @@ use xet_base::input::OfReader;
 use xet_records::file_structs::{KeptParts, MDBFileInfoView};
 use xet_records::xorb_structs::MDBXorbInfoView;
 
-/// The records of a shard's sections, as views. Contracts see both lists of records, as they are
-/// stored.
+/// The records of a shard as views. Contracts see both lists of records, as they are stored.
 #[derive(Debug, Drop)]
 pub struct MDBMinimalShard {
     files: Vec<MDBFileInfoView>,
@@ -48,13 +47,12 @@ impl Model for MDBMinimalShard {
 }
 
 impl MDBMinimalShard {
-    /// Reads a shard's header, then its file section, whose records are kept if `include_files`,
-    /// and then, if `include_xorb`, its xorb section. What comes after is not read.
+    /// Reads a shard's header, its file section, of which records are kept if `include_files`, and
+    /// its xorb section if `include_xorb`, and nothing after them.
     ///
-    /// `ShardVersion` if the header's tag or version is unsupported, `UnexpectedEof` if the reader
-    /// ends before a bookend, `InvalidShard` if the version does not have the header of a file or
-    /// the rows of a section pass 4294967295, `OutOfMemory` if an allocation fails. Any other error
-    /// is the reader's.
+    /// `ShardVersion` if the header's tag or version is unsupported; `UnexpectedEof` if the reader
+    /// ends before a bookend; `InvalidShard` if the version does not have the header of a file or
+    /// the rows of a section pass 4294967295; `OutOfMemory`; or the reader's error.
     pub fn from_reader<R: Read>(
         alloc: Global,
         reader: &mut R,
@@ -110,7 +108,7 @@ impl MDBMinimalShard {
         self.files.len()
     }
 
-    /// The file at an index, or `None` if there is none.
+    /// The file at an index.
     pub fn file(&self, index: usize) -> Option<&MDBFileInfoView>
         ensures { option_copied result ≡ slice_get self.now.files index }
     {
@@ -124,16 +122,16 @@ impl MDBMinimalShard {
         self.xorbs.len()
     }
 
-    /// The xorb at an index, or `None` if there is none.
+    /// The xorb at an index.
     pub fn xorb(&self, index: usize) -> Option<&MDBXorbInfoView>
         ensures { option_copied result ≡ slice_get self.now.xorbs index }
     {
         self.xorbs.get(index)
     }
 
-    /// The size in bytes that `serialize` writes, but 0 if verification rows are wanted and there
-    /// is no file, or the first one has none. Of a shard in which only a later file has none, it is
-    /// the size of the records, although `serialize` refuses the shard.
+    /// The bytes that `serialize` writes, but 0 if verification rows are wanted and there is no
+    /// file or the first has none. If only a later file has none, the size of the records, although
+    /// `serialize` fails.
     pub fn serialized_size(&self, with_verification: bool) -> u64
         ensures { result ≡ serialized_size with_verification self.now }
     {
@@ -143,8 +141,7 @@ impl MDBMinimalShard {
         })
     }
 
-    /// The size in bytes that `serialize_without_aux` writes, with the exceptions that
-    /// `serialized_size` has.
+    /// As [`MDBMinimalShard::serialized_size`], of `serialize_without_aux`.
     pub fn serialized_size_without_aux(&self, with_verification: bool) -> u64
         ensures { result
             ≡ size_of_kept (record { verification = with_verification; aux_ext = false })
@@ -167,7 +164,7 @@ impl MDBMinimalShard {
         MDBShardInfo::non_content_byte_size() + records
     }
 
-    /// A copy of the shard, or `OutOfMemory`.
+    /// A copy, or `OutOfMemory`.
     pub fn try_clone(&self, alloc: Global) -> Result<Self>
         ensures ok { IfOk result (λ copy. copy ≡ self.now) }
         ensures causes { IfErr result (λ e. e ≡ CoreError.OutOfMemory) }
@@ -178,7 +175,7 @@ impl MDBMinimalShard {
     }
 }
 
-// Two shards are equal if their records are, bit by bit and in order.
+// Records are equal bit by bit and in order.
 impl PartialEq for MDBMinimalShard {
     ghost eq = { eq_of_both
         (on (λ m. m.files) (pointwise (on file_record_bytes (pointwise nat_eq))))
@@ -191,7 +188,7 @@ impl PartialEq for MDBMinimalShard {
     }
 }
 
-// A view of a record that a shard keeps.
+// A view that a shard keeps.
 trait WritableView {
     // the rows of these parts of its record
     ghost rows: { KeptParts → Self → ℕ };
@@ -239,7 +236,7 @@ fn copies<V: WritableView + Drop>(alloc: Global, views: &[V]) -> Result<Vec<V>>
     Ok(copies)
 }
 
-// The bytes of the records that views show, with the parts that are kept.
+// In bytes.
 fn sum_of_views<V: WritableView>(views: &[V], kept: KeptParts) -> u64
     requires { sum_by (V.rows kept) views.now ≤ MAX_ROWS }
     ensures { result ≡ 48 * sum_by (V.rows kept) views.now }

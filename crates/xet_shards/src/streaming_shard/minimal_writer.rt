@@ -1,4 +1,4 @@
-//! Writing a minimal shard: all of it, or some of its xorbs.
+//! Writing a minimal shard, or some of its xorbs.
 
 ghost use Rattle.std.specs.Prelude.{◌≡◌, ◌+◌, ◌*◌, ◌≤◌, ◌++◌, false, List, [], map, flat_map, None, IsTrue, IsErrAnd, OnOk, IfOk, IfErr};
 ghost use Rattle.std.specs.Fn.{FnReturnsAt};
@@ -32,12 +32,12 @@ use xet_records::rows::ROW_SIZE;
 use xet_records::xorb_structs::MDBXorbInfoView;
 
 impl MDBMinimalShard {
-    /// Writes the shard without tables, with its creation at a timestamp in seconds and expiry 0,
+    /// Writes the shard without tables, created at `now`, a timestamp in seconds, with expiry 0,
     /// and returns the number of bytes. Each chunk at which a file starts is marked. Verification
     /// rows are left out if they are not wanted.
     ///
-    /// `Io` of kind `Other` if they are wanted and a file has none, and then nothing is written.
-    /// Any other error is the writer's, or `OutOfMemory` if an allocation fails.
+    /// `Io` of kind `Other` if they are wanted and a file has none, and then nothing is written;
+    /// else the writer's error or `OutOfMemory`.
     pub fn serialize<W: Write>(
         &self,
         alloc: Global,
@@ -59,9 +59,9 @@ impl MDBMinimalShard {
         self.serialize_kept(alloc, writer, now, kept)
     }
 
-    /// The same without auxiliary rows. A file that has one is written under a header with bit 29
-    /// cleared and all else as it is; where its verification rows are left out too, with the flag
-    /// of a metadata row alone.
+    /// As [`MDBMinimalShard::serialize`], without auxiliary rows. The header of a file that has one
+    /// has bit 29 cleared, or where verification rows are left out too, the flag of a metadata row
+    /// alone.
     pub fn serialize_without_aux<W: Write>(
         &self,
         alloc: Global,
@@ -83,7 +83,6 @@ impl MDBMinimalShard {
         self.serialize_kept(alloc, writer, now, kept)
     }
 
-    // Writes the shard with these parts of its files.
     fn serialize_kept<W: Write>(
         &self,
         alloc: Global,
@@ -108,10 +107,10 @@ impl MDBMinimalShard {
         self.write(alloc, writer, files, kept, &options, all)
     }
 
-    /// Writes the xorbs that `filter`, called once with each in order, accepts, and no files, with
-    /// creation at a timestamp in seconds and expiry 0, and returns the number of bytes. Each chunk
-    /// at which a file of this shard starts is marked. The error is the writer's, or `OutOfMemory`
-    /// if an allocation fails.
+    /// Writes the xorbs that `filter`, called once with each in order, accepts, and no files,
+    /// created at `now`, a timestamp in seconds, with expiry 0, and returns the number of bytes.
+    /// Each chunk at which a file of this shard starts is marked. The error is the writer's or
+    /// `OutOfMemory`.
     pub fn serialize_xorb_subset_only<W: Write, F: Fn(&MDBXorbInfoView) -> bool>(
         &self,
         alloc: Global,
@@ -128,7 +127,8 @@ impl MDBMinimalShard {
         self.serialize_xorb_subset_with_expiry(alloc, writer, now, None, filter)
     }
 
-    /// The same with an expiry, a timestamp in seconds; `None` is written as 0.
+    /// As [`MDBMinimalShard::serialize_xorb_subset_only`], with an expiry in seconds; `None` is
+    /// written as 0.
     pub fn serialize_xorb_subset_with_expiry<W: Write, F: Fn(&MDBXorbInfoView) -> bool>(
         &self,
         alloc: Global,
@@ -151,8 +151,7 @@ impl MDBMinimalShard {
         self.write(alloc, writer, &[], kept, &options, filter)
     }
 
-    // Writes these parts of files, and the xorbs that a filter accepts, with marks at the starts of
-    // all files.
+    // Writes these parts of files and the accepted xorbs, with marks at the starts of all files.
     fn write<W: Write, F: Fn(&MDBXorbInfoView) -> bool>(
         &self,
         alloc: Global,
@@ -180,7 +179,6 @@ impl MDBMinimalShard {
     }
 }
 
-// Whether each file has verification rows.
 fn all_have_verification(files: &[MDBFileInfoView]) -> bool
     ensures { result ≡ list_all (λ r. has_verification r.metadata.file_flags) files.now }
 {
@@ -192,7 +190,6 @@ fn all_have_verification(files: &[MDBFileInfoView]) -> bool
     true
 }
 
-// Writes the file section, with these parts of each file.
 #[tactic(auto, unfolding(crate::specs::Write::Section::section_bytes))]
 fn write_files<W: Write>(
     alloc: Global,
@@ -216,7 +213,6 @@ fn write_files<W: Write>(
     Ok(written)
 }
 
-// Writes the section of the xorbs that a filter accepts, with a mark on each start.
 fn write_xorbs<W: Write, F: Fn(&MDBXorbInfoView) -> bool>(
     alloc: Global,
     writer: &mut W,
@@ -240,8 +236,7 @@ fn write_xorbs<W: Write, F: Fn(&MDBXorbInfoView) -> bool>(
     Ok(written)
 }
 
-// Adds and writes a xorb with a mark on each chunk that is a start, if it is wanted. Rows of a chunk
-// table are not collected. The error is the writer's, or `OutOfMemory` if an allocation fails.
+// Rows of a chunk table are not collected.
 fn add_if<W: Write>(
     wanted: bool,
     writer: &mut W,
@@ -267,7 +262,7 @@ fn add_if<W: Write>(
     Ok(())
 }
 
-// The bytes of a shard without tables that has these files and xorbs.
+// The bytes of a shard without tables.
 fn size_of(files: &WrittenFiles, xorbs: &WrittenXorbs) -> usize
     ensures { result ≡ 344 + 48 * files.now.table.rows + 48 * xorbs.now.table.rows }
 {
