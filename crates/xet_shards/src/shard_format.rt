@@ -11,7 +11,7 @@ pub use ends::header::MDBShardFileHeader;
 pub use ends::info::{MDBShardInfo, read_header};
 pub use xet_records::rows::{CHUNK_ROW_SIZE, START_ROW_SIZE};
 
-/// The size of a shard's header, in bytes.
+/// The size of a header, in bytes.
 pub const HEADER_SIZE: u64 = 48;
 
 /// The size of a header's tag, in bytes.
@@ -20,5 +20,5 @@ pub const TAG_SIZE: usize = 32;
 /// The size of a shard's footer, in bytes.
 pub const FOOTER_SIZE: u64 = 200;
 
-/// The most rows of a table that a lookup by the first word of a hash gives.
+/// The most rows that a lookup by the first word of a hash gives.
 pub const MOST_FOUND: usize = 8;

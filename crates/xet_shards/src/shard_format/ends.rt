@@ -1,4 +1,4 @@
-//! Header and footer, what they say, and the options of a layout.
+//! Header, footer and layout options.
 
 pub(super) mod footer;
 pub(super) mod footer_facts;

@@ -1,4 +1,4 @@
-//! Keyed exports: a shard is copied record by record, one at a time.
+//! Keyed exports, copied record by record.
 
 pub(crate) mod keyed_chunks;
 pub(super) mod keyed_export;

@@ -20,8 +20,8 @@ const MDB_SHARD_FOOTER_VERSION: u64 = 1;
 /// The size of a footer after its version, in bytes.
 pub(super) const AFTER_VERSION: usize = FOOTER_SIZE as usize - 8;
 
-/// The footer of a shard: the offsets of its parts, the rows of its tables and the sizes of its
-/// contents. Offsets are in bytes from the start of the shard, timestamps in seconds.
+/// The footer of a shard. Offsets are in bytes from the shard's start, sizes in bytes, timestamps
+/// in seconds.
 #[derive(Clone, Copy, Debug, PartialEq, Eq)]
 pub struct MDBShardFileFooter {
     pub version: u64,
@@ -33,11 +33,10 @@ pub struct MDBShardFileFooter {
     pub xorb_lookup_num_entry: u64,
     pub chunk_lookup_offset: u64,
     pub chunk_lookup_num_entry: u64,
-    /// The key of the chunk hashes; if all zero, they are not keyed.
+    /// All zero if the chunk hashes are not keyed.
     pub chunk_hash_hmac_key: HMACKey,
     pub shard_creation_timestamp: u64,
-    /// The timestamp, in seconds, after which the shard is no longer valid; `u64::MAX` for no
-    /// expiry, 0 in a minimal shard without one.
+    /// The shard is not valid after it; `u64::MAX` for no expiry, 0 in a minimal shard without one.
     pub shard_key_expiry: u64,
     pub _buffer: [u64; 6],
     pub stored_bytes_on_disk: u64,
@@ -105,7 +104,7 @@ impl MDBShardFileFooter {
         bytes
     }
 
-    /// Writes the footer and returns 200, the number of bytes. The error is the writer's.
+    /// Writes the footer and returns its size, 200. The error is the writer's.
     pub fn serialize<W: Write>(&self, writer: &mut W) -> Result<usize>
         ensures bytes { OnOk result
             (Appends (W.contents writer.old) (W.contents writer.new)
@@ -117,10 +116,8 @@ impl MDBShardFileFooter {
         Ok(FOOTER_SIZE as usize)
     }
 
-    /// Reads the footer.
-    ///
-    /// `ShardVersion` if the version is not 1, which is checked after 8 bytes; `UnexpectedEof` if
-    /// the bytes end before that.
+    /// Reads the footer. `ShardVersion` if the version, checked after 8 bytes, is not 1; else
+    /// `UnexpectedEof` if bytes are missing; or the reader's error.
     pub fn deserialize<R: Read>(alloc: Global, reader: &mut R) -> Result<Self>
         ensures bytes { IfOk result
             (λ f. Consumes (R.remaining reader.old) (R.remaining reader.new)
@@ -143,7 +140,7 @@ impl MDBShardFileFooter {
         Ok(MDBShardFileFooter::after_version(&rest))
     }
 
-    // The footer whose version has been read, from the bytes after it.
+    // The footer with these bytes after its version, 1.
     #[tactic(auto, unfolding(crate::specs::Write::Layout::shard_footer_bytes))]
     pub(in crate::shard_format) fn after_version(rest: &[u8; AFTER_VERSION]) -> Self
         ensures version { result.version ≡ 1 }
@@ -182,7 +179,7 @@ impl MDBShardFileFooter {
         footer
     }
 
-    // Does nothing. Its contract says that the numbers of a footer in memory fit their widths.
+    // Called for its contract alone.
     pub(in crate::shard_format) fn widths(self)
         ensures { FitsFooter self }
     {
@@ -190,8 +187,7 @@ impl MDBShardFileFooter {
     }
 }
 
-// Puts each number into a slice at an offset, as eight bytes, lowest first, and returns the offset
-// after them.
+// Returns the offset after the numbers.
 fn put_u64s(out: &mut [u8], at: usize, values: &[u64]) -> usize
     requires { at + 8 * length values.now ≤ length out.old }
     ensures end { result ≡ at + 8 * length values.now }
@@ -205,8 +201,7 @@ fn put_u64s(out: &mut [u8], at: usize, values: &[u64]) -> usize
     end
 }
 
-// The words of an array, as a tuple. Called for its contract alone, by which the array is six
-// numbers that fit `u64`.
+// Called for its contract alone.
 fn six_words(words: [u64; 6]) -> (u64, u64, u64, u64, u64, u64)
     ensures { words ≡ result.0 ∷ result.1 ∷ result.2 ∷ result.3 ∷ result.4 ∷ result.5 ∷ [] }
 {

@@ -1,5 +1,4 @@
-//! The values of a shard's footer: rows of tables, byte ranges of parts, sizes of contents, and the
-//! key.
+//! The values of a footer.
 
 ghost use Rattle.std.specs.Prelude.{◌≡◌, ◌≢◌, ◌↔◌, IsTrue, None, Some, if◌then◌else◌};
 ghost use Rattle.xet_base.specs.Hash.{hash_eq};
@@ -11,14 +10,14 @@ use xet_base::merklehash::{HMACKey, MerkleHash};
 use xet_records::rows::ROW_SIZE;
 
 impl MDBShardInfo {
-    /// The number of rows of the xorb table, 0 if the shard has none.
+    /// The number of rows of the xorb table, 0 without one.
     pub fn num_xorb_entries(&self) -> u64
         ensures { result ≡ self.now.metadata.xorb_lookup_num_entry }
     {
         self.metadata.xorb_lookup_num_entry
     }
 
-    /// The number of rows of the chunk table, 0 if the shard has none.
+    /// The number of rows of the chunk table, 0 without one.
     pub fn total_num_chunks(&self) -> u64
         ensures { result ≡ self.now.metadata.chunk_lookup_num_entry }
     {
@@ -46,8 +45,7 @@ impl MDBShardInfo {
         self.metadata.stored_bytes
     }
 
-    /// Where the file section starts, and where the next part does: offsets in bytes, as the footer
-    /// has them.
+    /// The offsets of the file section and of the next part, in bytes.
     pub fn file_info_byte_range(&self) -> (u64, u64)
         ensures { result
             ≡ (self.now.metadata.file_info_offset, self.now.metadata.xorb_info_offset) }
@@ -56,8 +54,7 @@ impl MDBShardInfo {
         (footer.file_info_offset, footer.xorb_info_offset)
     }
 
-    /// Where the xorb section starts, and where the next part does: offsets in bytes, as the footer
-    /// has them.
+    /// The offsets of the xorb section and of the next part, in bytes.
     pub fn xorb_info_byte_range(&self) -> (u64, u64)
         ensures { result
             ≡ (self.now.metadata.xorb_info_offset, self.now.metadata.file_lookup_offset) }
@@ -66,8 +63,7 @@ impl MDBShardInfo {
         (footer.xorb_info_offset, footer.file_lookup_offset)
     }
 
-    /// Where the file table starts, and where the next part does: offsets in bytes, as the footer
-    /// has them.
+    /// The offsets of the file table and of the next part, in bytes.
     pub fn file_lookup_byte_range(&self) -> (u64, u64)
         ensures { result
             ≡ (self.now.metadata.file_lookup_offset, self.now.metadata.xorb_lookup_offset) }
@@ -76,8 +72,7 @@ impl MDBShardInfo {
         (footer.file_lookup_offset, footer.xorb_lookup_offset)
     }
 
-    /// Where the xorb table starts, and where the next part does: offsets in bytes, as the footer
-    /// has them.
+    /// The offsets of the xorb table and of the next part, in bytes.
     pub fn xorb_lookup_byte_range(&self) -> (u64, u64)
         ensures { result
             ≡ (self.now.metadata.xorb_lookup_offset, self.now.metadata.chunk_lookup_offset) }
@@ -86,8 +81,7 @@ impl MDBShardInfo {
         (footer.xorb_lookup_offset, footer.chunk_lookup_offset)
     }
 
-    /// Where the chunk table starts, and where the next part does: offsets in bytes, as the footer
-    /// has them.
+    /// The offsets of the chunk table and of the next part, in bytes.
     pub fn chuck_lookup_byte_range(&self) -> (u64, u64)
         ensures { result
             ≡ (self.now.metadata.chunk_lookup_offset, self.now.metadata.footer_offset) }
@@ -96,8 +90,7 @@ impl MDBShardInfo {
         (footer.chunk_lookup_offset, footer.footer_offset)
     }
 
-    /// The size of a shard without files and xorbs, in bytes: header, footer and the bookends of
-    /// both sections.
+    /// The size of a shard without files and xorbs, in bytes.
     pub fn non_content_byte_size() -> u64
         ensures { result ≡ 344 }
     {
@@ -124,7 +117,7 @@ impl MDBShardInfo {
         }
     }
 
-    /// A chunk's hash as it is stored in the shard: keyed, if the shard has a key.
+    /// A chunk's hash as the shard stores it: under its key, if it has one.
     pub fn keyed_chunk_hash(&self, hash: &MerkleHash) -> MerkleHash
         ensures { result ≡ under_key self.now.metadata.chunk_hash_hmac_key hash.now }
     {
@@ -132,7 +125,7 @@ impl MDBShardInfo {
     }
 }
 
-// A hash under a key. The key of zeros, which is no key, leaves it as it is.
+// The key of zeros leaves the hash as it is.
 pub(in crate::shard_format) fn keyed_hash(hash: MerkleHash, key: HMACKey) -> MerkleHash
     ensures { result ≡ under_key key hash }
 {

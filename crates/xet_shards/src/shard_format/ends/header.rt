@@ -17,7 +17,7 @@ use xet_base::fields::split_u64;
 use xet_base::serialization_utils::{read_bytes, write_bytes, write_u64};
 use xet_records::record_reader::FormatVersion;
 
-/// The tag at the front of every shard: a text and a magic number.
+/// A text and a magic number.
 const MDB_SHARD_HEADER_TAG: [u8; TAG_SIZE] = [
     b'H', b'F', b'R', b'e', b'p', b'o', b'M', b'e', b't', b'a', b'D', b'a', b't', b'a', 0, 85, 105,
     103, 69, 106, 123, 129, 87, 131, 165, 189, 217, 92, 205, 209, 74, 169,
@@ -62,8 +62,8 @@ impl MDBShardFileHeader {
         FormatVersion::of_header(self.version)
     }
 
-    /// Writes the tag of every shard, then this value's version and footer size, and returns 48,
-    /// the number of bytes. The error is the writer's.
+    /// Writes the tag of every shard, this version and footer size, and returns their size, 48. The
+    /// error is the writer's.
     #[tactic(auto, unfolding(crate::specs::Write::Layout::shard_header_bytes))]
     pub fn serialize<W: Write>(&self, writer: &mut W) -> Result<usize>
         ensures bytes { OnOk result
@@ -78,10 +78,8 @@ impl MDBShardFileHeader {
         Ok(HEADER_SIZE as usize)
     }
 
-    /// Reads the header.
-    ///
-    /// `ShardVersion` if the tag differs, which is checked after 32 bytes, or the version is
-    /// neither 2 nor 3; `UnexpectedEof` if the bytes end before that.
+    /// Reads the header. `ShardVersion` if the tag, checked after 32 bytes, differs, or the version
+    /// is neither 2 nor 3; else `UnexpectedEof` if bytes are missing; or the reader's error.
     #[tactic(auto, unfolding(crate::specs::Write::Layout::shard_header_bytes))]
     pub fn deserialize<R: Read>(alloc: Global, reader: &mut R) -> Result<Self>
         ensures bytes { IfOk result
@@ -106,7 +104,7 @@ impl MDBShardFileHeader {
         MDBShardFileHeader::after_tag(alloc, &rest)
     }
 
-    // The header whose tag has been read, from the bytes after it.
+    // `ShardVersion` if the version is neither 2 nor 3.
     pub(in crate::shard_format) fn after_tag(alloc: Global, rest: &[u8; AFTER_TAG]) -> Result<Self>
         ensures ok { IfOk result
             (λ h. (h.tag ≡ header_tag) × IsVersion h.version

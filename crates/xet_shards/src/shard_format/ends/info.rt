@@ -1,4 +1,4 @@
-//! Header and footer of a shard, writing a shard, and reading its sections.
+//! Reading and writing header, footer and sections.
 
 ghost use Rattle.std.specs.Prelude.{◌≡◌, ◌⊎◌, ℕ, Option, ◌+◌, ◌*◌, ◌^◌, ◌<◌, ◌≤◌, ◌++◌, length, List, [], IsTrue, IsErrAnd, false, All, map, MatchResult, OnOk, IfOk, IfErr, IfSome};
 ghost use Rattle.std.specs.BTreeMap.{values};
@@ -39,10 +39,8 @@ use xet_records::file_structs::MDBFileInfo;
 use xet_records::record_reader::FormatVersion;
 use xet_records::xorb_structs::{MDBXorbInfo, XorbChunkSequenceHeader};
 
-/// The header and the footer of a shard.
-///
-/// Calls that read file sections take the version from the header. One that was read has version 2
-/// or 3; one that was made by hand with any other number is taken for version 3.
+/// The header and the footer of a shard. File sections are read in the header's version; one other
+/// than 2 is taken for 3.
 #[derive(Clone, Copy, Default, Debug, PartialEq, Eq)]
 pub struct MDBShardInfo {
     pub header: MDBShardFileHeader,
@@ -50,11 +48,11 @@ pub struct MDBShardInfo {
 }
 
 impl MDBShardInfo {
-    /// Reads the header at the front of the source and the footer in its last 200 bytes. Does not
+    /// Reads the header at the source's front and the footer in its last 200 bytes. Does not
     /// allocate.
     ///
     /// `ShardVersion` if the tag differs, the header's version is neither 2 nor 3 or the footer's
-    /// is not 1, `UnexpectedEof` if the source has too few bytes. Any other error is the source's.
+    /// is not 1; `UnexpectedEof` if bytes are missing; or the source's error.
     pub fn load_from_reader<S: ShardSource>(alloc: Global, source: &mut S) -> Result<Self>
         ensures read { MatchResult result (Loads (S.meaning source.old) (S.meaning source.new))
             (LoadFails (S.meaning source.old) (S.meaning source.new)) }
@@ -70,11 +68,8 @@ impl MDBShardInfo {
         read_ends(alloc, source)
     }
 
-    /// Writes a shard in version 3: header, sections, tables and footer. The expiry is a timestamp
-    /// in seconds, or none. Returns the header and the footer, as `load_from_reader` reads them
-    /// from these bytes.
-    ///
-    /// The error is the writer's, or `OutOfMemory` if an allocation fails.
+    /// Writes a shard in version 3 and returns its header and footer. The expiry is a timestamp in
+    /// seconds. The error is the writer's, or `OutOfMemory`.
     pub fn serialize_from<W: Write>(
         alloc: Global,
         writer: &mut W,
@@ -92,10 +87,8 @@ impl MDBShardInfo {
         write_shard(alloc, writer, shard, &LayoutOptions::plain(expiry))
     }
 
-    /// Writes a shard as `serialize_from` does, but in version 2, which has no auxiliary rows.
-    ///
-    /// `InvalidArguments` if a file has one, and then nothing is written. Else the error is the
-    /// writer's, or `OutOfMemory` if an allocation fails.
+    /// As [`MDBShardInfo::serialize_from`], but in version 2, which has no auxiliary rows: if a
+    /// file has one, `InvalidArguments`, and nothing is written.
     pub fn serialize_from_v2<W: Write>(
         alloc: Global,
         writer: &mut W,
@@ -126,15 +119,14 @@ impl MDBShardInfo {
         write_shard(alloc, writer, shard, &options)
     }
 
-    /// The number of rows of the file table, 0 if the shard has none.
+    /// The number of rows of the file table, 0 without one.
     pub fn num_file_entries(&self) -> u64
         ensures { result ≡ self.now.metadata.file_lookup_num_entry }
     {
         self.metadata.file_lookup_num_entry
     }
 
-    /// The size of the shard, in bytes: the footer's offset and its size. `InvalidShard` if it does
-    /// not fit `u64`.
+    /// The size of the shard, in bytes. `InvalidShard` if it exceeds `u64`.
     pub fn num_bytes(&self, alloc: Global) -> Result<u64>
         ensures { MatchResult result (λ n. n ≡ self.now.metadata.footer_offset + 200)
             (λ e. IsBareInvalidShard e × (2 ^ 64 ≤ self.now.metadata.footer_offset + 200)) }
@@ -145,11 +137,11 @@ impl MDBShardInfo {
         }
     }
 
-    /// Reads all records of the file section, in order.
+    /// Reads all files, in order.
     ///
-    /// `UnexpectedEof` if the source ends before the bookend, `InvalidShard` if the shard's version
-    /// does not have a record's header or the rows pass 4294967295, `OutOfMemory` if an allocation
-    /// fails. Any other error is the source's.
+    /// `InvalidShard` if the shard's version does not have a file's header, or past 4294967295
+    /// rows; `UnexpectedEof` if the source ends before the bookend; `OutOfMemory`; or the source's
+    /// error.
     pub fn read_all_file_info_sections<S: ShardSource>(
         &self,
         alloc: Global,
@@ -163,11 +155,8 @@ impl MDBShardInfo {
         read_section_at(alloc, source, version, self.metadata.file_info_offset)
     }
 
-    /// Reads all headers of the xorb section, in order, each with its offset in the source, and no
-    /// chunks.
-    ///
-    /// `UnexpectedEof` if the source ends before the bookend, `InvalidShard` if the rows pass
-    /// 4294967295, `OutOfMemory` if an allocation fails. Any other error is the source's.
+    /// As [`MDBShardInfo::read_all_xorb_blocks_full`], but headers alone, each with its offset in
+    /// the source.
     pub fn read_all_xorb_blocks<S: ShardSource>(
         &self,
         alloc: Global,
@@ -187,10 +176,8 @@ impl MDBShardInfo {
         read_xorb_headers(alloc, source, self.metadata.xorb_info_offset)
     }
 
-    /// Reads all records of the xorb section, in order.
-    ///
-    /// `UnexpectedEof` if the source ends before the bookend, `InvalidShard` if the rows pass
-    /// 4294967295, `OutOfMemory` if an allocation fails. Any other error is the source's.
+    /// As [`MDBShardInfo::read_all_file_info_sections`], but of xorbs, whose headers every version
+    /// has.
     pub fn read_all_xorb_blocks_full<S: ShardSource>(
         &self,
         alloc: Global,
@@ -205,7 +192,6 @@ impl MDBShardInfo {
     }
 }
 
-// Writes a shard with layout options: header, sections, tables and footer.
 fn write_shard<W: Write>(
     alloc: Global,
     writer: &mut W,
@@ -233,7 +219,7 @@ fn write_shard<W: Write>(
     )
 }
 
-/// Writes a shard of the records that two maps hold, in the order of their hashes.
+/// Writes a shard of two maps' records, in the order of their hashes.
 pub(crate) fn write_maps<V: HoldsRecord<MDBXorbInfo>, W: Write>(
     alloc: Global,
     writer: &mut W,
@@ -262,7 +248,6 @@ pub(crate) fn write_maps<V: HoldsRecord<MDBXorbInfo>, W: Write>(
     Ok(MDBShardInfo { header, metadata })
 }
 
-// Reads the header at the front and the footer at the end.
 fn read_ends<S: ShardSource>(alloc: Global, source: &mut S) -> Result<MDBShardInfo>
     ensures { MatchResult result (Loads (S.meaning source.old) (S.meaning source.new))
         (LoadFails (S.meaning source.old) (S.meaning source.new)) }
@@ -278,11 +263,7 @@ fn read_ends<S: ShardSource>(alloc: Global, source: &mut S) -> Result<MDBShardIn
     Ok(MDBShardInfo { header, metadata })
 }
 
-/// Reads a header from the source's position on.
-///
-/// `ShardVersion` if the first 32 bytes are not the tag of a shard, or the version is neither 2 nor
-/// 3. `UnexpectedEof` if the source ends before the tag or the header does. Else the error is the
-/// source's, or `OutOfMemory` if an allocation fails.
+/// As [`MDBShardFileHeader::deserialize`], but from the source's position on. Does not allocate.
 #[tactic(auto, unfolding(crate::specs::Write::Layout::shard_header_bytes))]
 pub fn read_header<S: ShardSource>(alloc: Global, source: &mut S) -> Result<MDBShardFileHeader>
     ensures read { IfOk result
@@ -301,7 +282,6 @@ pub fn read_header<S: ShardSource>(alloc: Global, source: &mut S) -> Result<MDBS
     MDBShardFileHeader::after_tag(alloc, &rest)
 }
 
-// Reads a footer from the source's position on.
 fn read_footer<S: ShardSource>(alloc: Global, source: &mut S) -> Result<MDBShardFileFooter>
     ensures read { IfOk result
         (λ f. ReadsBytes (S.meaning source.old) (S.meaning source.new) (shard_footer_bytes f)) }

@@ -1,4 +1,4 @@
-//! Layout options: which tables a shard is written with, its version, key and times.
+//! Layout options.
 
 ghost use Rattle.std.specs.Prelude.{◌≡◌};
 ghost use Rattle.xet_shards.specs.Read.SectionsBehindHeader.{options_of};
@@ -9,23 +9,22 @@ use super::info::MDBShardInfo;
 use xet_base::merklehash::HMACKey;
 use xet_records::record_reader::FormatVersion;
 
-/// The version, the lookup tables that are written, the key of the chunk hashes, and two timestamps
-/// in seconds.
+/// How a shard is laid out. Timestamps are in seconds.
 #[derive(Clone, Copy, Debug, PartialEq, Eq)]
 pub struct LayoutOptions {
     pub version: FormatVersion,
     pub file_table: bool,
     pub xorb_table: bool,
     pub chunk_table: bool,
-    /// The key of the chunk hashes; if all zero, they are not keyed.
+    /// All zero if the chunk hashes are not keyed.
     pub key: HMACKey,
     pub creation: u64,
-    /// In seconds; `u64::MAX` for no expiry, 0 in a minimal shard without one.
+    /// `u64::MAX` for no expiry, 0 in a minimal shard without one.
     pub expiry: u64,
 }
 
 impl LayoutOptions {
-    /// Version 3, all tables, no key, creation 0, and an expiry, or `u64::MAX` if there is none.
+    /// Version 3, all tables, no key, creation 0, and this expiry or `u64::MAX`.
     pub fn plain(expiry: Option<u64>) -> LayoutOptions
         ensures { result ≡ plain_options expiry }
     {
@@ -55,8 +54,7 @@ impl LayoutOptions {
         }
     }
 
-    /// The layout options of a shard with this header and footer. A table is in if the footer says
-    /// that it has a row.
+    /// The options of a shard. A table is in if it has a row by the footer.
     pub fn of_info(info: &MDBShardInfo) -> LayoutOptions
         ensures { result ≡ options_of info.now }
     {

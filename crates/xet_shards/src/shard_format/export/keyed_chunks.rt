@@ -1,4 +1,4 @@
-//! Chunk hashes under a key, in the memory of the chunks.
+//! Keying chunk hashes in place.
 
 ghost use Rattle.std.specs.Prelude.{◌≡◌, ◌<◌, ◌≤◌, ◌++◌, length, map, take, drop};
 ghost use Rattle.xet_base.specs.KeyedHash.{under_key};
@@ -31,8 +31,7 @@ fn key_chunks(chunks: &mut [XorbChunkSequenceEntry], key: HMACKey)
     }
 }
 
-// Puts the hashes of the first four chunks under a key, or that of the first if there are fewer,
-// and returns how many these are.
+// Keys the first four chunks, or the first if there are fewer, and returns how many.
 fn key_first(chunks: &mut [XorbChunkSequenceEntry], key: HMACKey) -> usize
     requires { 0 < length chunks.old }
     ensures some { 0 < result }
@@ -58,7 +57,7 @@ fn key_first(chunks: &mut [XorbChunkSequenceEntry], key: HMACKey) -> usize
     4
 }
 
-// Four hashes under a key, as `keyed_hash` puts each.
+// As `keyed_hash`, of four.
 fn keyed_four(hashes: &[MerkleHash; 4], key: HMACKey) -> [MerkleHash; 4]
     ensures { result ≡ map (under_key key) hashes.now }
 {

@@ -1,5 +1,4 @@
-//! Keyed exports: a shard is written again, record by record as it is read, with its chunk hashes
-//! under a key.
+//! Writing a shard again, as it is read, with its chunk hashes under a key.
 
 ghost use Rattle.std.specs.Prelude.{◌≡◌, ◌+◌, ◌≤◌, ◌++◌, Bool, true, false, List, [], flat_map, MatchOption, MatchResult, OnOk, IfErr};
 ghost use Rattle.std.specs.Io.KnownBytes.{Appends};
@@ -40,18 +39,16 @@ use xet_records::view_reader::read_view;
 use xet_records::xorb_structs::MDBXorbInfo;
 
 impl MDBShardInfo {
-    /// Writes the shard from the source's position on, in version 3, with each chunk hash replaced
-    /// by its keyed hash, or kept if the key is zero, and returns the number of bytes. Everything
-    /// else of a record is copied as it is stored. The creation time is `now` and the expiry is
-    /// `valid_seconds` later, both in seconds. Without files the file section and its table are
-    /// empty; the other tables are written if asked for. Header and sections are read in sequence,
-    /// the footer is not.
+    /// Writes the shard from the source's position on again, in version 3, its chunk hashes under
+    /// `key` unless that is zero, created at `now` and expiring `valid_seconds` later, both in
+    /// seconds. Without files, their section and table are empty. Does not read the footer. Returns
+    /// the number of bytes written.
     ///
-    /// `InvalidArguments` if the chunk hashes of this shard are keyed or the expiry does not fit
-    /// `u64`, and then nothing is read or written. `ShardVersion` if the source's header is
-    /// unsupported, `UnexpectedEof` if the source ends before both sections do, `InvalidShard` if
-    /// its version does not have the header of a file or the rows of a section pass 4294967295. May
-    /// fail with `OutOfMemory`. Any other error is the source's or the writer's.
+    /// `InvalidArguments`, with nothing read or written, if this shard's chunk hashes are keyed or
+    /// the expiry exceeds `u64`; `ShardVersion` if the source's header is unsupported;
+    /// `InvalidShard` if its version does not have a file's header, or past 4294967295 rows of a
+    /// section; `UnexpectedEof` if the source ends before both sections do; `OutOfMemory`; or the
+    /// error of source or writer.
     pub fn export_as_keyed_shard<S: ShardSource, W: Write>(
         &self,
         alloc: Global,
@@ -85,8 +82,8 @@ impl MDBShardInfo {
         )
     }
 
-    /// Writes what `export_as_keyed_shard` does, of a shard whose footer is not known. If its chunk
-    /// hashes are keyed, the keyed hashes are hashed again.
+    /// As [`MDBShardInfo::export_as_keyed_shard`], but of a shard with an unknown footer: keyed
+    /// hashes are hashed again.
     pub fn export_as_keyed_shard_streaming<S: ShardSource, W: Write>(
         alloc: Global,
         source: &mut S,
@@ -116,8 +113,8 @@ impl MDBShardInfo {
         export(alloc, source, writer, true, &options)
     }
 
-    /// Writes what `export_as_keyed_shard` does, but without auxiliary rows: a file that has one is
-    /// written under a header with bit 29 cleared and all else as it is.
+    /// As [`MDBShardInfo::export_as_keyed_shard`], but without auxiliary rows and with bit 29 of
+    /// their files' headers cleared.
     pub fn export_as_keyed_shard_without_aux<S: ShardSource, W: Write>(
         &self,
         alloc: Global,
@@ -152,8 +149,8 @@ impl MDBShardInfo {
         )
     }
 
-    /// Writes what `export_as_keyed_shard_without_aux` does, of a shard whose footer is not known.
-    /// If its chunk hashes are keyed, the keyed hashes are hashed again.
+    /// As [`MDBShardInfo::export_as_keyed_shard_without_aux`], but as
+    /// [`MDBShardInfo::export_as_keyed_shard_streaming`].
     pub fn export_as_keyed_shard_streaming_without_aux<S: ShardSource, W: Write>(
         alloc: Global,
         source: &mut S,
@@ -184,7 +181,7 @@ impl MDBShardInfo {
     }
 }
 
-// The layout options of an export, or `None` if its expiry does not fit `u64`.
+// `None` if the expiry exceeds `u64`.
 fn export_options(
     key: HMACKey,
     now: u64,
@@ -209,8 +206,7 @@ fn export_options(
     })
 }
 
-// Reads header and sections, and writes the shard with auxiliary rows or without, with layout
-// options. That is of version 3, in which files of either version can be stored.
+// Version 3 can store the files of either version.
 fn export<S: ShardSource, W: Write>(
     alloc: Global,
     source: &mut S,
@@ -238,21 +234,17 @@ fn export<S: ShardSource, W: Write>(
     Ok(size as usize)
 }
 
-// A record as an export reads it from a source, and writes it with layout options.
 trait ExportedRecord {
     type Section: WrittenSection + Drop;
 
-    // the stored record that was read
     ghost stored: { Self → Self.Section.Record };
 
-    // what is written for it with layout options, with auxiliary rows or without: a record, or none
+    // what is written of it: a record, or none
     ghost exports: { Bool → LayoutOptions → Self.Section.Record → List Self.Section.Record };
 
-    // these records were written, and what layout options need of them was collected
     ghost has_written: { LayoutOptions → Self.Section → List Self.Section.Record → Type 0 };
 
-    // Reads the next record, or `None` at the bookend, and counts its rows down from those left. A
-    // view is read into the buffer.
+    // `None` at the bookend. A view is read into `buffer`.
     fn read<S: ShardSource>(
         alloc: Global,
         buffer: &mut BytesMut,
@@ -267,7 +259,6 @@ trait ExportedRecord {
             (RecordFails (in_version Self.Section.Record.kind version) left.old
             (S.meaning source.old) (S.meaning source.new)) };
 
-    // Adds and writes what the options have of the record.
     fn export<W: Write>(
         self,
         writer: &mut W,
@@ -303,7 +294,6 @@ trait ExportedRecord {
         → Self.Section.rows written ≡ total_rows Self.Section.Record.kind records };
 }
 
-// A file is written as it is stored, or without its auxiliary row, if the options have files.
 impl ExportedRecord for MDBFileInfoView {
     type Section = WrittenFiles;
 
@@ -349,7 +339,6 @@ impl ExportedRecord for MDBFileInfoView {
     }
 }
 
-// A xorb is written with its chunk hashes under the options' key.
 impl ExportedRecord for MDBXorbInfo {
     type Section = WrittenXorbs;
 
@@ -389,7 +378,6 @@ impl ExportedRecord for MDBXorbInfo {
     }
 }
 
-// Reads a section, and writes what the options have of each record as it is read.
 #[tactic(auto, unfolding(crate::specs::Write::Section::section_bytes))]
 fn export_section<E: ExportedRecord + Drop, S: ShardSource, W: Write>(
     alloc: Global,

@@ -1,5 +1,4 @@
-//! Queries for runs of chunks on the bytes of a shard: at a location that the caller gives, and at
-//! those that the chunk table has for the first hash.
+//! Queries for runs of chunks.
 
 ghost use Rattle.std.specs.Prelude.{◌≡◌, ◌≢◌, ◌⊎◌, true, ℕ, List, [], All, Option, None, Ok, MatchResult, OnOk, IfOk, IfErr};
 ghost use Rattle.std.specs.FinMap as finite;
@@ -28,15 +27,13 @@ use xet_base::source::ShardSource;
 use xet_records::file_structs::FileDataSequenceEntry;
 
 impl MDBShardInfo {
-    /// The run of these hashes in the xorb that starts at a row of the xorb section, from the chunk
-    /// at an index on: its number of chunks, and their segment. The hashes are not keyed; if the
-    /// shard has a key, they are compared under it. `None` if no hash is given or the chunk has
-    /// another hash than the first. Does not allocate.
+    /// The run of these hashes, which are not keyed, from a chunk on of the xorb at a row: its
+    /// number of chunks, and their segment. Compares under the shard's key, if it has one. `None`
+    /// if no hash is given or the chunk does not have the first. Does not allocate.
     ///
-    /// `InvalidArguments` if there is a bookend at the row, or the xorb has no chunk at the index;
-    /// `InvalidShard` if an offset does not fit `u64`, or the bytes of the run do not fit `u32`;
-    /// `UnexpectedEof` if the source ends before the end of a row that has to be read. Any other
-    /// error is the source's.
+    /// `InvalidArguments` if there is a bookend at the row or no chunk at the index; `InvalidShard`
+    /// if an offset exceeds `u64` or the bytes of the run exceed `u32`; `UnexpectedEof` if the
+    /// source ends within a row that is read; or the source's error.
     pub fn chunk_hash_dedup_query_direct<S: ShardSource>(
         &self,
         alloc: Global,
@@ -89,15 +86,9 @@ impl MDBShardInfo {
         )
     }
 
-    /// A run of these hashes in a xorb: its number of chunks, and their segment. It starts at
-    /// one of at most eight locations that the chunk table has for the first word of the first
-    /// hash, at a chunk with that hash. The hashes are not keyed; if the shard has a key,
-    /// they are compared under it. `None` if no hash is given, there is no chunk table, or none of
-    /// the locations has the hash. Does not allocate.
-    ///
-    /// `InvalidShard` if an offset does not fit `u64`, if a location leads to a bookend or past the
-    /// chunks of its xorb, or if the bytes of the run do not fit `u32`. `UnexpectedEof` if the
-    /// source ends within a row that is read. Any other error is the source's.
+    /// As [`MDBShardInfo::chunk_hash_dedup_query_direct`], but at one of up to eight locations that
+    /// the chunk table has for the first word of the first hash. `None` also if there is no table,
+    /// or no location has that hash; `InvalidShard` in place of `InvalidArguments`.
     pub fn chunk_hash_dedup_query<S: ShardSource>(
         &self,
         alloc: Global,
@@ -134,7 +125,6 @@ impl MDBShardInfo {
     }
 }
 
-// The run at the first of the locations that the chunk table has for the first hash.
 fn query_by_table<S: ShardSource>(
     info: &MDBShardInfo,
     alloc: Global,
@@ -186,8 +176,7 @@ fn first_run<S: ShardSource>(
     Ok(None)
 }
 
-// The run from the chunk at an index on of the xorb at a row. The error is `absent` if there is no
-// such chunk.
+// `absent` is the error if there is no such chunk.
 fn run_at_location<S: ShardSource>(
     info: &MDBShardInfo,
     alloc: Global,

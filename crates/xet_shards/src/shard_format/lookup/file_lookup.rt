@@ -1,4 +1,4 @@
-//! Lookup of one file on the bytes of a shard.
+//! Lookup of one file.
 
 ghost use Rattle.std.specs.Prelude.{◌≡◌, ℕ, List, Option, MatchResult, OnOk, IfOk, IfErr, IfSome};
 ghost use Rattle.std.specs.FinMap as finite;
@@ -25,13 +25,12 @@ use xet_base::source::ShardSource;
 use xet_records::file_structs::MDBFileInfo;
 
 impl MDBShardInfo {
-    /// Looks in the file table for the first word of `hash`, and puts the row numbers of the
-    /// records that share it at the front of `dest`. Returns how many these are; entries of `dest`
-    /// past them are unchanged. Does not allocate.
+    /// Puts the row numbers that the file table has for the first word of `hash` at the front of
+    /// `dest`, leaves the rest, and returns how many. Does not allocate.
     ///
-    /// `TruncatedHashCollision` of the word if eight or more share it, `InvalidShard` if the
-    /// table's end does not fit `u64`, `UnexpectedEof` if the search reads past the end of the
-    /// source. Any other error is the source's.
+    /// `TruncatedHashCollision` of the word if eight or more rows have it; `InvalidShard` if the
+    /// table's end exceeds `u64`; `UnexpectedEof` if the search reads past the source's end; or the
+    /// source's error.
     pub fn get_file_info_index_by_hash<S: ShardSource>(
         &self,
         alloc: Global,
@@ -57,10 +56,9 @@ impl MDBShardInfo {
 
     /// Reads the record at a row of the file section.
     ///
-    /// `InvalidShard` if the row's offset does not fit `u64`, the shard's version does not have the
-    /// record's header, or the rows after it do not fit `u32`; `InternalError` if there is a
-    /// bookend at the row, `UnexpectedEof` if the source ends before the record does, `OutOfMemory`
-    /// if an allocation fails. Any other error is the source's.
+    /// `InvalidShard` if the row's offset exceeds `u64`, the rows after the header exceed `u32`, or
+    /// the shard's version does not have the header; `InternalError` at a bookend; `UnexpectedEof`
+    /// if the source ends within the record; `OutOfMemory`; or the source's error.
     pub fn read_file_info<S: ShardSource>(
         &self,
         alloc: Global,
@@ -77,11 +75,8 @@ impl MDBShardInfo {
         read_record_at(alloc, source, version, self.metadata.file_info_offset, row)
     }
 
-    /// Looks for the file with this hash: the record, or `None`.
-    ///
-    /// `TruncatedHashCollision` if eight or more files share the first word of the hash. Else the
-    /// errors of [`MDBShardInfo::get_file_info_index_by_hash`] and
-    /// [`MDBShardInfo::read_file_info`].
+    /// Looks up the file with this hash. The errors are those of
+    /// [`MDBShardInfo::get_file_info_index_by_hash`] and [`MDBShardInfo::read_file_info`].
     pub fn get_file_reconstruction_info<S: ShardSource>(
         &self,
         alloc: Global,
@@ -102,7 +97,6 @@ impl MDBShardInfo {
     }
 }
 
-// Reads the records that the file table has for the hash's first word.
 fn look_up<S: ShardSource>(
     info: &MDBShardInfo,
     alloc: Global,
@@ -122,7 +116,7 @@ fn look_up<S: ShardSource>(
     first_with_hash(info, alloc, source, hash, &rows[..found])
 }
 
-// Reads the records at these rows of the file section up to the first with this hash.
+// The first of the records at these rows that has this hash.
 fn first_with_hash<S: ShardSource>(
     info: &MDBShardInfo,
     alloc: Global,

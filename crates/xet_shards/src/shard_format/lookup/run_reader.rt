@@ -1,4 +1,4 @@
-//! Reading the chunks of a xorb as long as they have the hashes that are queried.
+//! Reading runs of chunks.
 
 ghost use Rattle.std.specs.Prelude.{◌*◌, ◌^◌, ◌<◌, ◌≤◌, MatchResult};
 ghost use Rattle.xet_base.specs.Source.{ReadsBytes};
@@ -15,7 +15,7 @@ use xet_records::file_structs::FileDataSequenceEntry;
 use xet_records::rows::{ROW_SIZE, Row};
 use xet_records::xorb_structs::{XorbChunkSequenceEntry, XorbChunkSequenceHeader};
 
-/// Reads the xorb header at a row of the section at an offset.
+/// Reads the xorb header at a row.
 pub(in crate::shard_format) fn read_header_at<S: ShardSource>(
     alloc: Global,
     source: &mut S,
@@ -30,8 +30,7 @@ pub(in crate::shard_format) fn read_header_at<S: ShardSource>(
     read_source_row(source)
 }
 
-/// Reads the run of hashes from the chunk at an index on of the xorb with this header, which is at
-/// a row.
+/// The run of these hashes from the chunk at an index on.
 pub(in crate::shard_format) fn read_run_at<S: ShardSource>(
     info: &MDBShardInfo,
     alloc: Global,
@@ -65,8 +64,7 @@ pub(in crate::shard_format) fn read_run_at<S: ShardSource>(
     Ok(Some((length as usize, segment)))
 }
 
-// Reads chunks, at most `left`, as long as they have these hashes, one by one: how many have, and
-// their bytes.
+// How many of at most `left` chunks have these hashes, one by one, and their bytes.
 fn read_run<S: ShardSource>(
     info: &MDBShardInfo,
     alloc: Global,
@@ -99,8 +97,7 @@ fn read_run<S: ShardSource>(
     Ok((length, bytes))
 }
 
-// Seeks to a row of the section at an offset. `InvalidShard` if the row's offset does not fit
-// `u64`.
+// `InvalidShard` if the row's offset exceeds `u64`.
 fn seek_to_row<S: ShardSource>(alloc: Global, source: &mut S, offset: u64, row: u64) -> Result<()>
     requires { row ≤ 2 ^ 34 }
     ensures { MatchResult result
@@ -114,8 +111,7 @@ fn seek_to_row<S: ShardSource>(alloc: Global, source: &mut S, offset: u64, row: 
     Ok(())
 }
 
-// Reads a row at the source's position. Does not allocate. `UnexpectedEof` if fewer than 48 bytes
-// are left.
+// `UnexpectedEof` if fewer than 48 bytes are left.
 fn read_source_row<T: Row, S: ShardSource>(source: &mut S) -> Result<T>
     ensures { MatchResult result
         (ReadsRow T.row_bytes T.Fits T.as_read

@@ -21,7 +21,7 @@ pub(in crate::shard_format) trait TableValue: Default + Copy {
 
     const WIDTH: u64;
 
-    /// Reads a value from the source's position on. `UnexpectedEof` if too few bytes are left.
+    /// Reads a value. `UnexpectedEof` if too few bytes are left.
     fn read<S: ShardSource>(source: &mut S) -> io::Result<Self>
         ensures { MatchResult result
             (λ value. ReadsCount (S.meaning source.old) (S.meaning source.new) WIDTH
@@ -45,7 +45,7 @@ impl TableValue for u32 {
     }
 }
 
-/// The row at which a chunk's xorb starts, and the chunk's index in it.
+/// The row at which a xorb starts, and a chunk's index in it.
 impl TableValue for (u32, u32) {
     ghost WIDTH = { 8 };
 
@@ -62,9 +62,7 @@ impl TableValue for (u32, u32) {
     }
 }
 
-/// Puts the row numbers that a table of words and row numbers has for this word at the front of
-/// `dest`, and returns how many these are. `TruncatedHashCollision` of the word if eight or more
-/// rows of the table have it, else the errors of `search_table`.
+/// As `search_table`, but `TruncatedHashCollision` of the word if eight or more rows have it.
 pub(in crate::shard_format) fn find_rows<S: ShardSource>(
     alloc: Global,
     source: &mut S,
@@ -84,8 +82,8 @@ pub(in crate::shard_format) fn find_rows<S: ShardSource>(
     }
 }
 
-/// Puts the values of the rows with this word at the front of `dest`, as many as fit, and returns
-/// their number. The errors are those of `search_on_sorted_u64s`.
+/// Puts the values of rows with this word at the front of `dest`, as many as fit, and returns their
+/// number. The errors are those of `search_on_sorted_u64s`.
 pub(in crate::shard_format) fn search_table<V: TableValue, S: ShardSource>(
     alloc: Global,
     source: &mut S,

@@ -1,4 +1,4 @@
-//! Lookups of xorbs and chunks in the tables of a shard: the rows at which their xorbs start.
+//! Lookups of xorbs and chunks by the tables.
 
 ghost use Rattle.std.specs.Prelude.{◌≡◌, ℕ, List, Option, true, ◌+◌, ◌≤◌, min, MatchResult, OnOk, IfOk, IfErr};
 ghost use Rattle.std.specs.FinMap as finite;
@@ -28,12 +28,8 @@ use xet_records::record_reader::FormatVersion;
 use xet_records::xorb_structs::MDBXorbInfo;
 
 impl MDBShardInfo {
-    /// Reads the record at a row of the xorb section.
-    ///
-    /// `InvalidShard` if the row's offset does not fit `u64`, or the rows after the record's header
-    /// do not fit `u32`; `InternalError` if there is a bookend at the row, `UnexpectedEof` if the
-    /// source ends before the record does, `OutOfMemory` if an allocation fails. Any other error is
-    /// the source's.
+    /// As [`MDBShardInfo::read_file_info`], but of the xorb section, whose headers every version
+    /// has.
     pub fn read_xorb_info<S: ShardSource>(
         &self,
         alloc: Global,
@@ -50,13 +46,9 @@ impl MDBShardInfo {
         read_record_at(alloc, source, FormatVersion::V3, offset, row)
     }
 
-    /// Looks in the chunk table for the first word of a chunk's hash, under the shard's key if it
-    /// has one, and puts up to eight locations at the front of `dest`: the row at which a xorb
-    /// starts, and an index among its chunks. Returns how many these are; entries of `dest` past
-    /// them are unchanged. Eight are no error. Does not allocate.
-    ///
-    /// `InvalidShard` if the table's end does not fit `u64`, `UnexpectedEof` if the search reads
-    /// past the end of the source. Any other error is the source's.
+    /// As [`MDBShardInfo::get_file_info_index_by_hash`], but of `unkeyed_hash` under the shard's
+    /// key, by the chunk table: up to eight pairs of the row at which a xorb starts and an index
+    /// among its chunks. Eight are no error.
     pub fn get_xorb_info_index_by_chunk<S: ShardSource>(
         &self,
         alloc: Global,
@@ -82,13 +74,7 @@ impl MDBShardInfo {
         search_table::<(u32, u32), S>(alloc, source, start, rows, word, dest)
     }
 
-    /// Looks in the xorb table for the first word of `hash`, and puts the row numbers of the xorbs
-    /// that share it at the front of `dest`. Returns how many these are; entries of `dest` past
-    /// them are unchanged. Does not allocate.
-    ///
-    /// `TruncatedHashCollision` of the word if eight or more share it, `InvalidShard` if the
-    /// table's end does not fit `u64`, `UnexpectedEof` if the search reads past the end of the
-    /// source. Any other error is the source's.
+    /// As [`MDBShardInfo::get_file_info_index_by_hash`], but by the xorb table.
     pub fn get_xorb_info_index_by_hash<S: ShardSource>(
         &self,
         alloc: Global,

@@ -17,8 +17,7 @@ use xet_base::source::ShardSource;
 use xet_records::file_structs::{FileDataSequenceHeader, FileMetadataExt, MDBFileInfo};
 use xet_records::rows::ROW_SIZE;
 
-/// A file's hash, the byte ranges of its segments and of its verification rows, each as the first
-/// byte and the one after the last, and the SHA-256 of its metadata row.
+/// A file's hash, the ranges of its segments and verification rows, and its SHA-256.
 type FileRanges = (
     MerkleHash,
     (u64, u64),
@@ -27,14 +26,13 @@ type FileRanges = (
 );
 
 impl MDBShardInfo {
-    /// Reads a shard's header and its file section from the source's position on, without a seek.
-    /// Returns for each file its hash, where in the source its segments are and, if it has them,
-    /// where its verification rows are, and its SHA-256.
+    /// Reads a shard's header and file section from the source's position on, without a seek: for
+    /// each file its hash, the byte ranges in the source of its segments and any verification rows,
+    /// ends excluded, and any SHA-256.
     ///
-    /// `ShardVersion` if the header's tag or version is unsupported, `UnexpectedEof` if the source
-    /// ends before the bookend, `InvalidShard` if the version does not have the header of a file or
-    /// the rows pass 4294967295, `OutOfMemory` if an allocation fails. Any other error is the
-    /// source's.
+    /// `ShardVersion` if the tag or version is unsupported; `InvalidShard` if the version does not
+    /// have a file's header, or past 4294967295 rows; `UnexpectedEof` if the source ends before the
+    /// bookend; `OutOfMemory`; or the source's error.
     pub fn read_file_info_ranges<S: ShardSource>(
         alloc: Global,
         source: &mut S,
@@ -53,7 +51,6 @@ impl MDBShardInfo {
     }
 }
 
-// Reads a shard's header and through its file section, from the source's position on.
 fn read_header_and_ranges<S: ShardSource>(alloc: Global, source: &mut S) -> Result<Vec<FileRanges>>
     ensures { MatchResult result
         (λ found. ReadsFileRanges (S.meaning source.old) (S.meaning source.new) found.items)
@@ -75,7 +72,6 @@ impl WalkItem<MDBFileInfo> for FileRanges {
     }
 }
 
-// The ranges of a record whose rows after the header start at this offset.
 fn ranges_after(
     start: u64,
     header: &FileDataSequenceHeader,

@@ -2,7 +2,7 @@
 
 ghost use Rattle.std.specs.Prelude.{◌≡◌, drop};
 
-/// A record of a section in memory: its header, and the bytes from the rows after it on.
+/// A record's header, and the bytes from the rows after it on.
 #[derive(Clone, Copy)]
 pub struct PlacedRecord<'a, H> {
     pub header: H,

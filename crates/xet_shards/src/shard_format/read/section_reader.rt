@@ -1,4 +1,4 @@
-//! Reading the sections of a shard from a source.
+//! Reading sections from a source.
 
 ghost use Rattle.std.specs.Prelude.{MatchResult};
 ghost use Rattle.xet_records.specs.RecordKind.{in_version};
@@ -18,7 +18,7 @@ use xet_records::record_reader::{
 use xet_records::rows::ROW_SIZE;
 use xet_records::xorb_structs::{MDBXorbInfo, XorbChunkSequenceHeader};
 
-/// Reads the records of the section at an offset.
+/// Reads the section at an offset.
 pub(in crate::shard_format) fn read_section_at<R: SectionRecord + Drop, S: ShardSource>(
     alloc: Global,
     source: &mut S,
@@ -63,8 +63,7 @@ pub(in crate::shard_format) fn read_record_at<R: SectionRecord + Drop, S: ShardS
     }
 }
 
-/// Reads the headers of the xorb section at an offset, each with its own offset, and reads past the
-/// chunks.
+/// Reads the headers of the xorb section at an offset, each with its own offset.
 pub(in crate::shard_format) fn read_xorb_headers<S: ShardSource>(
     alloc: Global,
     source: &mut S,

@@ -1,5 +1,4 @@
-//! Walking through a section: something is kept of each record, and the rows after its header are
-//! read past.
+//! Walks through a section that keep something of each record.
 
 ghost use Rattle.std.specs.Prelude.{◌≡◌, ℕ, ◌+◌, ◌*◌, ◌^◌, ◌<◌, ◌≤◌, MatchResult};
 ghost use Rattle.xet_records.specs.RecordKind.{in_version};
@@ -18,8 +17,7 @@ use xet_records::rows::ROW_LIMIT;
 pub(in crate::shard_format) trait WalkItem<R: SectionRecord> {
     ghost keep: { ℕ → R → Self };
 
-    /// What is kept of the record at an offset, from its header and what reading past the rows
-    /// after it keeps.
+    /// What is kept of the record at an offset.
     fn of_record(offset: u64, header: &R::Header, rest: R::SkipValue) -> Self
         requires { offset + 48 * (1 + R.kind.rows_after header.now) < 2 ^ 64 }
         ensures { (r : R) → R.kind.header_of r ≡ header.now → R.kept r ≡ rest
@@ -46,7 +44,7 @@ pub(in crate::shard_format) fn walk_section<
     Ok(found)
 }
 
-// Reads past the next record of a section and keeps something of it, or `None` at the bookend.
+// `None` at the bookend.
 fn keep_next<R: SectionRecord, T: WalkItem<R> + Drop, S: ShardSource>(
     alloc: Global,
     source: &mut S,
@@ -66,7 +64,7 @@ fn keep_next<R: SectionRecord, T: WalkItem<R> + Drop, S: ShardSource>(
         return Ok(None);
     };
     let rest = R::skip_rows_after::<OfSource, S>(source, header)?;
-    // The source has a position after all these rows, so each offset among them fits `u64`.
+    // The source has a position after these rows, so each offset among them fits `u64`.
     source.position()?;
     Ok(Some(T::of_record(offset, &header, rest)))
 }

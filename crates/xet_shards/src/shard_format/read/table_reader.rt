@@ -20,11 +20,11 @@ use xet_base::source::{ShardSource, read_full};
 use xet_records::rows::ROW_LIMIT;
 
 impl MDBShardInfo {
-    /// Reads the rows of the xorb table in order: the first word of each xorb's hash, and the row
-    /// at which its record starts.
+    /// Reads the xorb table in order: the first word of each xorb's hash, and the row at which it
+    /// starts.
     ///
-    /// `InvalidShard` past 4294967295 rows, `UnexpectedEof` if the source ends before the table
-    /// does, `OutOfMemory` if an allocation fails. Any other error is the source's.
+    /// `InvalidShard` past 4294967295 rows; `UnexpectedEof` if the source ends before the table;
+    /// `OutOfMemory`; or the source's error.
     pub fn read_full_xorb_lookup<S: ShardSource>(
         &self,
         alloc: Global,
@@ -47,8 +47,7 @@ impl MDBShardInfo {
     }
 }
 
-// Reads the rows of a chunk table: the first word of each chunk's hash, the row at which its xorb
-// starts, and its index in the xorb.
+// As [`MDBShardInfo::read_full_xorb_lookup`], but of the chunk table, with indices in xorbs.
 pub(in crate::shard_format) fn read_chunk_table<S: ShardSource>(
     alloc: Global,
     source: &mut S,
@@ -63,7 +62,7 @@ pub(in crate::shard_format) fn read_chunk_table<S: ShardSource>(
     read_table(alloc, source, offset, rows)
 }
 
-// A row of a lookup table, all of whose rows have one size.
+// A row of a lookup table.
 trait TableRow: Copy {
     ghost row_bytes: { Self → List ℕ };
 
@@ -71,7 +70,7 @@ trait TableRow: Copy {
 
     ghost row_size: { ℕ };
 
-    // Reads a row from the source's position on. `UnexpectedEof` if too few bytes are left.
+    // `UnexpectedEof` if too few bytes are left.
     fn read<S: ShardSource>(source: &mut S) -> Result<Self>
         ensures value { IfOk result
             (ReadsNextRow row_bytes Fits row_size (S.meaning source.old) (S.meaning source.new)) }
@@ -118,7 +117,6 @@ impl TableRow for (u64, (u32, u32)) {
     }
 }
 
-// Reads `rows` rows from an offset on.
 fn read_table<T: TableRow + Drop, S: ShardSource>(
     alloc: Global,
     source: &mut S,

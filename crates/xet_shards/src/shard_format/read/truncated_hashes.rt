@@ -1,4 +1,4 @@
-//! The first words of the hashes of a shard's chunks, and where the chunks are.
+//! The first words of chunk hashes.
 
 ghost use Rattle.std.specs.Prelude.{◌≡◌, ◌≢◌, ◌⊎◌, ℕ, Option, ◌≤◌, ◌++◌, length, map, MatchResult, OnOk, IfOk, IfErr};
 ghost use Rattle.std.specs.FinMap as finite;
@@ -23,11 +23,11 @@ use xet_records::xorb_structs::{MDBXorbInfo, XorbChunkSequenceEntry};
 
 impl MDBShardInfo {
     /// Reads, for each chunk, the first word of its hash, the row at which its xorb starts, and its
-    /// index in the xorb: the rows of the chunk table, or, if there is none, the chunks of the xorb
-    /// section in order, up to the bookend or to the offset of the file table.
+    /// index in the xorb: from the chunk table, or without one from the xorb section, in order, up
+    /// to the bookend or the offset of the file table.
     ///
-    /// `InvalidShard` past 4294967295 rows, `UnexpectedEof` if the source ends before the table or
-    /// the section does, `OutOfMemory` if an allocation fails. Any other error is the source's.
+    /// `InvalidShard` past 4294967295 rows; `UnexpectedEof` if the source ends before the table or
+    /// the section; `OutOfMemory`; or the source's error.
     pub fn read_all_truncated_hashes<S: ShardSource>(
         &self,
         alloc: Global,
@@ -62,8 +62,7 @@ impl MDBShardInfo {
     }
 }
 
-// Walks through the xorb section at an offset, up to its bookend or to a header that does not start
-// before `stop`.
+// Reads up to the bookend or a header at or past `stop`.
 fn read_section_hashes<S: ShardSource>(
     alloc: Global,
     source: &mut S,
@@ -83,8 +82,7 @@ fn read_section_hashes<S: ShardSource>(
     Ok(hashes)
 }
 
-// Reads the next xorb, with the row at which it starts, or `None` at the bookend or where it would
-// not start before `stop`.
+// The next xorb and its row; `None` at the bookend or from `stop` on.
 fn read_xorb_before<S: ShardSource>(
     alloc: Global,
     source: &mut S,
@@ -115,7 +113,6 @@ fn read_xorb_before<S: ShardSource>(
     Ok(Some((start, xorb)))
 }
 
-// Appends what the chunk table has for the chunks of a xorb that starts at this row.
 fn push_hashes(
     hashes: &mut Vec<(u64, (u32, u32))>,
     start: u32,

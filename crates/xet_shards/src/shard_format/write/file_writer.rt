@@ -1,4 +1,4 @@
-//! Writing the file section, and collecting the table by which its records are found.
+//! Writing the file section, and collecting its table.
 
 ghost use Rattle.std.specs.Prelude.{◌≡◌, ◌+◌, ◌*◌, ◌≤◌, ◌++◌, [], ◌∷◌, List, length, sum_by, OnOk, IfErr};
 ghost use Rattle.std.specs.Io.KnownBytes.{Appends};
@@ -22,9 +22,8 @@ use xet_records::record_bytes::row;
 use xet_records::row_copier::{CopyFailure, CopyResult, write_copied_row};
 
 impl WrittenFiles {
-    /// Adds the next file, whose record is written elsewhere, by the first word of its hash, the
-    /// rows of its record, its header included, and its size in bytes. `OutOfMemory` if an
-    /// allocation fails.
+    /// Adds the next file, by the first word of its hash, its rows, header included, and its size
+    /// in bytes. `OutOfMemory` if an allocation fails.
     pub fn add(&mut self, word: u64, rows: u64, bytes: u64) -> Result<()>
         requires header { 1 ≤ rows }
         requires rows { self.old.table.rows + rows ≤ MAX_ROWS }

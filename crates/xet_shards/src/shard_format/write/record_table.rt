@@ -1,4 +1,4 @@
-//! The lookup table of a section's records, collected while the section is written.
+//! The lookup table of a section's records.
 
 ghost use Rattle.std.specs.Prelude.{◌≡◌, ◌+◌, ◌≤◌, [], IsTrue, ◌↔◌, OnOk, OnErr, IfErr};
 ghost use Rattle.xet_shards.specs.Write.Written.{AddsRecord};
@@ -32,9 +32,8 @@ impl RecordTable {
         more <= ROW_LIMIT - self.rows
     }
 
-    /// Adds the next record, by the first word of its hash and the number of its rows, its header
-    /// included: the table gets the word and the row at which the record starts. `OutOfMemory` if
-    /// an allocation fails.
+    /// Adds the next record, by the first word of its hash and its rows, header included.
+    /// `OutOfMemory` if an allocation fails.
     pub fn add(&mut self, word: u64, rows: u64) -> Result<()>
         requires header { 1 ≤ rows }
         requires rows { self.old.rows + rows ≤ MAX_ROWS }

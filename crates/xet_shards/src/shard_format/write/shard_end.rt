@@ -1,7 +1,4 @@
-//! The end of a shard, after its sections: the lookup tables that are in, and the footer.
-//!
-//! Making it may fail for lack of memory. Then it is written, or put into memory that has room for
-//! it, which cannot fail.
+//! The end of a shard: its lookup tables and footer.
 
 ghost use Rattle.std.specs.Prelude.{◌≡◌, ◌+◌, ◌*◌, ◌≤◌, length, true, List, All, OnOk, IfOk, IfErr, flat_map, if◌then◌else◌};
 ghost use Rattle.std.specs.Io.KnownBytes.{Appends};
@@ -29,11 +26,10 @@ use xet_base::fields::put;
 use xet_base::serialization_utils::write_bytes;
 use xet_records::rows::ROW_SIZE;
 
-// The number of rows of the chunk table that go to the writer at once.
+// The rows that go to the writer at once.
 const BLOCK_ROWS: usize = 64;
 
-/// The end of a shard, made and not yet written: the tables, each empty if it is left out, and the
-/// footer.
+/// The tables, each empty if left out, and the footer.
 #[derive(Drop)]
 pub struct ShardEnd<'a> {
     file_table: &'a [u8],
@@ -44,9 +40,8 @@ pub struct ShardEnd<'a> {
 }
 
 impl<'a> ShardEnd<'a> {
-    /// The end of a shard, by what was collected of its files and its xorbs. If the chunk table is
-    /// in, its rows are put in order here; many rows are sorted by means of free places that are
-    /// allocated behind them. `OutOfMemory` if an allocation fails.
+    /// The end of a shard, by what was collected of its files and xorbs. `OutOfMemory` if an
+    /// allocation fails.
     pub fn make(
         files: &'a WrittenFiles,
         xorbs: WrittenXorbs,
@@ -88,7 +83,7 @@ impl<'a> ShardEnd<'a> {
         Ok(())
     }
 
-    /// Puts it into a slice that has room for it, at an offset, and returns the offset after it.
+    /// Puts it into a slice at an offset, and returns the offset after it.
     pub fn put(&self, out: &mut [u8], at: usize) -> usize
         requires { at + length (end_bytes self.now) ≤ length out.old }
         ensures { Puts out.old out.new at result (end_bytes self.now) }
@@ -101,10 +96,8 @@ impl<'a> ShardEnd<'a> {
     }
 }
 
-/// Writes the end of a shard, after its sections: the tables that are in, and the footer, which it
-/// returns. If the chunk table is in, its rows are put in order here; many rows are sorted by means
-/// of free places that are allocated behind them. The error is the writer's, or `OutOfMemory` if an
-/// allocation fails.
+/// Makes and writes the end of a shard, and returns its footer. The error is the writer's, or
+/// `OutOfMemory`.
 pub fn write_end<W: Write>(
     writer: &mut W,
     files: &WrittenFiles,
@@ -127,14 +120,12 @@ pub fn write_end<W: Write>(
     Ok(end.footer)
 }
 
-// A table, or no bytes if it is left out.
 fn table_if_included(is_in: bool, table: &[u8]) -> &[u8]
     ensures { result.now ≡ if_included is_in table.now }
 {
     if is_in { table } else { &[] }
 }
 
-// The same of a table that is owned.
 fn owned_table_if_included(is_in: bool, mut table: Vec<u8>) -> Vec<u8>
     ensures { result.items ≡ if_included is_in table.items }
 {
@@ -144,7 +135,6 @@ fn owned_table_if_included(is_in: bool, mut table: Vec<u8>) -> Vec<u8>
     table
 }
 
-// The rows of the chunk table in ascending order, or none if the table is left out.
 fn rows_in_order(is_in: bool, mut rows: Vec<ChunkTableRow>) -> Result<Vec<ChunkTableRow>>
     ensures bytes { IfOk result (λ sorted. (xorbs : List MDBXorbInfo)
         → (is_in ≡ true → rows.items ≡ chunk_table_rows xorbs)
@@ -159,7 +149,6 @@ fn rows_in_order(is_in: bool, mut rows: Vec<ChunkTableRow>) -> Result<Vec<ChunkT
     }
 }
 
-// Writes these rows of the chunk table, a block at a time.
 fn write_chunk_rows<W: Write>(writer: &mut W, rows: &[ChunkTableRow]) -> Result<()>
     ensures bytes { OnOk result
         (Appends (W.contents writer.old) (W.contents writer.new)
@@ -175,7 +164,7 @@ fn write_chunk_rows<W: Write>(writer: &mut W, rows: &[ChunkTableRow]) -> Result<
     Ok(())
 }
 
-// Writes at most `BLOCK_ROWS` rows of the chunk table by one call of the writer.
+// Writes at most `BLOCK_ROWS` rows by one call of the writer.
 fn write_block<W: Write>(writer: &mut W, rows: &[ChunkTableRow]) -> Result<()>
     requires { length rows.now ≤ 64 }
     ensures bytes { OnOk result
@@ -189,7 +178,7 @@ fn write_block<W: Write>(writer: &mut W, rows: &[ChunkTableRow]) -> Result<()>
     Ok(())
 }
 
-// Puts rows of the chunk table into a slice at an offset, and returns the offset after them.
+// Puts rows at an offset, and returns the offset after them.
 fn put_rows(out: &mut [u8], at: usize, rows: &[ChunkTableRow]) -> usize
     requires { at + 16 * length rows.now ≤ length out.old }
     ensures end { result ≡ at + 16 * length rows.now }
@@ -202,7 +191,6 @@ fn put_rows(out: &mut [u8], at: usize, rows: &[ChunkTableRow]) -> usize
     end
 }
 
-// The footer of a shard with these files and xorbs, with these options.
 fn footer_of(
     files: &WrittenFiles,
     xorbs: &WrittenXorbs,
@@ -245,7 +233,6 @@ fn footer_of(
     footer
 }
 
-// The rows of a table if it is in, else 0.
 fn rows_if_included(is_in: bool, rows: u64) -> u64
     ensures { result ≡ (if is_in then rows else 0) }
 {

@@ -1,4 +1,4 @@
-//! Writing files of which only views are held.
+//! Writing files from views.
 
 ghost use Rattle.std.specs.Prelude.{◌≡◌, ◌+◌, ◌*◌, ◌≤◌, ◌++◌, [], ◌∷◌, List, length, OnOk, IfErr};
 ghost use Rattle.std.specs.Io.KnownBytes.{Appends};
@@ -15,8 +15,8 @@ use xet_base::error::Result;
 use xet_records::file_structs::{KeptParts, MDBFileInfoView};
 use xet_records::rows::ROW_SIZE;
 
-/// Adds and writes these parts of the next file, as they are stored. Missing verification rows are
-/// no error. The error is the writer's, or `OutOfMemory` if an allocation fails.
+/// Adds and writes these parts of the next file, as stored. Missing verification rows are no error.
+/// The error is the writer's, or `OutOfMemory`.
 pub fn write_file_view<W: Write>(
     writer: &mut W,
     written: &mut WrittenFiles,
@@ -44,7 +44,6 @@ pub fn write_file_view<W: Write>(
     Ok(())
 }
 
-// The size of the file, in bytes.
 fn file_size(view: &MDBFileInfoView) -> u64
     requires { length view.now.segments ≤ MAX_ROWS }
     ensures size { result ≡ size_of_file view.now }

@@ -1,4 +1,4 @@
-//! Writing the records of a shard in memory, section by section.
+//! Writing the records of a shard in memory.
 
 ghost use Rattle.std.specs.Prelude.{◌≡◌, ◌≤◌, None, All, OnOk, IfOk, IfErr, map};
 ghost use Rattle.std.specs.Io.KnownBytes.{Appends};
@@ -38,7 +38,7 @@ impl MDBInMemoryShard {
     }
 }
 
-/// A value of a map that holds records: a record, or an `Rc` of one.
+/// A record, or an `Rc` of one.
 pub trait HoldsRecord<R> {
     ghost held: { Self → R };
 
@@ -70,8 +70,7 @@ impl HoldsRecord<MDBXorbInfo> for Rc<MDBXorbInfo> {
     }
 }
 
-/// Writes a section of the records that a map holds, in the order of their hashes, and collects its
-/// tables.
+/// Writes a section of a map's records, in the order of their hashes.
 #[tactic(auto, unfolding(crate::specs::Write::Section::section_bytes))]
 pub fn write_values<S: WrittenSection + Drop, V: HoldsRecord<S::Record>, W: Write>(
     alloc: Global,

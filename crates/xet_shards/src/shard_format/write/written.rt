@@ -1,4 +1,4 @@
-//! What is collected while the sections of a shard are written.
+//! What writers collect of a section.
 
 ghost use Rattle.std.specs.Prelude.{◌≡◌, ◌≢◌, ℕ, ◌+◌, ◌*◌, ◌≤◌, List, [], ◌∷◌, ◌++◌, length, OnOk, IfErr, MatchResult, IsTrue, ◌↔◌};
 ghost use Rattle.std.specs.Io.KnownBytes.{Appends};
@@ -19,7 +19,7 @@ use xet_base::input::ByteInput;
 use xet_records::record_reader::SectionRecord;
 use xet_records::row_copier::CopyResult;
 
-/// What is collected while a section is written, of files or of xorbs.
+/// What is collected of files or of xorbs.
 pub trait WrittenSection {
     type Record: SectionRecord;
 
@@ -29,7 +29,6 @@ pub trait WrittenSection {
     // these records were written
     ghost has_written: { Self → List Self.Record → Type 0 };
 
-    // the rows written so far
     ghost rows: { Self → ℕ };
 
     /// Before the first record.
@@ -40,8 +39,7 @@ pub trait WrittenSection {
     fn has_room(&self, more: u64) -> bool
         ensures { IsTrue result ↔ (rows self.now + more ≤ MAX_ROWS) };
 
-    /// Adds and writes the next record. The error is the writer's, or `OutOfMemory` if an
-    /// allocation fails.
+    /// Adds and writes the next record. The error is the writer's, or `OutOfMemory`.
     fn write<W: Write>(&mut self, writer: &mut W, next: &Self::Record) -> Result<()>
         requires whole { is_whole next.now }
         requires rows { rows self.old + Self.Record.kind.row_count next.now ≤ MAX_ROWS }
@@ -53,8 +51,8 @@ pub trait WrittenSection {
             → has_written self.new (before ++ next.now ∷ [])) }
         ensures causes { IfErr result IsWriteError };
 
-    /// Adds and writes the record of a header that was read, each row after it as it is read, as
-    /// reading returns it. The failure is the input's, `UnexpectedEof` if fewer rows are left; or
+    /// Adds and writes the record of a header that was read, copying its rows from the input, as
+    /// reading returns them. The failure is the input's, `UnexpectedEof` if fewer rows are left; or
     /// the output's, `OutOfMemory` if an allocation fails.
     fn copy<M, I: ByteInput<M>, W: Write>(
         &mut self,
@@ -88,7 +86,7 @@ pub trait WrittenSection {
             ≡ rows self.old + (1 + Self.Record.kind.rows_after placed.now.header)) }
         ensures causes { IfErr result (λ e. e ≡ CoreError.OutOfMemory) };
 
-    /// Writes the bookend, which ends the section. The error is the writer's.
+    /// Writes the bookend. The error is the writer's.
     fn write_bookend<W: Write>(writer: &mut W) -> Result<()>
         ensures bytes { OnOk result
             (Appends (W.contents writer.old) (W.contents writer.new)
@@ -99,7 +97,7 @@ pub trait WrittenSection {
         → has_written written records → rows written ≡ total_rows Self.Record.kind records };
 }
 
-/// The records written so far: how many there are, their rows, and the bytes of their lookup table.
+/// The records and rows written so far, and the bytes of their lookup table.
 #[derive(Drop)]
 pub struct RecordTable {
     pub records: u64,
@@ -109,7 +107,7 @@ pub struct RecordTable {
     ghost rows_fit: { rows ≤ MAX_ROWS },
 }
 
-/// The files written so far: their lookup table, and their sizes in sum.
+/// The files written so far, and the sum of their sizes.
 #[derive(Drop)]
 pub struct WrittenFiles {
     pub table: RecordTable,
@@ -117,9 +115,8 @@ pub struct WrittenFiles {
     ghost bytes_fit: { materialized_bytes ≤ 4294967295 * table.rows },
 }
 
-/// The xorbs written so far: their lookup table, the rows of the chunk table, in the order of the
-/// section, if they are wanted, and the sums of their sizes, unpacked and on disk, by their
-/// headers.
+/// The xorbs written so far, the chunk table's rows in the section's order, if wanted, and the sums
+/// of sizes, unpacked and on disk, by the headers.
 #[derive(Drop)]
 pub struct WrittenXorbs {
     pub table: RecordTable,

@@ -1,5 +1,4 @@
-//! Writing the xorb section, and collecting the tables by which its records and their chunks are
-//! found.
+//! Writing the xorb section, and collecting its tables.
 
 ghost use Rattle.std.specs.Prelude.{◌≡◌, ◌+◌, ◌*◌, ◌≤◌, ◌++◌, [], ◌∷◌, List, length, true, false, MatchResult, OnOk, IfOk, IfErr};
 ghost use Rattle.std.specs.Io.KnownBytes.{Appends};
@@ -28,7 +27,7 @@ use xet_records::row_copier::{CopyFailure, CopyResult, copy_row, write_copied_ro
 use xet_records::xorb_structs::{MDBXorbInfo, XorbChunkSequenceEntry, XorbChunkSequenceHeader};
 
 /// A row of the chunk table: the first word of a chunk's hash, the row at which its xorb starts,
-/// and its index in the xorb. The rows of the table ascend by this order of fields.
+/// and its index in the xorb. Rows ascend by this order of fields.
 #[derive(Clone, Copy, Debug, PartialEq, Eq, PartialOrd, Ord)]
 pub struct ChunkTableRow {
     pub word: u64,
@@ -50,8 +49,8 @@ impl ChunkTableRow {
 }
 
 impl WrittenXorbs {
-    /// Adds the next xorb by its header, and not yet its chunks, and returns the row at which its
-    /// record starts. `OutOfMemory` if an allocation fails.
+    /// Adds the next xorb without its chunks, and returns the row at which it starts. `OutOfMemory`
+    /// if an allocation fails.
     pub fn add(&mut self, header: &XorbChunkSequenceHeader) -> Result<u32>
         requires rows { self.old.table.rows + (1 + header.now.num_entries) ≤ MAX_ROWS }
         ensures row { IfOk result (λ row. row ≡ self.old.table.rows) }
@@ -74,8 +73,8 @@ impl WrittenXorbs {
         Ok(row)
     }
 
-    /// Adds and writes the next xorb. The rows of its chunks are collected only if a chunk table is
-    /// to be written. The error is the writer's, or `OutOfMemory` if an allocation fails.
+    /// Adds and writes the next xorb, and collects rows of the chunk table if `chunk_table`. The
+    /// error is the writer's, or `OutOfMemory`.
     pub fn write_for<W: Write>(
         &mut self,
         writer: &mut W,
@@ -159,7 +158,6 @@ impl WrittenSection for WrittenXorbs {
     }
 }
 
-// Adds the rows of the chunks of a xorb that starts at this row, if they are wanted.
 fn collect_chunk_rows(
     chunk_rows: &mut Vec<ChunkTableRow>,
     wanted: bool,
@@ -198,7 +196,7 @@ fn push_chunk_rows(
     Ok(())
 }
 
-// Adds the rows of the chunks in the first rows of these, of a xorb that starts at a row.
+// The same of the chunks in the first of these rows.
 fn collect_rows_of(
     chunk_rows: &mut Vec<ChunkTableRow>,
     first: u32,
@@ -222,7 +220,6 @@ fn collect_rows_of(
     Ok(())
 }
 
-// Copies the chunks of a xorb that starts at this row, and adds their rows.
 fn copy_chunks<M, I: ByteInput<M>, W: Write>(
     chunk_rows: &mut Vec<ChunkTableRow>,
     row: u32,
@@ -245,7 +242,7 @@ fn copy_chunks<M, I: ByteInput<M>, W: Write>(
     Ok(())
 }
 
-// Adds a row of the chunk table. `OutOfMemory` of the output if an allocation fails.
+// `OutOfMemory` is the output's failure.
 fn add_chunk_row(chunk_rows: &mut Vec<ChunkTableRow>, row: ChunkTableRow) -> CopyResult<()>
     ensures added { OnOk result (chunk_rows.new.items ≡ chunk_rows.old.items ++ row ∷ []) }
     ensures causes { IfErr result IsOutputFailure }
