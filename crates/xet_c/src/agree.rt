@@ -18,8 +18,8 @@ use placed_shards::selection::Selection;
 use std::alloc::Global;
 use xet_core_structures::error::{CoreError, Result};
 
-/// A hash under which two shards have records that do not agree, a xorb's or a file's, and the
-/// numbers of two such shards in the list.
+/// A hash under which two shards have files or xorbs that do not agree, and the numbers of two such
+/// shards.
 #[repr(C)]
 #[derive(Clone, Copy, Drop)]
 pub struct XetDisagreement {
@@ -29,8 +29,8 @@ pub struct XetDisagreement {
     pub second: usize,
 }
 
-/// All hashes under which two of the shards have records that do not agree, to the front of `out`:
-/// first of files, then of xorbs, and each in ascending order.
+/// Puts all hashes under which two shards have records that do not agree to the front of `out`:
+/// first of files, then of xorbs, each in ascending order.
 #[unsafe(no_mangle)]
 pub extern "C" fn xet_find_disagreements(
     alloc: Global,
@@ -66,9 +66,9 @@ fn shown_all(alloc: Global, all: &[Disagreement]) -> Result<Vec<XetDisagreement>
     Ok(shown)
 }
 
-/// Looks for a record that no shard may have, of the first byte string that holds one. `malformed`
-/// says whether there is one, and `found` is its hash and, twice, the number of the byte string. If
-/// there is none, or the result is not 0, `malformed` is false and `found` stays as it is.
+/// Looks for the first byte string with a record that no shard may have. `found` is the record's
+/// hash and, twice, the byte string's number. If there is none, or after an error, `malformed` is
+/// false and `found` stays.
 #[unsafe(no_mangle)]
 pub extern "C" fn xet_find_malformed(
     alloc: Global,
@@ -96,7 +96,7 @@ pub extern "C" fn xet_find_malformed(
     }
 }
 
-/// Shows the first of some disagreements, and how many there are.
+/// Shows the first disagreement, and how many there are.
 pub fn show_first(all: &[Disagreement], differing: &mut usize, found: &mut XetDisagreement)
     ensures { ShowsFirst all.now found.old found.new differing.new }
 {
@@ -106,7 +106,6 @@ pub fn show_first(all: &[Disagreement], differing: &mut usize, found: &mut XetDi
     }
 }
 
-// Shows a record that no shard may have, if there is one.
 fn show_malformed(one: &Option<MalformedRecord>, malformed: &mut bool, found: &mut XetDisagreement)
     requires { malformed.old ≡ false }
     ensures { ShowsMalformed one.now found.old found.new malformed.new }
@@ -127,7 +126,6 @@ fn disagreement_of(disagreement: &Disagreement) -> XetDisagreement
     )
 }
 
-/// Shows a record that no shard may have.
 pub fn malformed_of(malformed: &MalformedRecord) -> XetDisagreement
     ensures { result ≡ c_malformed malformed.now }
 {

@@ -11,13 +11,13 @@ use shard_bytes::format::Format;
 use std::alloc::Global;
 use xet_core_structures::error::{CoreError, Result};
 
-/// A finding: its kind, the part that it is about, and a number. A part or a number that the kind
-/// does not have is 0. Parts are 1 to 7 in the order of the bytes, the header first. Kinds: 1, no
-/// tag; 2, an unknown version, `number`; 3, no footer; 4, too few bytes for header and footer; 5, a
-/// section ends before its bookend; 6, a section has a header that the version does not have, or
-/// too many rows; 7, the hash of record `number` does not ascend; 8, the part differs from what the
-/// records give; 9, the size should be `number`; 10, record `number` is malformed; 11, a note:
-/// chunk table rows with one first word are in another order.
+/// A finding: its kind, its part and a number, 0 where the kind has none. Parts are 1 to 7 in the
+/// order of the bytes, the header first. Kinds: 1, no tag; 2, an unknown version, `number`; 3, no
+/// footer; 4, too few bytes for header and footer; 5, a section ends before its bookend; 6, a
+/// section has a header that the version does not have, or too many rows; 7, the hash of record
+/// `number` does not ascend; 8, the part differs from what the records give; 9, the size should be
+/// `number`; 10, record `number` is malformed; 11, a note: chunk table rows with one first word are
+/// in another order.
 #[repr(C)]
 #[derive(Clone, Copy, Drop)]
 pub struct XetFinding {
@@ -26,9 +26,9 @@ pub struct XetFinding {
     pub number: u64,
 }
 
-/// All that is wrong with the bytes of a shard, to the front of `findings`; nothing if they are,
-/// byte for byte, what the library would write of the records in them, which a shard may have. With
-/// nothing but a note they are so but for the order of rows of the chunk table.
+/// Puts all that is wrong with a shard's bytes to the front of `findings`: nothing if they are what
+/// the library would write of the records in them, which a shard may have; a note alone if they are
+/// so but for the order of rows of the chunk table.
 #[unsafe(no_mangle)]
 pub extern "C" fn xet_check(
     alloc: Global,

@@ -10,7 +10,7 @@ use shard_bytes::chunk_rows::chunk_rows;
 use std::alloc::Global;
 use xet_core_structures::error::{CoreError, Result};
 
-/// A row of a chunk table: the first word of the chunk's hash, the row of the xorb section at which
+/// A row of a chunk table: the first word of a chunk's hash, the row of the xorb section at which
 /// its xorb starts, and its index there.
 #[repr(C)]
 #[derive(Clone, Copy, Drop)]
@@ -20,7 +20,7 @@ pub struct XetChunkRow {
     pub index: u32,
 }
 
-/// The rows of a shard's chunk table, or, without one, those of its chunks in the order of the xorb
+/// Puts the rows of the chunk table, or, without one, those of the chunks in the order of the xorb
 /// section, to the front of `out`.
 #[unsafe(no_mangle)]
 pub extern "C" fn xet_chunk_rows(

@@ -1,4 +1,4 @@
-//! The whole shard of bytes that may end before its tables do.
+//! The shard of bytes that may end before its tables do.
 
 ghost use Rattle.std.specs.Prelude.{◌≡◌, IfOk};
 ghost use Rattle.placed_shards.specs.Filling.{FillsWith};
@@ -22,11 +22,8 @@ use std::alloc::Global;
 use xet_core_structures::error::{CoreError, Result};
 use xet_core_structures::merklehash::{HMACKey, MerkleHash};
 
-/// The shard of which these bytes have the header and both sections, in a version of the format, to
-/// the front of `out`, to which it is written at once.
-///
-/// `InvalidArguments` if the number is that of no version, or the version is 2, which has no
-/// auxiliary rows, and a file has one. Else the errors are those of [`completed`].
+/// Puts the shard of which these bytes have the header and both sections to the front of `out`.
+/// Errors of `version` are as in `xet_convert`, others as in [`completed`].
 #[unsafe(no_mangle)]
 pub extern "C" fn xet_complete(
     alloc: Global,

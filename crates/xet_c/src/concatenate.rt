@@ -1,4 +1,4 @@
-//! Concatenation: one shard made of many whose records follow one another.
+//! Concatenation of shards.
 
 ghost use Rattle.std.specs.Prelude.{◌≡◌, MatchResult, map};
 ghost use Rattle.shard_bytes.specs.Concatenations.{Concatenates};
@@ -10,10 +10,9 @@ use shard_bytes::concatenate::{concatenate_into, concatenate_span_into};
 use std::alloc::Global;
 use xet_core_structures::error::{CoreError, Result};
 
-/// The shard that has the records of all shards, in their order, to the front of `out`, to which it
-/// is written at once. It is of version 2 if all shards are, else of version 3. The hashes of files
-/// and those of xorbs have to ascend from each shard to the next. The errors are those of
-/// [`concatenate_into`].
+/// Puts the shard of all records of these shards, in their order, to the front of `out`: of version
+/// 2 if all are, else 3. Hashes of files, and of xorbs, have to ascend from shard to shard. The
+/// errors are those of [`concatenate_into`].
 #[unsafe(no_mangle)]
 pub extern "C" fn xet_concatenate(
     alloc: Global,
@@ -28,9 +27,9 @@ pub extern "C" fn xet_concatenate(
     answer(filled, out.len(), written)
 }
 
-/// The bytes from the offset `from` on of what [`xet_concatenate`] writes, as many as `out` has.
-/// `size` is that of the whole. If they pass its end, the answer is that of `InvalidArguments`, `out`
-/// stays, and `size` is set too. With the other errors, those of [`concatenate_span_into`], it is 0.
+/// Fills `out` with the bytes from offset `from` on of what [`xet_concatenate`] writes. `size` is
+/// that of the whole. `InvalidArguments` if they pass its end, where `size` is set too; with the
+/// other errors, those of [`concatenate_span_into`], it is 0. After any, `out` stays.
 #[unsafe(no_mangle)]
 pub extern "C" fn xet_concatenate_span(
     alloc: Global,
@@ -46,8 +45,7 @@ pub extern "C" fn xet_concatenate_span(
     answer_span(filled, from, out.len(), size)
 }
 
-// The result of a call that filled `count` bytes from an offset on of so many as were made: 0, the
-// number of `InvalidArguments` if they pass the end, or the number of the error.
+// `InvalidArguments` if `count` bytes from `from` on pass the end.
 fn answer_span(filled: Result<usize>, from: usize, count: usize, size: &mut usize) -> u32
     ensures { MatchResult filled (AnswersSpan from count size.new result)
         (λ error. (result ≡ variant_number error) × (size.new ≡ 0)) }

@@ -1,4 +1,4 @@
-//! The same shard in a version of the format.
+//! Conversion between versions of the format.
 
 ghost use Rattle.std.specs.Prelude.{IfOk};
 ghost use Rattle.placed_shards.specs.Filling.{FillsWith};
@@ -13,11 +13,9 @@ use shard_bytes::version::same_shard;
 use std::alloc::Global;
 use xet_core_structures::error::{CoreError, Result};
 
-/// The same shard in a version of the format, to the front of `out`, to which it is written at
-/// once.
-///
-/// `InvalidArguments` if the number is that of no version, or the version is 2, which has no
-/// auxiliary rows, and a file has one. Else the errors are those of [`same_shard`].
+/// Puts the same shard in a version of the format to the front of `out`. `InvalidArguments` if the
+/// number is that of no version, or the version is 2, which has no auxiliary rows, and a file has
+/// one; else the errors are those of [`same_shard`].
 #[unsafe(no_mangle)]
 pub extern "C" fn xet_convert(
     alloc: Global,

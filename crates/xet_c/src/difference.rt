@@ -16,11 +16,8 @@ use shard_bytes::combine::{Operation, combined};
 use std::alloc::Global;
 use xet_core_structures::error::{CoreError, Result};
 
-/// The records of the second shard whose hashes the first does not have, in a version of the
-/// format, to the front of `out`, to which they are written at once.
-///
-/// `InvalidArguments` if the number is that of no version, or the version is 2, which has no
-/// auxiliary rows, and a file has one. Else the errors are those of [`combined`].
+/// Puts the records of the second shard whose hashes the first does not have to the front of `out`.
+/// Errors of `version` are as in `xet_convert`, others as in [`combined`].
 #[unsafe(no_mangle)]
 pub extern "C" fn xet_difference(
     alloc: Global,

@@ -13,8 +13,7 @@ use shard_bytes::minimal::eligible_chunks;
 use std::alloc::Global;
 use xet_core_structures::error::{CoreError, Result};
 
-/// The hashes of a shard's chunks that the global index keeps, in ascending order, to the front of
-/// `out`.
+/// Puts the hashes of these chunks, in ascending order, to the front of `out`.
 #[unsafe(no_mangle)]
 pub extern "C" fn xet_eligible(
     alloc: Global,

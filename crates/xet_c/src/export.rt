@@ -31,11 +31,8 @@ pub struct XetExportOptions {
     pub without_chunk_table: bool,
 }
 
-/// The shard with its chunk hashes under a key, in a version of the format, to the front of `out`,
-/// to which it is written at once.
-///
-/// `InvalidArguments` if the number is that of no version, or the version is 2, which has no
-/// auxiliary rows, and a file has one. Else the errors are those of [`exported`].
+/// Puts the shard with its chunk hashes under a key to the front of `out`. Errors of `version` are
+/// as in `xet_convert`, others as in [`exported`].
 #[unsafe(no_mangle)]
 pub extern "C" fn xet_export(
     alloc: Global,

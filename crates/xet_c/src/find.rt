@@ -16,9 +16,8 @@ use xet_core_structures::error::{CoreError, Result};
 use xet_core_structures::file_structs::MDBFileInfo;
 use xet_core_structures::merklehash::MerkleHash;
 
-/// What a file's record has: its flags, the number of its segments, whether these have verification
-/// hashes, its SHA-256 and its auxiliary hash, or zeros if it has none, and its reserved word. If
-/// there is no such file, `found` is false and all else is zero.
+/// A file's record. A hash that it does not have is zeros. If there is no such file, `found` is
+/// false and all else is zero.
 #[repr(C)]
 #[derive(Clone, Copy, Drop)]
 pub struct XetFile {
@@ -34,8 +33,7 @@ pub struct XetFile {
 }
 
 /// Looks a file up, and puts its segments to the front of `segments`. If the result is 19 they do
-/// not fit, `file` says how many there are, and `segments` stays as it is. After any other number
-/// but 0 both stay as they are.
+/// not fit, `file` says how many there are, and `segments` stays. After another error both stay.
 #[unsafe(no_mangle)]
 pub extern "C" fn xet_find_file(
     alloc: Global,
@@ -59,7 +57,6 @@ pub extern "C" fn xet_find_file(
     show_file(alloc, 0, &found, &mut place, file, segments)
 }
 
-/// The segments of what was found, for C.
 #[inline(always)]
 pub fn segments_found(alloc: Global, found: &Option<MDBFileInfo>) -> Result<Vec<XetFileSegment>>
     ensures ok { IfOk result (λ list. list.items ≡ segments_in found.now) }
@@ -75,7 +72,6 @@ pub fn segments_found(alloc: Global, found: &Option<MDBFileInfo>) -> Result<Vec<
     }
 }
 
-/// What the record that was found has, for C.
 #[inline(always)]
 pub fn file_of(found: &Option<MDBFileInfo>) -> XetFile
     ensures { result ≡ c_file found.now }

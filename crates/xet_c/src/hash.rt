@@ -7,14 +7,13 @@ use std::alloc::Global;
 use xet_core_structures::error::{CoreError, Result};
 use xet_core_structures::merklehash::MerkleHash;
 
-/// A hash: its words, each of eight bytes, lowest first.
+/// A hash: its words, lowest first.
 #[repr(C)]
 #[derive(Clone, Copy, Drop)]
 pub struct XetHash {
     pub words: [u64; 4],
 }
 
-/// The hashes with these words.
 pub fn hashes_of(alloc: Global, words: &[XetHash]) -> Result<Vec<MerkleHash>>
     ensures ok { IfOk result (λ hashes. map c_hash hashes.items ≡ words.now) }
     ensures causes { IfErr result (λ e. e ≡ CoreError.OutOfMemory) }
@@ -26,7 +25,6 @@ pub fn hashes_of(alloc: Global, words: &[XetHash]) -> Result<Vec<MerkleHash>>
     Ok(hashes)
 }
 
-/// The words of these hashes.
 pub fn words_of(alloc: Global, hashes: &[MerkleHash]) -> Result<Vec<XetHash>>
     ensures ok { IfOk result (λ words. words.items ≡ map c_hash hashes.now) }
     ensures causes { IfErr result (λ e. e ≡ CoreError.OutOfMemory) }
@@ -38,7 +36,6 @@ pub fn words_of(alloc: Global, hashes: &[MerkleHash]) -> Result<Vec<XetHash>>
     Ok(words)
 }
 
-/// The words of this hash.
 pub fn of_hash(hash: &MerkleHash) -> XetHash
     ensures { result ≡ c_hash hash.now }
 {
@@ -47,7 +44,6 @@ pub fn of_hash(hash: &MerkleHash) -> XetHash
     }
 }
 
-/// The words of a hash, or zeros if there is none.
 pub fn words_or_zero(hash: Option<MerkleHash>) -> [u64; 4]
     ensures { result ≡ words_or_zero hash }
 {

@@ -19,7 +19,7 @@ pub extern "C" fn xet_hash_bytes(key: &XetHash, bytes: &[u8], hash: &mut XetHash
     0
 }
 
-/// The keyed hash of a hash: that of its 32 bytes, as keyed exports have it of each chunk hash.
+/// The keyed hash of a hash's 32 bytes, as keyed exports have it of each chunk hash.
 #[unsafe(no_mangle)]
 pub extern "C" fn xet_hmac(key: &XetHash, hash: &XetHash, keyed: &mut XetHash) -> u32
     ensures { (h : DataHash) × (c_hash h ≡ hash.now) × Hashes (λ k. hmac k h) key.now keyed.new result }

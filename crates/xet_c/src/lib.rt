@@ -1,7 +1,6 @@
-//! Shards as bytes, for C and whatever calls C: `bindings/c/xet.h` declares the functions. Nothing
-//! is kept between calls. A function returns 0, or the number of an error: 1 to 18 are the variants
-//! of `CoreError` in their order; 19: the output is larger than the memory given; 20: two shards
-//! disagree; 21: a shard is malformed.
+//! Shards as bytes, for C: `bindings/c/xet.h` declares the functions. They return 0, or the number
+//! of an error: 1 to 18 are the variants of `CoreError` in their order; 19: the output is larger
+//! than the memory given; 20: two shards disagree; 21: a shard is malformed.
 #![tactic(auto)]
 
 mod agree;

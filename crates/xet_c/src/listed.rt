@@ -1,5 +1,4 @@
-//! The structs for lists of records: files and xorbs, with all segments and all chunks in two other
-//! lists.
+//! Files and xorbs in lists, with all segments and all chunks in two other lists.
 
 ghost use Rattle.std.specs.Prelude.{◌≡◌, [], ◌∷◌};
 ghost use Rattle.xet_core_structures.specs.Hash.{words_of};
@@ -18,8 +17,8 @@ use xet_core_structures::xorb_structs::{
     MDBXorbInfo, XorbChunkSequenceEntry, XorbChunkSequenceHeader,
 };
 
-/// A file of a list: its hash, its SHA-256 and its auxiliary hash, its flags, and the number of its
-/// segments. The flags say which of the two hashes it has; the other is zeros.
+/// A file of a list, and the number of its segments. The flags say which of SHA-256 and auxiliary
+/// hash it has; one that it lacks is zeros.
 #[repr(C)]
 #[derive(Clone, Copy, Drop)]
 pub struct XetListedFile {
@@ -30,8 +29,7 @@ pub struct XetListedFile {
     pub segments: u32,
 }
 
-/// A xorb of a list: its hash, its flags, how many of the list of chunks are its own, and its
-/// bytes, unpacked and on disk.
+/// A xorb of a list, the number of its chunks, and its bytes, unpacked and on disk.
 #[repr(C)]
 #[derive(Clone, Copy, Drop)]
 pub struct XetListedXorb {
@@ -42,7 +40,6 @@ pub struct XetListedXorb {
     pub bytes_on_disk: u32,
 }
 
-/// This file, for C.
 pub fn listed_file_of(file: &MDBFileInfo) -> XetListedFile
     ensures { result ≡ c_listed_file file.now }
 {
@@ -58,7 +55,6 @@ pub fn listed_file_of(file: &MDBFileInfo) -> XetListedFile
     }
 }
 
-/// This xorb, for C.
 pub fn listed_xorb_of(xorb: &MDBXorbInfo) -> XetListedXorb
     ensures { result ≡ c_listed_xorb xorb.now }
 {
@@ -73,7 +69,6 @@ pub fn listed_xorb_of(xorb: &MDBXorbInfo) -> XetListedXorb
     }
 }
 
-/// The header of a file of a list.
 pub fn file_header_of(file: &XetListedFile) -> FileDataSequenceHeader
     ensures hash { words_of result.file_hash ≡ file.now.hash }
     ensures flags { result.file_flags ≡ file.now.flags }
@@ -88,7 +83,6 @@ pub fn file_header_of(file: &XetListedFile) -> FileDataSequenceHeader
     }
 }
 
-/// The header of a xorb of a list.
 pub fn xorb_header_of(xorb: &XetListedXorb) -> XorbChunkSequenceHeader
     ensures hash { words_of result.xorb_hash ≡ xorb.now.hash }
     ensures flags { result.xorb_flags ≡ xorb.now.flags }
@@ -105,7 +99,6 @@ pub fn xorb_header_of(xorb: &XetListedXorb) -> XorbChunkSequenceHeader
     }
 }
 
-/// The row of a segment of a list.
 pub fn entry_of(segment: &XetFileSegment) -> FileDataSequenceEntry
     ensures { c_segment result ≡ segment.now.segment }
 {
@@ -119,7 +112,6 @@ pub fn entry_of(segment: &XetFileSegment) -> FileDataSequenceEntry
     }
 }
 
-/// The verification row of a segment of a list.
 pub fn verification_row_of(segment: &XetFileSegment) -> FileVerificationEntry
     ensures hash { words_of result.hash ≡ segment.now.verification }
     ensures reserved { result._unused ≡ 0 ∷ 0 ∷ [] }
@@ -127,7 +119,6 @@ pub fn verification_row_of(segment: &XetFileSegment) -> FileVerificationEntry
     FileVerificationEntry::new(MerkleHash::from(segment.verification))
 }
 
-/// The row of a chunk of a list.
 pub fn chunk_row_of(chunk: &XetChunk) -> XorbChunkSequenceEntry
     ensures { c_chunk result ≡ chunk.now }
 {

@@ -14,9 +14,8 @@ use std::alloc::Global;
 use xet_core_structures::error::CoreError;
 use xet_core_structures::shard_format::MDBShardInfo;
 
-/// All numbers of a shard's header and footer: the version, the rows of the three tables, the key,
-/// times in seconds, sizes, the offsets of the parts in bytes, the size of the footer by the header,
-/// and the footer's version and reserved words.
+/// All numbers of header and footer: rows of the tables, times in seconds, sizes, offsets of the
+/// parts in bytes, and the size of the footer by the header.
 #[repr(C)]
 #[derive(Clone, Copy, Drop)]
 pub struct XetInfo {
@@ -41,8 +40,8 @@ pub struct XetInfo {
     pub reserved: [u64; 6],
 }
 
-/// Reads header and footer of a shard, or of its first 48 and its last 200 bytes. If the result is
-/// not 0, `info` stays as it is.
+/// Reads header and footer of a shard, or of its first 48 and its last 200 bytes. After an error
+/// `info` stays.
 #[unsafe(no_mangle)]
 pub extern "C" fn xet_load(alloc: Global, shard: &[u8], info: &mut XetInfo) -> u32
     ensures { ((i : MDBShardInfo) × HasHeaderAndFooter shard.now i × (info.new ≡ c_info i) × (result ≡ 0))

@@ -1,5 +1,4 @@
-//! The union of a list of shards: of all records or of those in a range of hashes, and of any
-//! shards or of those that are well-formed and agree.
+//! The union of a list of shards.
 
 ghost use Rattle.std.specs.Prelude.{◌≡◌, true, false, List, map, IfOk, MatchResult};
 ghost use Rattle.xet_core_structures.specs.declared.merklehash.DataHash.{DataHash};
@@ -29,9 +28,9 @@ use std::alloc::Global;
 use xet_core_structures::error::{CoreError, Result};
 use xet_core_structures::merklehash::MerkleHash;
 
-/// Which records are merged: those with a hash that is not below `from`, if `has_from` is set, and
-/// is below `to`, if `has_to` is set. Whether they have to be well-formed and to agree, and whether
-/// they are looked for where the tables say.
+/// The records to merge have hashes not below `from`, if `has_from` is set, and below `to`, if
+/// `has_to` is. If `strict`, they have to be well-formed and to agree; if `by_tables`, they are
+/// looked for where the tables say.
 #[repr(C)]
 #[derive(Clone, Copy, Drop)]
 pub struct XetMergeOptions {
@@ -43,17 +42,13 @@ pub struct XetMergeOptions {
     pub by_tables: bool,
 }
 
-/// The union of one shard or more in a version of the format, to the front of `out`, to which it is
-/// written at once.
+/// Puts the union of one shard or more to the front of `out`. Errors of `version` are as in
+/// `xet_convert`, others as in [`merge`] and [`merge_agreeing`].
 ///
-/// If `strict` is asked for, and a record is one that no shard may have, the result is 21, and
-/// `found` is its hash and, twice, the number of the shard. If two records do not agree it is 20,
-/// `differing` is how many hashes have such, and `found` the first of them. With both `written` is
-/// 0, and `out` stays as it is. Else `differing` is 0, and `found` stays as it is.
-///
-/// `InvalidArguments` if the number is that of no version, or the version is 2, which has no
-/// auxiliary rows, and a file has one. Else the errors are those of [`merge`] and of
-/// [`merge_agreeing`].
+/// If `strict` is set, the result is 21 if a record is one that no shard may have, and `found` is
+/// its hash and, twice, its shard's number; or 20 if two records do not agree, `differing` is how
+/// many hashes have such, and `found` the first. `written` is 0 then, and `out` stays. With another
+/// result `found` stays. `differing` is 0 but with 20.
 #[unsafe(no_mangle)]
 pub extern "C" fn xet_merge(
     alloc: Global,
@@ -98,7 +93,6 @@ pub extern "C" fn xet_merge(
     answer(filled, out.len(), written)
 }
 
-// The merge of any shards.
 fn fill<'a>(
     alloc: Global,
     shards: &[&'a [u8]],
@@ -125,7 +119,6 @@ fn fill<'a>(
     merge(alloc, &arena, shards, asked)?.write_into(alloc, version, out)
 }
 
-// The merge of shards that have to be well-formed and to agree.
 fn fill_if_agreeing<'a>(
     alloc: Global,
     shards: &[&'a [u8]],
@@ -146,7 +139,7 @@ fn fill_if_agreeing<'a>(
     }
 }
 
-// Shows a merge of shards that have to agree to an output of so many bytes.
+// `room` is the length of the output.
 fn show(
     filled: Result<Agreed<usize>>,
     room: usize,
@@ -172,7 +165,6 @@ fn show(
     }
 }
 
-// The records that are asked for, as the library takes them.
 fn selection_of(options: &XetMergeOptions) -> Selection
     ensures { AsksForRecords options.now result }
 {
@@ -185,7 +177,6 @@ fn selection_of(options: &XetMergeOptions) -> Selection
     }
 }
 
-// The bound with these words, or none.
 fn bound(has: bool, words: [u64; 4]) -> Option<MerkleHash>
     ensures { IsBound has words result }
 {
@@ -195,7 +186,6 @@ fn bound(has: bool, words: [u64; 4]) -> Option<MerkleHash>
     None
 }
 
-// How records are found.
 fn access(by_tables: bool) -> Access
     ensures { IsAccess by_tables result }
 {

@@ -17,7 +17,7 @@ use std::alloc::Global;
 use xet_core_structures::error::{CoreError, Result};
 use xet_core_structures::file_structs::KeptParts;
 
-/// The creation of a minimal shard in seconds, and which parts its files have.
+/// The creation in seconds, and which parts files have.
 #[repr(C)]
 #[derive(Clone, Copy, Drop)]
 pub struct XetMinimalOptions {
@@ -26,11 +26,8 @@ pub struct XetMinimalOptions {
     pub without_aux_rows: bool,
 }
 
-/// The records of a shard without tables, in a version of the format, to the front of `out`, to
-/// which they are written at once.
-///
-/// `InvalidArguments` if the number is that of no version, or the version is 2, which has no
-/// auxiliary rows, and a file has one. Else the errors are those of [`minimal`].
+/// Puts the records of a shard, without tables, to the front of `out`. Errors of `version` are as
+/// in `xet_convert`, others as in [`minimal`].
 #[unsafe(no_mangle)]
 pub extern "C" fn xet_minimal(
     alloc: Global,
@@ -78,7 +75,6 @@ fn fill(
     minimal(alloc, &arena, shard, options.now, kept)?.write_into(alloc, version, out)
 }
 
-// The parts that files keep.
 fn kept_of(options: &XetMinimalOptions) -> KeptParts
     ensures { result ≡ kept_parts options.entry.now }
 {

@@ -1,4 +1,4 @@
-//! The number of an error, and bytes that are written to the caller's memory.
+//! The numbers of errors, and output to the caller's memory.
 
 ghost use Rattle.std.specs.Prelude.{◌≡◌, MatchResult};
 ghost use Rattle.xet_core_structures.specs.Errors.{variant_number};
@@ -6,22 +6,22 @@ ghost use Rattle.xet_c.specs.Output.{Answers, Delivers, Refuses};
 
 use xet_core_structures::error::{CoreError, Result};
 
-/// A text is not the name of a shard's file: `CoreError::BadFilename`.
+/// `CoreError::BadFilename`.
 pub const XET_BAD_FILENAME: u32 = 6;
 
-/// A text is not the digits of a hash: `CoreError::HashParsing`.
+/// `CoreError::HashParsing`.
 pub const XET_HASH_PARSING: u32 = 16;
 
-/// An allocation failed: `CoreError::OutOfMemory`, the last of the library's own errors, 1 to 18.
+/// `CoreError::OutOfMemory`.
 pub const XET_OUT_OF_MEMORY: u32 = 18;
 
-/// The output does not fit the memory that was given.
+/// The output does not fit the memory given.
 pub const XET_SHORT: u32 = 19;
 
 /// Two shards that have to agree do not.
 pub const XET_DISAGREE: u32 = 20;
 
-/// A shard that has to be well-formed holds a record that no shard may have.
+/// A shard holds a record that no shard may have.
 pub const XET_MALFORMED: u32 = 21;
 
 /// The number of an error, 1 to 18.
@@ -31,9 +31,7 @@ pub fn error_number(error: &CoreError) -> u32
     u32::from(error.variant_number())
 }
 
-/// Copies the items that were made to the front of `out`, and sets `written` to their number, also
-/// if they do not fit. If none were made, `written` is 0. Returns 0, 19 or the number of the error;
-/// if it is not 0, `out` stays as it is.
+/// As [`give`]. After an error `written` is 0, `out` stays, and the error's number is returned.
 pub fn deliver<T: Copy + Drop>(made: Result<Vec<T>>, out: &mut [T], written: &mut usize) -> u32
     ensures { MatchResult made
         (λ items. Delivers items.items out.old out.new written.new result)
@@ -48,8 +46,8 @@ pub fn deliver<T: Copy + Drop>(made: Result<Vec<T>>, out: &mut [T], written: &mu
     }
 }
 
-/// Copies items to the front of `out`, and sets `written` to their number, also if they do not fit.
-/// Returns 0 or, if they do not fit, 19; then `out` stays as it is.
+/// Copies items to the front of `out`, and sets `written` to their number. If they do not fit,
+/// returns 19 instead of 0, and `out` stays.
 pub fn give<T: Copy>(items: &[T], out: &mut [T], written: &mut usize) -> u32
     ensures { Delivers items.now out.old out.new written.new result }
 {
@@ -61,9 +59,8 @@ pub fn give<T: Copy>(items: &[T], out: &mut [T], written: &mut usize) -> u32
     0
 }
 
-/// The result of a call that wrote to an output of `room` bytes itself: 0, 19 or the number of the
-/// error. Sets `written` to the number of bytes that were made, also if they did not fit; if none
-/// were made, to 0.
+/// The result of a call that wrote to `room` bytes itself: 0, 19 or the error's number. `written`
+/// is the number of bytes made, also if they did not fit; after an error, 0.
 pub fn answer(filled: Result<usize>, room: usize, written: &mut usize) -> u32
     ensures { MatchResult filled (Answers room written.new result)
         (λ error. (result ≡ variant_number error) × (written.new ≡ 0)) }

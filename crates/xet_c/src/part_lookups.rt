@@ -1,4 +1,4 @@
-//! Lookups in parts of a shard that the caller has read: a table, and a record.
+//! Lookups in parts of a shard that the caller has read.
 
 ghost use Rattle.std.specs.Prelude.{◌≡◌, ◌⊎◌, ℕ, List, Option, map, IfOk, IfErr, MatchResult};
 ghost use Rattle.std.specs.FinMap as finite;
@@ -36,8 +36,8 @@ pub struct XetChunkPlace {
     pub index: u32,
 }
 
-/// The rows of the section that a file table, or a xorb table, has under this first word of a hash,
-/// to the front of `rows`.
+/// Puts the rows that a file table, or a xorb table, has under this first word of a hash to the
+/// front of `rows`.
 #[unsafe(no_mangle)]
 pub extern "C" fn xet_find_rows(
     alloc: Global,
@@ -89,8 +89,7 @@ fn rows_with(alloc: Global, table: &[u8], word: u64) -> Result<Vec<u32>>
     Ok(found)
 }
 
-/// The places that a chunk table has under this first word of a chunk's hash, to the front of
-/// `places`.
+/// As [`xet_find_rows`], but the places that a chunk table has.
 #[unsafe(no_mangle)]
 pub extern "C" fn xet_find_places(
     alloc: Global,
@@ -138,8 +137,8 @@ fn places_of(alloc: Global, places: &[(u32, u32)]) -> Result<Vec<XetChunkPlace>>
     Ok(shown)
 }
 
-/// Reads the file's record at the front of some bytes of a shard of this version, and puts its
-/// segments to the front of `segments`, as `xet_file_at` does. Its row counts as 0.
+/// As `xet_file_at` for the record at the front of some bytes of a shard of this version. Its row
+/// counts as 0.
 #[unsafe(no_mangle)]
 pub extern "C" fn xet_file_in(
     alloc: Global,
@@ -159,8 +158,7 @@ pub extern "C" fn xet_file_in(
     show_file(alloc, 0, &found, place, file, segments)
 }
 
-/// Reads the xorb's record at the front of some bytes of a shard, and puts its chunks to the front
-/// of `chunks`, as `xet_xorb_at` does. Its row counts as 0.
+/// As `xet_xorb_at` for the record at the front of some bytes. Its row counts as 0.
 #[unsafe(no_mangle)]
 pub extern "C" fn xet_xorb_in(
     alloc: Global,

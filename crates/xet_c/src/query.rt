@@ -12,8 +12,8 @@ use std::alloc::Global;
 use xet_core_structures::error::{CoreError, Result};
 use xet_core_structures::file_structs::FileDataSequenceEntry;
 
-/// Looks for a run of chunks with these hashes: `count` is how many chunks it has, and `run` where
-/// they are. If there is none, or the result is not 0, `count` is 0 and `run` stays as it is.
+/// Looks for a run of chunks with these hashes: `count` is how many it has, and `run` where they
+/// are. If there is none, or after an error, `count` is 0 and `run` stays.
 #[unsafe(no_mangle)]
 pub extern "C" fn xet_query_chunks(
     alloc: Global,
@@ -42,9 +42,8 @@ fn query(
     query_chunks(alloc, shard, hashes.as_slice())
 }
 
-/// Looks for the run of these hashes that starts at the chunk with this index, of the xorb at this
-/// row: `count` is how many chunks it has, and `run` where they are. If the chunk has another hash
-/// than the first, or the result is not 0, `count` is 0 and `run` stays as it is.
+/// As [`xet_query_chunks`] for the run from chunk `index` on of the xorb at `row`. There is none if
+/// this chunk has another hash than the first.
 #[unsafe(no_mangle)]
 pub extern "C" fn xet_query_at(
     alloc: Global,
@@ -76,7 +75,6 @@ fn run_at(
     query_at(alloc, shard, hashes.as_slice(), row, index)
 }
 
-// Shows a run that was found, or that there is none.
 fn show_run(
     found: &Result<Option<(usize, FileDataSequenceEntry)>>,
     count: &mut usize,

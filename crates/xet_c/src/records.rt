@@ -17,7 +17,7 @@ use xet_core_structures::error::{CoreError, Result};
 use xet_core_structures::file_structs::MDBFileInfo;
 use xet_core_structures::xorb_structs::{MDBXorbInfo, XorbChunkSequenceEntry};
 
-/// How many files, segments, xorbs and chunks there are.
+/// How many records there are.
 #[repr(C)]
 #[derive(Clone, Copy, Drop)]
 pub struct XetCounts {
@@ -27,9 +27,8 @@ pub struct XetCounts {
     pub chunks: usize,
 }
 
-/// All records of a shard, to the fronts of four lists: files and their segments, xorbs and their
-/// chunks. `counts` says how many there are of each, also if they do not fit; then all lists stay
-/// as they are. After an error the counts are 0.
+/// Puts all records of a shard to the fronts of four lists. `counts` says how many there are of
+/// each, also if they do not fit; then all lists stay. After an error the counts are 0.
 #[unsafe(no_mangle)]
 pub extern "C" fn xet_records(
     alloc: Global,
@@ -53,7 +52,6 @@ pub extern "C" fn xet_records(
     show_records(alloc, &found, files, segments, xorbs, chunks, counts)
 }
 
-// Shows records that were read, unless an allocation fails.
 fn show_records(
     alloc: Global,
     found: &Result<Records>,
@@ -103,7 +101,6 @@ fn show_records(
     0
 }
 
-// The four lists of records.
 #[derive(Drop)]
 struct Lists {
     files: Vec<XetListedFile>,
@@ -190,7 +187,6 @@ fn push_chunks(chunks: &mut Vec<XetChunk>, entries: &[XorbChunkSequenceEntry]) -
     Ok(())
 }
 
-// Copies items to the front of an output that has room for them.
 fn put<T: Copy>(items: &[T], out: &mut [T])
     requires { length items.now ≤ length out.old }
     ensures { IsPut items.now out.old out.new }

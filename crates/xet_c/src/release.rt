@@ -2,8 +2,7 @@
 
 ghost use Rattle.std.specs.Prelude.{◌≡◌};
 
-/// The version of the library as a number: 10000 times the first of its three numbers, 100 times
-/// the second, and the third.
+/// The version as a number: 10000 times the first of three, 100 times the second, and the third.
 #[unsafe(no_mangle)]
 pub extern "C" fn xet_version() -> u32
     ensures { result ≡ 200 }

@@ -19,7 +19,7 @@ pub struct XetSegment {
     pub end: u32,
 }
 
-/// A segment of a file, and the hash of its verification row, or zeros if the file has none.
+/// A segment, and the hash of its verification row, or zeros if the file has none.
 #[repr(C)]
 #[derive(Clone, Copy, Drop)]
 pub struct XetFileSegment {
@@ -27,7 +27,6 @@ pub struct XetFileSegment {
     pub verification: [u64; 4],
 }
 
-/// The segments of a file with these verification rows, for C.
 #[inline(always)]
 pub fn segments_of(
     alloc: Global,
@@ -47,7 +46,6 @@ pub fn segments_of(
     Ok(segments)
 }
 
-// The hash of the verification row at an index, or zeros if there is none.
 fn verification_of(rows: &[FileVerificationEntry], index: usize) -> [u64; 4]
     ensures { result
         ≡ words_or_zero (option_map (λ row. row.hash) (slice_get rows.now index)) }
@@ -55,7 +53,6 @@ fn verification_of(rows: &[FileVerificationEntry], index: usize) -> [u64; 4]
     words_or_zero(rows.get(index).map(|row| row.range_hash))
 }
 
-/// This segment, for C.
 pub fn segment_of(entry: &FileDataSequenceEntry) -> XetSegment
     ensures { result ≡ c_segment entry.now }
 {

@@ -18,8 +18,8 @@ use shard_bytes::minimal::{KeptXorbs, Subset, subset_of};
 use std::alloc::Global;
 use xet_core_structures::error::{CoreError, Result};
 
-/// The times of a subset in seconds, where an expiry of 0 means none, and whether it has all xorbs
-/// or only those that are listed.
+/// The times in seconds, where an expiry of 0 means none, and whether all xorbs are kept or those
+/// listed.
 #[repr(C)]
 #[derive(Clone, Copy, Drop)]
 pub struct XetSubsetOptions {
@@ -28,11 +28,8 @@ pub struct XetSubsetOptions {
     pub all: bool,
 }
 
-/// A shard of some xorbs of a shard, and no files, in a version of the format, to the front of
-/// `out`, to which it is written at once.
-///
-/// `InvalidArguments` if the number is that of no version. Else the errors are those of
-/// [`subset_of`].
+/// Puts a shard of some xorbs of a shard, and no files, to the front of `out`. `InvalidArguments`
+/// if the number is that of no version; else the errors are those of [`subset_of`].
 #[unsafe(no_mangle)]
 pub extern "C" fn xet_subset(
     alloc: Global,

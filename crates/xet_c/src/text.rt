@@ -16,7 +16,7 @@ use xet_core_structures::error::{CoreError, Result};
 use xet_core_structures::merklehash::MerkleHash;
 use xet_core_structures::utils::{parse_shard_filename, shard_file_name};
 
-/// The 64 digits of a hash, to the front of `out`.
+/// Puts the 64 digits of a hash to the front of `out`.
 #[unsafe(no_mangle)]
 pub extern "C" fn xet_hash_to_hex(
     alloc: Global,
@@ -31,8 +31,7 @@ pub extern "C" fn xet_hash_to_hex(
     deliver(text_bytes(text), out, written)
 }
 
-/// Reads a hash from its 64 hexadecimal digits, of either case. The error of any other text is that
-/// of `HashParsing`, and `hash` stays as it is.
+/// Reads 64 hexadecimal digits, of either case. `HashParsing` for any other text, and `hash` stays.
 #[unsafe(no_mangle)]
 pub extern "C" fn xet_hash_from_hex(text: &[u8], hash: &mut XetHash) -> u32
     ensures { Reads Spells IsHexText text.now 16 hash.old hash.new result }
@@ -46,8 +45,7 @@ pub extern "C" fn xet_hash_from_hex(text: &[u8], hash: &mut XetHash) -> u32
     }
 }
 
-/// The name of the file of the shard with this hash, its 64 digits and `.mdb`, to the front of
-/// `out`.
+/// Puts the name of a shard's file, the 64 digits of this hash and `.mdb`, to the front of `out`.
 #[unsafe(no_mangle)]
 pub extern "C" fn xet_shard_name(
     alloc: Global,
@@ -62,9 +60,8 @@ pub extern "C" fn xet_shard_name(
     deliver(text_bytes(name), out, written)
 }
 
-/// Reads the hash in the name of a shard file: 64 hexadecimal digits of either case, and `.mdb`.
-/// The error of any other text, such as a path, is that of `BadFilename`, and `hash` stays as it
-/// is.
+/// Reads the hash of such a name, with digits of either case. `BadFilename` for any other text,
+/// such as a path, and `hash` stays.
 #[unsafe(no_mangle)]
 pub extern "C" fn xet_parse_shard_name(name: &[u8], hash: &mut XetHash) -> u32
     ensures { Reads NamesShard IsShardName name.now 6 hash.old hash.new result }
@@ -104,7 +101,6 @@ fn hash_of_name(bytes: &[u8]) -> Option<MerkleHash>
     parse_shard_filename(name)
 }
 
-// The bytes as text, which ASCII is.
 fn text_of(bytes: &[u8]) -> Option<&str>
     ensures { MatchOption result (¬ IsAscii bytes.now) (λ text. text.now ≡ bytes.now) }
 {

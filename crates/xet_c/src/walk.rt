@@ -1,4 +1,4 @@
-//! Walking through the sections of a shard, one record after another.
+//! Walking through the sections of a shard.
 
 ghost use Rattle.std.specs.Prelude.{◌≡◌, ◌⊎◌, ◌+◌, ◌^◌, ◌≤◌, Option, map, IfOk, IfErr};
 ghost use Rattle.xet_core_structures.specs.declared.file_structs.MDBFileInfo.{MDBFileInfo};
@@ -19,8 +19,8 @@ use xet_core_structures::xorb_structs::{
     MDBXorbInfo, XorbChunkSequenceEntry, XorbChunkSequenceHeader,
 };
 
-/// The hash and the flags of the record at a row, and the row of the next record. At the section's
-/// bookend hash and flags are zero, and the row is that of the bookend.
+/// The hash and flags of the record at a row, and the row of the next. At the bookend hash and
+/// flags are zero, and the row is its own.
 #[repr(C)]
 #[derive(Clone, Copy, Drop)]
 pub struct XetPlace {
@@ -29,8 +29,8 @@ pub struct XetPlace {
     pub next: u64,
 }
 
-/// A xorb's record: the number of its chunks, and its bytes, unpacked and on disk. At the section's
-/// bookend `found` is false and all else is zero.
+/// A xorb's record: the number of its chunks, and its bytes, unpacked and on disk. At the bookend
+/// `found` is false and all else is zero.
 #[repr(C)]
 #[derive(Clone, Copy, Drop)]
 pub struct XetXorb {
@@ -51,9 +51,8 @@ pub struct XetChunk {
     pub reserved: u32,
 }
 
-/// Reads the record at a row of the file section, and puts its segments to the front of `segments`.
-/// If the result is 19 they do not fit, `file` says how many there are, and `segments` stays as it
-/// is. After any other number but 0 all outputs stay as they are.
+/// As `xet_find_file` for the record at a row of the file section, with its place, which an error
+/// other than 19 leaves as it is.
 #[unsafe(no_mangle)]
 pub extern "C" fn xet_file_at(
     alloc: Global,
@@ -73,7 +72,6 @@ pub extern "C" fn xet_file_at(
     show_file(alloc, row, &found, place, file, segments)
 }
 
-/// Shows what was found at a row, unless an allocation fails.
 #[inline(always)]
 pub fn show_file(
     alloc: Global,
@@ -124,7 +122,6 @@ fn place(hash: MerkleHash, flags: u32, next: u64) -> XetPlace
     }
 }
 
-// The place of the bookend at a row: no hash, no flags, and its own row as the next.
 fn bookend(row: u32) -> XetPlace
     ensures { result ≡ c_bookend row }
 {
@@ -135,9 +132,7 @@ fn bookend(row: u32) -> XetPlace
     }
 }
 
-/// Reads the record at a row of the xorb section, and puts its chunks to the front of `chunks`. If
-/// the result is 19 they do not fit, `xorb` says how many there are, and `chunks` stays as it is.
-/// After any other number but 0 all outputs stay as they are.
+/// As [`xet_file_at`] for the xorb section, with `xorb` and `chunks`.
 #[unsafe(no_mangle)]
 pub extern "C" fn xet_xorb_at(
     alloc: Global,
@@ -156,7 +151,6 @@ pub extern "C" fn xet_xorb_at(
     show_xorb(alloc, row, &found, place, xorb, chunks)
 }
 
-/// Shows what was found at a row, unless an allocation fails.
 pub fn show_xorb(
     alloc: Global,
     row: u32,
@@ -196,7 +190,7 @@ fn xorb_place(row: u32, found: &Option<MDBXorbInfo>) -> XetPlace
     }
 }
 
-// The rows of the xorb with this header, which is one of them.
+// The header is one row.
 fn rows_of(header: XorbChunkSequenceHeader) -> u64
     ensures rows { result ≡ 1 + header.num_entries }
     ensures bound { result ≤ 2 ^ 32 }
@@ -244,7 +238,6 @@ fn chunks_of(alloc: Global, entries: &[XorbChunkSequenceEntry]) -> Result<Vec<Xe
     Ok(chunks)
 }
 
-/// A chunk as C has it.
 pub fn chunk_of(entry: &XorbChunkSequenceEntry) -> XetChunk
     ensures { result ≡ c_chunk entry.now }
 {

@@ -29,13 +29,12 @@ use xet_core_structures::rows::Rows;
 use xet_core_structures::shard_writer::LayoutOptions;
 use xet_core_structures::xorb_structs::{MDBXorbInfo, XorbChunkSequenceEntry};
 
-/// The shard that has these files and xorbs, in a version of the format, to the front of `out`, to
-/// which it is written at once. The first file has the first segments of the list, as many as it
-/// says, the second the segments behind them, and so on; xorbs have their chunks in the same way.
-/// An expiry of 2^64 - 1 means none.
+/// Puts the shard of these files and xorbs to the front of `out`. Each file has the next segments
+/// of the list, as many as it says, and each xorb the next chunks. An expiry of 2^64 - 1 means
+/// none.
 ///
 /// `InvalidArguments` if the number is that of no version, if counts do not add up, or if no shard
-/// has these records, or none of this version. `OutOfMemory` if an allocation fails.
+/// has these records, or none of this version; `OutOfMemory`.
 #[unsafe(no_mangle)]
 pub extern "C" fn xet_write(
     alloc: Global,
@@ -81,8 +80,7 @@ fn fill(
     shard.write_into(alloc, version, out)
 }
 
-// The files of a list, with the segments of another. `InvalidArguments` if the counts of segments
-// do not add up.
+// `InvalidArguments` if counts do not add up.
 fn files_of(
     alloc: Global,
     listed: &[XetListedFile],
@@ -110,7 +108,6 @@ fn files_of(
     Ok(files)
 }
 
-// The first `count` items.
 fn first_items<T>(items: &[T], count: usize) -> &[T]
     requires { count ≤ length items.now }
     ensures { result.now ≡ take count items.now }
@@ -118,7 +115,6 @@ fn first_items<T>(items: &[T], count: usize) -> &[T]
     &items[..count]
 }
 
-// The items after the first `count`.
 fn items_after<T>(items: &[T], count: usize) -> &[T]
     requires { count ≤ length items.now }
     ensures { result.now ≡ drop count items.now }
@@ -126,7 +122,6 @@ fn items_after<T>(items: &[T], count: usize) -> &[T]
     &items[count..]
 }
 
-// The record of a file of a list that has these segments.
 fn file_of(alloc: Global, file: &XetListedFile, segments: &[XetFileSegment]) -> Result<MDBFileInfo>
     ensures ok { IfOk result (IsListedFile file.now segments.now) }
     ensures causes { IfErr result (λ e. e ≡ CoreError.OutOfMemory) }
@@ -147,7 +142,6 @@ fn file_of(alloc: Global, file: &XetListedFile, segments: &[XetFileSegment]) -> 
     })
 }
 
-// The metadata row of these words, if there is one.
 fn sha256_row(has_row: bool, words: [u64; 4]) -> Option<FileMetadataExt>
     ensures { AreHashRows (if_flagged has_row (words ∷ [])) (option_to_list result) }
 {
@@ -158,7 +152,6 @@ fn sha256_row(has_row: bool, words: [u64; 4]) -> Option<FileMetadataExt>
     }
 }
 
-// The auxiliary row of these words, if there is one.
 fn aux_row(has_row: bool, words: [u64; 4]) -> Option<FileAuxExt>
     ensures { AreHashRows (if_flagged has_row (words ∷ [])) (option_to_list result) }
 {
@@ -169,7 +162,6 @@ fn aux_row(has_row: bool, words: [u64; 4]) -> Option<FileAuxExt>
     }
 }
 
-// The rows of segments.
 fn entries_of(alloc: Global, segments: &[XetFileSegment]) -> Result<Vec<FileDataSequenceEntry>>
     ensures ok { IfOk result
         (λ entries. map c_segment entries.items ≡ map (λ s. s.segment) segments.now) }
@@ -194,8 +186,7 @@ fn verification_of(alloc: Global, segments: &[XetFileSegment]) -> Result<Vec<Fil
     Ok(rows)
 }
 
-// The xorbs of a list, with the chunks of another. `InvalidArguments` if the counts of chunks do
-// not add up.
+// `InvalidArguments` if counts do not add up.
 fn xorbs_of(
     alloc: Global,
     listed: &[XetListedXorb],
@@ -223,7 +214,6 @@ fn xorbs_of(
     Ok(xorbs)
 }
 
-// The record of a xorb of a list that has these chunks.
 fn xorb_of(alloc: Global, xorb: &XetListedXorb, chunks: &[XetChunk]) -> Result<MDBXorbInfo>
     ensures ok { IfOk result (IsListedXorb xorb.now chunks.now) }
     ensures causes { IfErr result (λ e. e ≡ CoreError.OutOfMemory) }
