@@ -1,4 +1,4 @@
-//! The union of a list of shards that have to be well-formed, and to agree.
+//! The union of shards that have to agree.
 
 ghost use Rattle.std.specs.Prelude.{map, IfOk, MatchResult};
 ghost use Rattle.placed_shards.specs.MergedLists.{MergeRefusal};
@@ -13,12 +13,11 @@ use std::alloc::Global;
 use xet_core_structures::error::Result;
 use xet_core_structures::record_reader::FormatVersion;
 
-/// The bytes that [`merge_bytes`](crate::merge::merge_bytes) makes, if the records of the shards in the
-/// range are well-formed and agree pairwise. Then they are those of their join, under the key that all
-/// shards have, in any order of the list.
+/// As [`merge_bytes`](crate::merge::merge_bytes), but only if the records in the range are
+/// well-formed and agree pairwise.
 ///
-/// The errors are those of [`merge_agreeing`]; `InvalidArguments` also if a file of the union has an
-/// auxiliary row, and the version is 2, which has none.
+/// Fails as [`merge_agreeing`] does; `InvalidArguments` for an auxiliary row of the union in
+/// version 2.
 pub fn merge_agreeing_bytes<'a>(
     alloc: Global,
     shards: &[&'a [u8]],

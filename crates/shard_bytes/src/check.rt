@@ -1,4 +1,4 @@
-//! Checks of a shard: would the library write the same bytes for its records?
+//! Checks of a shard: would the library write the same bytes?
 
 ghost use Rattle.std.specs.Prelude.{◌≡◌, ◌↔◌, [], ◌∷◌, ◌++◌, map, All, Contains, MatchOption, MatchResult, OnOk, IfOk, IfErr, IsTrue, if◌then◌else◌};
 ghost use Rattle.std.specs.List.{slice_range};
@@ -34,7 +34,7 @@ use xet_core_structures::record_reader::FormatVersion;
 use xet_core_structures::shard_format::{HEADER_SIZE, MDBShardFileFooter, MDBShardInfo};
 use xet_core_structures::shard_writer::{LayoutOptions, bytes_from};
 
-/// One of the two sections of a shard.
+/// A section of a shard.
 #[derive(Clone, Copy, Debug, PartialEq, Eq)]
 pub enum Section {
     Files,
@@ -56,36 +56,32 @@ pub enum Part {
 /// What is not as the library would write it.
 #[derive(Clone, Copy, Debug, PartialEq, Eq)]
 pub enum Finding {
-    /// The format of the bytes is not supported.
+    /// The format is not supported.
     Unsupported(Format),
     /// There are too few bytes for a header and a footer.
     TooShort,
     /// The bytes end before the section's bookend.
     Cut(Section),
-    /// The section has a header that the shard's version does not have, or more than 4294967295
-    /// rows.
+    /// The section has a header that the version lacks, or more than 4294967295 rows.
     Refused(Section),
-    /// The hash of the record at this index, from 0 on, is not greater than that of the record
-    /// before it. It is the first such record of the section.
+    /// The hash at this index, from 0 on, is the first of the section that is not greater than the
+    /// one before.
     OutOfOrder(Section, usize),
-    /// The record at this index, from 0 on, is malformed. A file is if it has an unknown flag, or a
-    /// reserved word that is not zero, in its header or in a row of an optional part; a xorb, if
-    /// its chunks have more than 4294967295 bytes together.
+    /// The record at this index, from 0 on, is malformed: a file has an unknown flag, or a reserved
+    /// word that is not zero in its header or a row of an optional part; the chunks of a xorb pass
+    /// 4294967295 bytes together.
     Malformed(Section, usize),
-    /// The part is not the one that the records give. In a section this is its bookend, since its
-    /// records are those that were read.
+    /// The part differs from what the records give; in a section, this is its bookend.
     Differs(Part),
-    /// The chunk table has the rows that the records give, but rows with the same first word stand
-    /// in another order than the library writes. It is a note: nothing is lost, and the original
-    /// implementation leaves such rows in any order.
+    /// A note: rows of the chunk table with the same first word stand in another order, as the
+    /// original implementation may leave them.
     Reordered,
-    /// The size is not this one, in bytes, which the records give.
+    /// The records give this other size, in bytes.
     Size(usize),
 }
 
 impl Finding {
-    /// Whether this is a note: the bytes differ from what the library would write, but nothing is
-    /// lost.
+    /// Whether this is a note: nothing is lost by it.
     pub fn is_note(&self) -> bool
         ensures { IsTrue result ↔ IsNote self.now }
     {
@@ -96,16 +92,14 @@ impl Finding {
     }
 }
 
-/// All findings about the bytes of a shard. If they cannot be read, this is the only finding.
+/// All findings about the bytes of a shard; just one if they cannot be read.
 ///
-/// There is none exactly if the library would write the same bytes for the records in them, with
-/// the same version, key, timestamps and tables, and if these records are well-formed and their
-/// hashes strictly ascend. A table is in if the footer says that it has rows. There are only notes
-/// exactly if that is so but for the order of rows of the chunk table with the same first word.
-/// Then the bytes hold a well-formed shard. If such shards have one key and agree pairwise, each
-/// tree with a union over all of them gives the same bytes.
+/// There is none exactly if the library would write these bytes for their records, version, key,
+/// timestamps and the tables that have rows by the footer, and the records are well-formed and
+/// their hashes strictly ascend; there are only notes exactly if that is so but for the order of
+/// rows of the chunk table with the same first word. Then the bytes hold a well-formed shard.
 ///
-/// `OutOfMemory` if an allocation fails. No other error.
+/// Fails only with `OutOfMemory`.
 pub fn check_bytes(alloc: Global, bytes: &[u8]) -> Result<Vec<Finding>>
     ensures whole { IfOk result (λ findings. (findings.items ≡ []) ↔ IsWhole bytes.now) }
     ensures intact { IfOk result (λ findings. All IsNote findings.items ↔ IsIntact bytes.now) }
@@ -121,7 +115,6 @@ pub fn check_bytes(alloc: Global, bytes: &[u8]) -> Result<Vec<Finding>>
     }
 }
 
-// The finding of bytes of which header and footer cannot be read, by the error of reading them.
 fn load_finding(bytes: &[u8], error: CoreError) -> Finding
     requires { LoadRefusal bytes.now error }
     ensures { IsUnloaded bytes.now result }
@@ -132,7 +125,6 @@ fn load_finding(bytes: &[u8], error: CoreError) -> Finding
     }
 }
 
-// Checks the bytes of a shard with this header and footer.
 fn check_sections(alloc: Global, bytes: &[u8], info: &MDBShardInfo) -> Result<Vec<Finding>>
     requires { HasHeaderAndFooter bytes.now info.now }
     ensures report { IfOk result (λ findings. IsReport bytes.now findings.items) }
@@ -166,7 +158,6 @@ fn check_sections(alloc: Global, bytes: &[u8], info: &MDBShardInfo) -> Result<Ve
     Ok(findings)
 }
 
-// The one finding of bytes that have no such section, by the error of reading it.
 fn section_findings(alloc: Global, section: Section, error: CoreError) -> Result<Vec<Finding>>
     ensures report { IfOk result (λ findings. IsUnreadable section error findings.items) }
     ensures causes { IfErr result (λ e. e ≡ CoreError.OutOfMemory) }
@@ -187,7 +178,6 @@ fn single_finding(alloc: Global, finding: Finding) -> Result<Vec<Finding>>
     Ok(findings)
 }
 
-// Adds the first record that is out of order, if there is one.
 fn push_disorder<'a, P: PlacedRecord<'a>>(
     findings: &mut Vec<Finding>,
     section: Section,
@@ -204,7 +194,6 @@ fn push_disorder<'a, P: PlacedRecord<'a>>(
     Ok(())
 }
 
-// The index of the first record whose hash is not greater than that of the record before it.
 fn first_out_of_order<'a, P: PlacedRecord<'a>>(records: &[P]) -> Option<usize>
     ensures { MatchOption result (IsStrictlySortedBy hash_cmp (map (hash_in P.kind) records.now))
         (λ index. IsOutOfOrder index (map (hash_in P.kind) records.now)) }
@@ -217,7 +206,6 @@ fn first_out_of_order<'a, P: PlacedRecord<'a>>(records: &[P]) -> Option<usize>
     None
 }
 
-// Whether the second record's hash is greater than that of the first.
 fn ascend<'a, P: PlacedRecord<'a>>(first: &P, second: &P) -> bool
     ensures { IsTrue result
         ↔ (hash_cmp (hash_in P.kind first.now) (hash_in P.kind second.now) ≡ Less) }
@@ -225,7 +213,6 @@ fn ascend<'a, P: PlacedRecord<'a>>(first: &P, second: &P) -> bool
     first.hash().cmp(&second.hash()) == Ordering::Less
 }
 
-// Adds what differs from the shard of the same records as the library writes it.
 fn push_differences(
     alloc: Global,
     findings: &mut Vec<Finding>,
@@ -250,7 +237,6 @@ fn push_differences(
     compare(alloc, findings, bytes, info, written, &footer)
 }
 
-// Adds each part that differs from the one that was written, which has this footer, and the size.
 fn compare(
     alloc: Global,
     findings: &mut Vec<Finding>,
@@ -274,7 +260,6 @@ fn compare(
     push_size(findings, bytes, written)
 }
 
-// Adds a part, if it differs.
 fn push_part(
     findings: &mut Vec<Finding>,
     part: Part,
@@ -292,7 +277,6 @@ fn push_part(
     push_unless(findings, same, Finding::Differs(part))
 }
 
-// Adds the chunk table, if it differs, or if its rows stand in another order.
 fn push_chunk_table(
     alloc: Global,
     findings: &mut Vec<Finding>,
@@ -314,7 +298,6 @@ fn push_chunk_table(
     }
 }
 
-// The finding about a chunk table, compared with the one that was written.
 fn table_finding(alloc: Global, written: &[u8], found: &[u8]) -> Result<Option<Finding>>
     requires { IsWrittenTable written.now }
     ensures { MatchResult result (FindsInTable written.now found.now)
@@ -330,7 +313,6 @@ fn table_finding(alloc: Global, written: &[u8], found: &[u8]) -> Result<Option<F
     }
 }
 
-// Adds the size, if it differs.
 fn push_size(findings: &mut Vec<Finding>, bytes: &[u8], written: &[u8]) -> Result<()>
     ensures added { OnOk result
         (AddsSize bytes.now written.now findings.old.items findings.new.items) }
@@ -352,8 +334,6 @@ fn push_unless(findings: &mut Vec<Finding>, holds: bool, finding: Finding) -> Re
     Ok(())
 }
 
-// Whether a part is the same in the bytes, which end in a footer that was read, and in those that
-// were written.
 fn is_same_part(
     part: Part,
     bytes: &[u8],
@@ -409,7 +389,6 @@ fn is_same_part(
     }
 }
 
-// Whether two byte strings have the same bytes from one offset up to another, as far as they go.
 fn have_same_bytes(bytes: &[u8], written: &[u8], start: u64, end: u64) -> bool
     ensures { IsTrue result
         ↔ (slice_range bytes.now start end ≡ slice_range written.now start end) }

@@ -1,4 +1,4 @@
-//! The places of all chunks of a shard, from which an index over many shards can be made.
+//! The places of all chunks of a shard.
 
 ghost use Rattle.std.specs.Prelude.{◌≡◌, MatchResult};
 ghost use Rattle.xet_core_structures.specs.declared.error.CoreError.{CoreError};
@@ -11,13 +11,11 @@ use xet_core_structures::error::{CoreError, Result};
 use xet_core_structures::shard_format::MDBShardInfo;
 use xet_core_structures::source::MemorySource;
 
-/// For each chunk of a shard, the first word of its hash, and as a pair the row of the xorb section
-/// at which its xorb starts and its index in the xorb. These are the rows of the chunk table, or,
-/// if the shard has none, the chunks of the xorb section in order. Hashes are under the shard's
-/// key, if it has one.
+/// The first word of each chunk's hash, under the shard's key if it has one, with the row at which
+/// its xorb starts and its index in it: the chunk table, or, if there is none, the xorb section in
+/// order.
 ///
-/// The errors are those of [`MDBShardInfo::load_from_reader`] and
-/// [`MDBShardInfo::read_all_truncated_hashes`].
+/// Fails as [`MDBShardInfo::load_from_reader`] and [`MDBShardInfo::read_all_truncated_hashes`] do.
 pub fn chunk_rows(alloc: Global, bytes: &[u8]) -> Result<Vec<(u64, (u32, u32))>>
     ensures any_bytes { MatchResult result (λ found. HasChunkRows bytes.now found.items)
         (RefusesChunkRows bytes.now) }

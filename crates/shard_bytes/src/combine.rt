@@ -1,4 +1,4 @@
-//! Union and difference of two shards, from their bytes.
+//! Union and difference of two shards.
 
 ghost use Rattle.std.specs.Prelude.{length, IfOk, MatchResult};
 ghost use Rattle.placed_shards.specs.Content.{content};
@@ -15,19 +15,17 @@ use std::alloc::Global;
 use xet_core_structures::error::Result;
 use xet_core_structures::record_reader::FormatVersion;
 
-/// What is made of two shards: their union, or the second's records whose hashes the first does not
-/// have.
+/// The union of two shards, or the second's records whose hashes the first lacks.
 #[derive(Clone, Copy)]
 pub enum Operation {
     Union,
     Difference,
 }
 
-/// The bytes, in a version of the format, of the result of an operation on two shards, from their
-/// bytes: at most 344 and 8/3 of those of both, or of the second for a difference.
+/// The bytes of [`combined`]: at most 344 and 8/3 of both inputs', or of the second's for a
+/// difference.
 ///
-/// The errors are those of [`combined`]; `InvalidArguments` also if a file of the result has an
-/// auxiliary row, and the version is 2, which has none.
+/// Fails as it does; `InvalidArguments` for an auxiliary row of the result in version 2.
 pub fn combine_bytes<'a>(
     alloc: Global,
     operation: Operation,
@@ -46,9 +44,9 @@ pub fn combine_bytes<'a>(
     combined(alloc, &arena, operation, first, second)?.to_bytes(alloc, version)
 }
 
-/// The result of an operation on two shards, from their bytes. The first is read before the second.
+/// The result of an operation on two shards, the first of which is read first.
 ///
-/// The errors are those of [`open`], and of [`union`] or [`difference`].
+/// Fails as [`open`] does, and as [`union`] or [`difference`].
 pub fn combined<'a>(
     alloc: Global,
     arena: &'a Bump,

@@ -1,4 +1,4 @@
-//! Completes a shard whose bytes stop after its sections, as those of a stream that was cut.
+//! Completing a shard whose bytes stop after its sections.
 
 ghost use Rattle.std.specs.Prelude.{◌≡◌, List, length, IfOk, MatchResult};
 ghost use Rattle.xet_core_structures.specs.declared.error.CoreError.{CoreError};
@@ -21,14 +21,10 @@ use xet_core_structures::merklehash::HMACKey;
 use xet_core_structures::record_reader::FormatVersion;
 use xet_core_structures::shard_writer::LayoutOptions;
 
-/// The bytes of the shard of which these bytes have the header and both sections, whatever comes
-/// after these, if anything. It is in version 3, with all tables, creation 0 and no expiry, and its
-/// footer says that its chunk hashes are under `key`; a key of zeros is none. They are at most 344
-/// and 4/3 of the given bytes.
-///
-/// `ShardVersion` if the header is unsupported, `UnexpectedEof` if the bytes end before both
-/// sections do, `InvalidShard` if the version does not have the header of a file or the rows of a
-/// section pass 4294967295, `OutOfMemory` if an allocation fails.
+/// Completes bytes that have the header and both sections of a shard, whatever comes after these:
+/// in version 3, with all tables, creation 0, no expiry, and chunk hashes said to be under `key`;
+/// zeros are none. The result has at most 344 and 4/3 of the given bytes. Fails as
+/// [`open_behind_header`] does.
 pub fn complete_bytes(alloc: Global, bytes: &[u8], key: HMACKey) -> Result<Vec<u8>>
     ensures completed { MatchResult result (λ whole. Completes key bytes.now whole.items)
         (RefusesCompletion bytes.now) }
@@ -40,8 +36,7 @@ pub fn complete_bytes(alloc: Global, bytes: &[u8], key: HMACKey) -> Result<Vec<u
     completed(alloc, bytes, key)?.to_bytes(alloc, FormatVersion::V3)
 }
 
-/// The shard of which these bytes have the header and both sections, with all tables, creation 0, no
-/// expiry, and its chunk hashes said to be under `key`. The errors are those of [`complete_bytes`].
+/// The shard whose bytes [`complete_bytes`] makes, with its errors.
 pub fn completed<'a>(alloc: Global, bytes: &'a [u8], key: HMACKey) -> Result<PlacedShard<'a>>
     ensures { MatchResult result
         (λ shard. (files : List MDBFileInfo) × (xorbs : List MDBXorbInfo)

@@ -1,4 +1,4 @@
-//! Setting the expiry of a shard, and nothing else.
+//! Setting the expiry of a shard.
 
 ghost use Rattle.std.specs.Prelude.{◌≡◌, ◌⊎◌, Some, MatchResult};
 ghost use Rattle.xet_core_structures.specs.TwoShards.ByteResults.{LoadRefusal};
@@ -12,9 +12,8 @@ use std::alloc::Global;
 use xet_core_structures::error::{CoreError, Result};
 use xet_core_structures::shard_format::FOOTER_SIZE;
 
-/// The bytes of a shard with another expiry, a timestamp in seconds; all else stays.
-///
-/// The errors are those of [`load_bytes`], and `OutOfMemory`.
+/// The bytes of a shard with another expiry, in seconds; all else stays. Fails as [`load_bytes`]
+/// does, and with `OutOfMemory`.
 pub fn with_expiry(alloc: Global, bytes: Vec<u8>, expiry: u64) -> Result<Vec<u8>>
     ensures any_bytes { MatchResult result (λ changed. HasNewExpiry expiry bytes.items changed.items)
         (λ e. (e ≡ CoreError.OutOfMemory) ⊎ LoadRefusal bytes.items e) }
@@ -28,7 +27,7 @@ pub fn with_expiry(alloc: Global, bytes: Vec<u8>, expiry: u64) -> Result<Vec<u8>
     changed.truncate(changed.len() - FOOTER_SIZE as usize);
     match footer.serialize(&mut changed) {
         Ok(_) => Ok(changed),
-        // Writing to a vector fails only if it is out of memory.
+        // Writing to a vector fails only so.
         Err(_) => Err(CoreError::OutOfMemory),
     }
 }

@@ -28,7 +28,7 @@ use xet_core_structures::record_reader::FormatVersion;
 use xet_core_structures::shard_format::MDBShardInfo;
 use xet_core_structures::shard_writer::LayoutOptions;
 
-/// The key of an export, its times in seconds, and which parts it has.
+/// The key of an export, its times in seconds, and its parts.
 #[derive(Clone, Copy)]
 pub struct Export {
     pub key: HMACKey,
@@ -37,8 +37,7 @@ pub struct Export {
     pub parts: ExportParts,
 }
 
-/// Whether an export has files, with their auxiliary rows or without, and which of the other
-/// tables.
+/// Whether an export has files, with their auxiliary rows or without, and the other tables.
 #[derive(Clone, Copy)]
 pub struct ExportParts {
     pub files: bool,
@@ -47,11 +46,9 @@ pub struct ExportParts {
     pub chunk_table: bool,
 }
 
-/// The bytes, in a version of the format, of a keyed export of a shard, from its bytes: at most 344
-/// and 4/3 of those.
+/// The bytes of [`exported`]: at most 344 and 4/3 of the given ones.
 ///
-/// The errors are those of [`exported`]; `InvalidArguments` also if a file of the export has an
-/// auxiliary row, and the version is 2, which has none.
+/// Fails as it does; `InvalidArguments` for an auxiliary row of the export in version 2.
 pub fn export_bytes(
     alloc: Global,
     bytes: &[u8],
@@ -76,17 +73,17 @@ pub fn export_bytes(
     exported(alloc, &arena, bytes, export)?.to_bytes(alloc, version)
 }
 
-// Does nothing. It says that the words of a key and a time have 64 bits.
+// They have 64 bits.
 fn words_fit(key: HMACKey, now: u64)
     ensures key { IsHash key }
     ensures now { now < 2 ^ 64 }
 {}
 
-/// The shard that is exported of a shard, from its bytes: with its chunk hashes under a key, its
-/// files with those of their parts and the tables that are asked for, and times.
+/// A shard with its chunk hashes under a key, and with the files, tables and times that are asked
+/// for.
 ///
-/// `InvalidArguments` if the shard has a key already, or the expiry does not fit 64 bits. Else the
-/// errors are those of [`MDBShardInfo::load_from_reader`], and of reading header and sections.
+/// `InvalidArguments` if the shard has a key already, or the expiry does not fit 64 bits. Else
+/// fails as [`load_bytes`] and [`open_behind_header`] do.
 pub fn exported<'a>(
     alloc: Global,
     arena: &'a Bump,
@@ -108,7 +105,6 @@ pub fn exported<'a>(
     shard.with_keyed_hashes(alloc, arena, export.key)
 }
 
-// The shard with its files or without.
 fn with_files_if<'a>(shard: PlacedShard<'a>, wanted: bool) -> PlacedShard<'a>
     ensures content { content result ≡ record (content shard.entry) {
       files = if_included wanted (content shard.entry).files;
@@ -118,7 +114,6 @@ fn with_files_if<'a>(shard: PlacedShard<'a>, wanted: bool) -> PlacedShard<'a>
     if wanted { shard } else { shard.without_files() }
 }
 
-// The layout options of an export of a shard with this footer.
 fn export_options(info: &MDBShardInfo, export: &Export) -> Result<LayoutOptions>
     ensures { MatchResult result
         (λ options. (options ≡ options_of_export export.entry.now)
@@ -144,11 +139,9 @@ fn export_options(info: &MDBShardInfo, export: &Export) -> Result<LayoutOptions>
     })
 }
 
-/// Does nothing. Its contract says what a shard's export holds, of any bytes in which the shard
-/// follows the header (`held`), and that, without a key and with an expiry that fits 64 bits, it
-/// fails only if an allocation does (`refused`). The shard that bytes hold follows the header if the
-/// footer's offsets are those of sections right behind the header (`by_footer`), and in bytes in
-/// which [`check_bytes`](crate::check::check_bytes) finds nothing but notes (`intact`).
+/// Does nothing: the export of a shard that follows the header holds it, and fails only with
+/// `OutOfMemory` if it has no key and the expiry fits 64 bits. Where
+/// [`check_bytes`](crate::check::check_bytes) finds only notes, a shard follows the header.
 pub fn exports_hold_the_shard()
     ensures held { (x : Export) → (s : Shard) → (bytes out : List ℕ) → IsHash x.key
         → x.now < 2 ^ 64 → IsShard s → FollowsHeader s bytes → ExportsBytes x bytes out

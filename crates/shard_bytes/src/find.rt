@@ -1,4 +1,4 @@
-//! Looking up a file in the bytes of a shard.
+//! Looking up a file.
 
 ghost use Rattle.std.specs.Prelude.{◌≡◌, ◌⊎◌, ◌<◌, ◌≤◌, ◌^◌, ℕ, Option, length, IfOk, IfSome, MatchResult};
 ghost use Rattle.xet_core_structures.specs.FileRecord.{FitsItsHeader};
@@ -14,10 +14,10 @@ use xet_core_structures::merklehash::MerkleHash;
 use xet_core_structures::shard_format::MDBShardInfo;
 use xet_core_structures::source::MemorySource;
 
-/// Looks up the file with this hash in the bytes of a shard: its record, or `None`.
+/// The record of the file with this hash, or `None`.
 ///
-/// The errors are those of [`MDBShardInfo::load_from_reader`] and
-/// [`MDBShardInfo::get_file_reconstruction_info`].
+/// Fails as [`MDBShardInfo::load_from_reader`] and [`MDBShardInfo::get_file_reconstruction_info`]
+/// do.
 pub fn find_file(alloc: Global, bytes: &[u8], hash: &MerkleHash) -> Result<Option<MDBFileInfo>>
     ensures any_bytes { MatchResult result (FindsFile bytes.now hash.now)
         (RefusesFile bytes.now hash.now) }

@@ -1,4 +1,4 @@
-//! Why bytes are not in a supported format: no tag, another version, or no footer.
+//! Why bytes are not in a supported format.
 
 ghost use Rattle.xet_core_structures.specs.Ends.{IsUnsupported};
 ghost use Rattle.shard_bytes.specs.Format.{IsUnsupportedFor};
@@ -12,13 +12,12 @@ use xet_core_structures::shard_format::{MDBShardFileHeader, TAG_SIZE};
 pub enum Format {
     /// The first 32 bytes are not the tag of a shard.
     NoTag,
-    /// The header has this version, which is neither 2 nor 3.
+    /// The header has this version, neither 2 nor 3.
     OtherVersion(u64),
     /// The last 200 bytes do not begin with the version of a footer.
     NoFooter,
 }
 
-/// Why the format of these bytes is not supported.
 pub(crate) fn unsupported_for(bytes: &[u8]) -> Format
     requires { IsUnsupported bytes.now }
     ensures { IsUnsupportedFor bytes.now result }

@@ -1,5 +1,4 @@
-//! Operations on shards that are byte strings in memory: each takes the bytes of shards, and
-//! returns bytes or an answer. The caller makes no source, reader or writer.
+//! Operations on the bytes of shards in memory.
 #![tactic(auto)]
 
 pub mod agree;

@@ -1,4 +1,4 @@
-//! Turns errors of calls on memory into those that a caller can meet: no device is involved.
+//! Errors of calls on memory.
 
 ghost use Rattle.std.specs.Prelude.{◌≡◌, ◌⊎◌};
 ghost use Rattle.xet_core_structures.specs.Errors.{IsWriteError};
@@ -6,8 +6,7 @@ ghost use Rattle.xet_core_structures.specs.Errors.{IsWriteError};
 use std::io::ErrorKind;
 use xet_core_structures::error::CoreError;
 
-/// The error of a call that reads slices and writes vectors. No device enters it, so an `Io` that
-/// is not the end of the input is a failed allocation.
+/// An `Io` that is not the end of the input is a failed allocation, as no device is involved.
 pub fn in_memory(error: CoreError) -> CoreError
     ensures { ((result ≡ CoreError.OutOfMemory) × IsWriteError error)
         ⊎ ((result ≡ error) × (¬ IsWriteError error)) }

@@ -1,4 +1,4 @@
-//! The union of a list of shards, whole or in a range of hashes.
+//! The union of shards.
 
 ghost use Rattle.std.specs.Prelude.{◌≡◌, List, map, length, IfOk, MatchResult};
 ghost use Rattle.placed_shards.specs.MergedLists.{IsMergeOf, MergeRefusal, IsMergeOfList, shard_content};
@@ -15,12 +15,10 @@ use std::alloc::Global;
 use xet_core_structures::error::Result;
 use xet_core_structures::record_reader::FormatVersion;
 
-/// The bytes, in a version of the format, of the union of the records in a range of one shard or more,
-/// from their bytes: at most 344 and 8/3 of the inputs'. Of shards that agree pairwise they are those
-/// of the records of the shards' join in the range, in any order of the list.
+/// The bytes of the union of the records in a range: at most 344 and 8/3 of the inputs'. Of shards
+/// that agree pairwise it is the join, in any order of the list.
 ///
-/// The errors are those of [`merge`]; `InvalidArguments` also if a file of the union has an auxiliary
-/// row, and the version is 2, which has none.
+/// Fails as [`merge`] does; `InvalidArguments` for an auxiliary row of the union in version 2.
 pub fn merge_bytes<'a>(
     alloc: Global,
     shards: &[&'a [u8]],

@@ -1,4 +1,4 @@
-//! Minimal shards, subsets of xorbs, and the chunks that the global index keeps.
+//! Minimal shards, subsets of xorbs, and chunks of the global index.
 
 ghost use Rattle.std.specs.Prelude.{◌≡◌, ◌⊎◌, ◌↔◌, true, length, IfOk, IsTrue, MatchResult, map};
 ghost use Rattle.std.specs.List.{Any};
@@ -37,7 +37,7 @@ pub enum KeptXorbs {
     Listed(Vec<MerkleHash>),
 }
 
-/// The times of a subset in seconds, and the xorbs that it keeps.
+/// The times of a subset in seconds, and its xorbs.
 #[derive(Drop)]
 pub struct Subset {
     pub now: u64,
@@ -45,11 +45,9 @@ pub struct Subset {
     pub kept: KeptXorbs,
 }
 
-/// The bytes, in a version of the format, of the minimal shard of a shard, with these parts of its
-/// files, from its bytes: at most 200 more.
+/// The bytes of [`minimal`]: at most 200 more than the given ones.
 ///
-/// The errors are those of [`minimal`]; `InvalidArguments` also if a file has an auxiliary row, and
-/// the version is 2, which has none.
+/// Fails as it does; `InvalidArguments` for an auxiliary row of the result in version 2.
 pub fn minimal_bytes(
     alloc: Global,
     bytes: &[u8],
@@ -67,12 +65,10 @@ pub fn minimal_bytes(
     minimal(alloc, &arena, bytes, now, kept)?.to_bytes(alloc, version)
 }
 
-/// The minimal shard of a shard, with these parts of its files, from its bytes.
+/// The minimal shard of a shard, with these parts of its files.
 ///
-/// `ShardVersion` if the header is unsupported, `UnexpectedEof` if the bytes end before both
-/// sections do, `InvalidShard` if the version does not have the header of a file or the rows of a
-/// section pass 4294967295, `Io` of kind `Other` if verification rows are to be kept and a file has
-/// none, `OutOfMemory` if an allocation fails.
+/// Fails as [`open_behind_header`] does; `Io` of kind `Other` if verification rows are to be kept
+/// and a file has none.
 pub fn minimal<'a>(
     alloc: Global,
     arena: &'a Bump,
@@ -91,7 +87,6 @@ pub fn minimal<'a>(
     Ok(shard.with_options(LayoutOptions::minimal(now, None)))
 }
 
-// Whether a file has no verification rows.
 fn lack_verification(files: &[PlacedFile<'_>]) -> bool
     ensures { IsTrue result ↔ Any (LacksVerification true) files.now }
 {
@@ -100,9 +95,7 @@ fn lack_verification(files: &[PlacedFile<'_>]) -> bool
         .any(|file| !file.header().contains_verification())
 }
 
-/// The bytes, in a version of the format, of a shard with some of the xorbs and none of the files of
-/// a shard, from its bytes: at most 200 more. Without files, each version has all records. The errors
-/// are those of [`subset_of`].
+/// The bytes of [`subset_of`]: at most 200 more than the given ones. Fails as it does.
 pub fn subset_bytes(
     alloc: Global,
     bytes: &[u8],
@@ -118,10 +111,8 @@ pub fn subset_bytes(
     subset_of(alloc, &arena, bytes, chosen)?.to_bytes(alloc, version)
 }
 
-/// Some of the xorbs and none of the files of a shard, from its bytes, with a mark at each chunk at
-/// which one of the files starts. The listed hashes may be in any order.
-///
-/// The errors are those of [`minimal`], but that no file has to have verification rows.
+/// Some xorbs and none of the files of a shard, with a mark at each chunk at which a file starts.
+/// The listed hashes may be in any order. Fails as [`open_behind_header`] does.
 pub fn subset_of<'a>(
     alloc: Global,
     arena: &'a Bump,
@@ -136,7 +127,6 @@ pub fn subset_of<'a>(
     Ok(shard.with_options(LayoutOptions::minimal(chosen.now, chosen.expiry)))
 }
 
-// The shard with those of its xorbs that a subset keeps.
 fn with_kept_xorbs<'a>(
     alloc: Global,
     shard: PlacedShard<'a>,
@@ -157,9 +147,8 @@ fn with_kept_xorbs<'a>(
     }
 }
 
-/// The given hashes that no xorb of a shard has, in their order, from the shard's bytes.
-///
-/// The errors are those of [`MDBMinimalShard::from_reader`].
+/// The given hashes that no xorb of a shard has, in their order. Fails as
+/// [`MDBMinimalShard::from_reader`] does.
 pub fn hashes_without_xorb(
     alloc: Global,
     bytes: &[u8],
@@ -175,7 +164,6 @@ pub fn hashes_without_xorb(
     }
 }
 
-// The given hashes that no xorb has, in their order.
 fn hashes_lacked(
     alloc: Global,
     shard: &MDBMinimalShard,
@@ -209,10 +197,8 @@ fn xorb_hashes(
     Ok(hashes)
 }
 
-/// The hashes of the chunks of a shard that the global index keeps, from its bytes, in ascending
-/// order.
-///
-/// The errors are those of [`MDBMinimalShard::from_reader`].
+/// The hashes of the chunks that the global index keeps, in ascending order. Fails as
+/// [`MDBMinimalShard::from_reader`] does.
 pub fn eligible_chunks(alloc: Global, bytes: &[u8]) -> Result<Vec<MerkleHash>>
     ensures { MatchResult result (λ hashes. EligibleIn bytes.now hashes.items)
         (InMemory (RefusesMinimal bytes.now)) }

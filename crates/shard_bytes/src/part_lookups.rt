@@ -1,6 +1,4 @@
-//! Lookups in parts of a shard that were read by themselves: in the bytes of a lookup table, or in
-//! the bytes from the row of a record on. The first 48 and the last 200 bytes, put together, are
-//! enough for [`load_bytes`](crate::load::load_bytes), so a file of a remote shard takes few reads.
+//! Lookups in a table or a record that was read by itself.
 
 ghost use Rattle.std.specs.Prelude.{◌≡◌, ◌≢◌, ◌<◌, ◌≤◌, ◌+◌, ◌*◌, ◌%◌, ◌/◌, ◌^◌, ◌∷◌, ℕ, Contains, List, Option, Some, length, IfOk, IsOkAnd, MatchResult};
 ghost use Rattle.std.specs.FinMap as finite;
@@ -40,13 +38,12 @@ use xet_core_structures::shard_format::{
 use xet_core_structures::source::MemorySource;
 use xet_core_structures::xorb_structs::MDBXorbInfo;
 
-/// Looks for the first word of a hash in rows of a file table or a xorb table. Puts the rows of the
-/// section at which the records with this word start at the front of `rows`, and returns how many
-/// these are, fewer than eight. Entries past them are unchanged. Part of the table is enough, if it
-/// has all rows with the word.
+/// Puts the rows at which the records whose hashes have this first word start, fewer than eight, at
+/// the front of `rows`, and returns their number. The table, of files or of xorbs, may be a part
+/// that has all rows with the word.
 ///
-/// `InvalidArguments` if the size of the table is no multiple of 12 bytes, the size of a row.
-/// `TruncatedHashCollision` with the word if eight or more rows have it.
+/// `InvalidArguments` if its size is no multiple of 12 bytes; `TruncatedHashCollision` with the
+/// word if eight or more rows have it.
 pub fn find_rows(alloc: Global, table: &[u8], word: u64, rows: &mut [u32; 8]) -> Result<usize>
     ensures table { MatchResult result (FindsRowsIn table.now word rows.old rows.new)
         (RefusesTableRows table.now word) }
@@ -62,7 +59,6 @@ pub fn find_rows(alloc: Global, table: &[u8], word: u64, rows: &mut [u32; 8]) ->
     search_starts(alloc, table, word, rows)
 }
 
-// Searches a file table or a xorb table.
 fn search_starts(alloc: Global, table: &[u8], word: u64, rows: &mut [u32; 8]) -> Result<usize>
     ensures { MatchResult result (FindsRowsIn table.now word rows.old rows.new)
         (RefusesTableRows table.now word) }
@@ -73,13 +69,10 @@ fn search_starts(alloc: Global, table: &[u8], word: u64, rows: &mut [u32; 8]) ->
     info.get_file_info_index_by_hash(alloc, &mut source, &hash_with_word(word), rows)
 }
 
-/// Looks for the first word of a chunk's hash in the bytes of a chunk table. Puts the places of up
-/// to eight chunks with this word at the front of `places`: the row of the xorb section at which
-/// the xorb starts, and the index of the chunk in it. Returns how many these are; entries past them
-/// are unchanged. The table has the words of hashes under the shard's key, if it has one. Part of it
-/// is enough, if it has all rows with the word.
+/// As [`find_rows`], but of a chunk table, whose words are under the shard's key, if it has one: up
+/// to eight chunks, each by the row at which its xorb starts and its index in it.
 ///
-/// `InvalidArguments` if the size of the table is no multiple of 16 bytes, the size of a row.
+/// Fails only with `InvalidArguments` if the size is no multiple of 16 bytes.
 pub fn find_places(
     alloc: Global,
     table: &[u8],
@@ -110,7 +103,7 @@ fn search_chunks(
     info.get_xorb_info_index_by_chunk(alloc, &mut source, &hash_with_word(word), places)
 }
 
-// The number of rows of a table, each of `row_size` bytes. `InvalidArguments` if the last is cut.
+// `InvalidArguments` if the last row is cut.
 fn row_count_of(table: &[u8], row_size: u64) -> Result<u64>
     requires { 0 < row_size }
     ensures { MatchResult result
@@ -125,20 +118,14 @@ fn row_count_of(table: &[u8], row_size: u64) -> Result<u64>
     Ok(size / row_size)
 }
 
-// A hash with this first word; a search in a table looks at no other.
 fn hash_with_word(word: u64) -> MerkleHash
     ensures { result ≡ record { word0 = word; word1 = 0; word2 = 0; word3 = 0 } }
 {
     MerkleHash::from([word, 0, 0, 0])
 }
 
-/// Does nothing. Its contract says that lookups in parts are lookups in all bytes. A file is looked
-/// up by [`find_rows`], in a part of the file table that has all rows with the first word of its
-/// hash, and by [`file_in`] at the rows that are found, until a file has the hash. What this gives
-/// meets each contract of [`find_file`](crate::find::find_file): on any bytes that one
-/// (`any_file`), of a shard's bytes it is the file that the shard has (`file`). The same is said of
-/// xorbs. [`find_places`] and [`query_at`](crate::query::query_at) at these places are
-/// [`query_chunks`](crate::query::query_chunks).
+/// Does nothing: lookups in parts find what [`find_file`](crate::find::find_file) and
+/// [`query_chunks`](crate::query::query_chunks) find in all bytes.
 pub fn parts_are_enough()
     ensures any_file { (shard : List ℕ) → (info : MDBShardInfo) → (hash : DataHash)
         → (answer : Option MDBFileInfo) → length shard < 2 ^ 64 → HasHeaderAndFooter shard info
@@ -165,11 +152,8 @@ pub fn parts_are_enough()
         → RunAmong no_key (q ∷ qs) (finite.values s.xorbs) answer }
 {}
 
-/// Does nothing. Its contract says when a part of a table has all rows with a word: always if it is
-/// the whole table (`whole`). In a sorted table it is enough that the part begins with a smaller
-/// word, or at the table's start, and ends with a greater one, or at its end (`around`). Tables of
-/// shards are sorted (`sorted`). The rows that [`find_rows`] finds are those at which records start
-/// (`starts`).
+/// Does nothing: part of a shard's table has all rows with a word if it begins with a smaller word
+/// or at the start, and ends with a greater one or at the end.
 pub fn parts_have_rows()
     ensures whole { (t : Table) → (part : List ℕ) → (word : ℕ) → t.start ≤ length t.bytes
         → IsCut t.bytes t.start ((8 + t.width) * t.rows) part → HasRowsWith t part word }
@@ -188,12 +172,11 @@ pub fn parts_have_rows()
         × (xorb.metadata.xorb_hash.word0 ≡ word) }
 {}
 
-/// The file whose record begins these bytes, or `None` if a section's bookend does. The version is
-/// the number in the shard's header. The bytes of a shard from a row of its file section on, and as
-/// far as the record goes, give the file at this row.
+/// The file whose record begins these bytes, or `None` at a section's bookend.
 ///
-/// `InvalidArguments` if the version is neither 2 nor 3, `UnexpectedEof` if the record does not end
-/// in these bytes. Else the errors are those of [`MDBShardInfo::read_file_info`].
+/// `InvalidArguments` if the version, that of the shard's header, is neither 2 nor 3;
+/// `UnexpectedEof` if the record does not end in these bytes. Else fails as
+/// [`MDBShardInfo::read_file_info`] does.
 pub fn file_in(alloc: Global, version: u64, bytes: &[u8]) -> Result<Option<MDBFileInfo>>
     ensures any_bytes { MatchResult result (HasFileIn version bytes.now)
         (RefusesFileIn version bytes.now) }
@@ -211,7 +194,6 @@ pub fn file_in(alloc: Global, version: u64, bytes: &[u8]) -> Result<Option<MDBFi
     read_file(alloc, version, bytes)
 }
 
-// Reads the file whose record begins these bytes.
 fn read_file(alloc: Global, version: u64, bytes: &[u8]) -> Result<Option<MDBFileInfo>>
     ensures { MatchResult result (HasFileIn version bytes.now) (RefusesFileIn version bytes.now) }
 {
@@ -226,12 +208,7 @@ fn read_file(alloc: Global, version: u64, bytes: &[u8]) -> Result<Option<MDBFile
     unless_bookend(info.read_file_info(alloc, &mut source, 0))
 }
 
-/// The xorb whose record begins these bytes, or `None` if a section's bookend does. The bytes of a
-/// shard from a row of its xorb section on, and as far as the record goes, give the xorb at this
-/// row.
-///
-/// `UnexpectedEof` if the record does not end in these bytes. Else the errors are those of
-/// [`MDBShardInfo::read_xorb_info`].
+/// As [`file_in`], but of a xorb. Fails as [`MDBShardInfo::read_xorb_info`] does.
 pub fn xorb_in(alloc: Global, bytes: &[u8]) -> Result<Option<MDBXorbInfo>>
     ensures any_bytes { MatchResult result (HasXorbIn bytes.now) (RefusesXorbIn bytes.now) }
     ensures in_shard { (shard : List ℕ) → (info : MDBShardInfo) → (row : ℕ)
@@ -248,7 +225,6 @@ pub fn xorb_in(alloc: Global, bytes: &[u8]) -> Result<Option<MDBXorbInfo>>
     read_xorb(alloc, bytes)
 }
 
-// Reads the xorb whose record begins these bytes.
 fn read_xorb(alloc: Global, bytes: &[u8]) -> Result<Option<MDBXorbInfo>>
     ensures { MatchResult result (HasXorbIn bytes.now) (RefusesXorbIn bytes.now) }
 {

@@ -1,4 +1,4 @@
-//! Looking for a run of chunks in the bytes of a shard.
+//! Looking for runs of chunks.
 
 ghost use Rattle.std.specs.Prelude.{◌<◌, ◌^◌, ℕ, Option, IfSome, IsOkAnd, MatchResult};
 ghost use Rattle.std.specs.FinMap as finite;
@@ -18,11 +18,9 @@ use xet_core_structures::merklehash::MerkleHash;
 use xet_core_structures::shard_format::MDBShardInfo;
 use xet_core_structures::source::MemorySource;
 
-/// Looks for a run of these chunks in the bytes of a shard: its number of chunks, and their
-/// segment, or `None`.
+/// Looks for a run of these chunks: its number of chunks and their segment, or `None`.
 ///
-/// The errors are those of [`MDBShardInfo::load_from_reader`] and
-/// [`MDBShardInfo::chunk_hash_dedup_query`].
+/// Fails as [`MDBShardInfo::load_from_reader`] and [`MDBShardInfo::chunk_hash_dedup_query`] do.
 pub fn query_chunks(
     alloc: Global,
     bytes: &[u8],
@@ -38,13 +36,11 @@ pub fn query_chunks(
     info.chunk_hash_dedup_query(alloc, &mut source, hashes)
 }
 
-/// The run of chunks with these hashes that begins at one place: at the chunk at `index`, from 0
-/// on, of the xorb at `row` of the xorb section. Returns its number of chunks, and their segment,
-/// or `None` if no hash is given or that chunk has another hash than the first. So the places that
-/// an index of chunks has for the first word of a hash can be tried.
+/// As [`query_chunks`], but only at the chunk at `index`, from 0 on, of the xorb at `row` of the
+/// xorb section.
 ///
-/// The errors are those of [`MDBShardInfo::load_from_reader`] and
-/// [`MDBShardInfo::chunk_hash_dedup_query_direct`].
+/// Fails as [`MDBShardInfo::load_from_reader`] and [`MDBShardInfo::chunk_hash_dedup_query_direct`]
+/// do.
 pub fn query_at(
     alloc: Global,
     bytes: &[u8],

@@ -1,4 +1,4 @@
-//! Writing a shard from lists of its records, and reading all its records, in one call each.
+//! Writing records, and reading them.
 
 ghost use Rattle.std.specs.Prelude.{◌≡◌, ◌⊎◌, ◌^◌, ◌<◌, ℕ, List, Option, IfOk, IfErr, IfSome, OnOk, MatchResult};
 ghost use Rattle.std.specs.FinMap as finite;
@@ -19,20 +19,18 @@ use xet_core_structures::shard_writer::LayoutOptions;
 use xet_core_structures::source::MemorySource;
 use xet_core_structures::xorb_structs::MDBXorbInfo;
 
-/// The records of a shard, files and xorbs each in the order of their section.
+/// The records of a shard, in the order of their sections.
 #[derive(Debug, PartialEq, Drop)]
 pub struct Records {
     pub files: Vec<MDBFileInfo>,
     pub xorbs: Vec<MDBXorbInfo>,
 }
 
-/// The bytes of the shard that has these records, in a version of the format, with all tables,
-/// without a key, with creation 0 and with an expiry in seconds or none. The records may be in any
-/// order; of two files, or two xorbs, with one hash the later one counts.
+/// The bytes of the shard of these records in any order, with all tables, no key, creation 0, and
+/// an expiry in seconds or none. Of two files, or two xorbs, with one hash the later counts.
 ///
-/// `InvalidArguments` if a record is ill-formed, if after some record the rows of the files or of
-/// the xorbs pass 4294967295, or if the version is 2 and a file has an auxiliary row. `OutOfMemory`
-/// if an allocation fails.
+/// `InvalidArguments` if a record is ill-formed, if after some record the rows of a section pass
+/// 4294967295, or for an auxiliary row of the shard in version 2; or `OutOfMemory`.
 pub fn write_records(
     alloc: Global,
     files: Vec<MDBFileInfo>,
@@ -56,17 +54,15 @@ pub fn write_records(
     shard.to_bytes(alloc, version)
 }
 
-// Does nothing. It says that an expiry has 64 bits.
+// An expiry has 64 bits.
 fn seconds_fit(expiry: Option<u64>)
     ensures { IfSome expiry (λ e. e < 2 ^ 64) }
 {}
 
-/// The records of the sections at the offsets in the footer of a shard's bytes, in their order. No
-/// table is read, so the shard may have none. Chunk hashes are as stored: under the shard's key, if
-/// it has one.
+/// The records of the sections to which the footer leads, chunk hashes as stored. No table is read.
 ///
-/// The errors are those of [`MDBShardInfo::load_from_reader`],
-/// [`MDBShardInfo::read_all_file_info_sections`] and [`MDBShardInfo::read_all_xorb_blocks_full`].
+/// Fails as [`MDBShardInfo::load_from_reader`], [`MDBShardInfo::read_all_file_info_sections`] and
+/// [`MDBShardInfo::read_all_xorb_blocks_full`] do.
 pub fn read_records(alloc: Global, bytes: &[u8]) -> Result<Records>
     ensures any_bytes { MatchResult result (HasRecords bytes.now) (RefusesRecords bytes.now) }
     ensures written { (s : Shard) → IsBytesOf s bytes.now
@@ -82,10 +78,8 @@ pub fn read_records(alloc: Global, bytes: &[u8]) -> Result<Records>
     Ok(Records { files, xorbs })
 }
 
-/// Does nothing. Its contract says that [`write_records`] admits the records of a well-formed shard
-/// in the order in which [`read_records`] gives them, and that they make this shard again. So the
-/// bytes of a shard in version 3, with all tables, without a key and with creation 0, are written
-/// again from what is read of them, given their expiry.
+/// Does nothing: [`write_records`] makes a well-formed shard again from what [`read_records`]
+/// gives.
 pub fn read_records_are_written_again()
     ensures admitted { (s : Shard) → IsShard s
         → CanAddRecords (finite.values s.files) (finite.values s.xorbs) }

@@ -1,4 +1,4 @@
-//! The same shard in a version of the format.
+//! A shard in a version of the format.
 
 ghost use Rattle.std.specs.Prelude.{length, IfOk, MatchResult};
 ghost use Rattle.placed_shards.specs.Content.{content};
@@ -14,12 +14,9 @@ pub use xet_core_structures::record_reader::FormatVersion;
 use xet_core_structures::shard_format::MDBShardInfo;
 use xet_core_structures::shard_writer::LayoutOptions;
 
-/// Rewrites a shard of either version in a version, with the same records in the same order, key,
-/// timestamps and tables. A table is in if the footer says that it has rows. They are at most 344
-/// and 4/3 of those.
+/// The bytes of [`same_shard`] in a version: at most 344 and 4/3 of the given ones.
 ///
-/// `InvalidArguments` if a file has an auxiliary row, and the version is 2, which has none. Else the
-/// errors are those of [`same_shard`].
+/// Fails as it does; `InvalidArguments` for an auxiliary row in version 2.
 pub fn bytes_in_version(alloc: Global, bytes: &[u8], version: FormatVersion) -> Result<Vec<u8>>
     ensures written { MatchResult result (λ written. IsInVersion version bytes.now written.items)
         (RefusesVersion version bytes.now) }
@@ -28,10 +25,8 @@ pub fn bytes_in_version(alloc: Global, bytes: &[u8], version: FormatVersion) -> 
     same_shard(alloc, bytes)?.to_bytes(alloc, version)
 }
 
-/// The shard that bytes hold right behind their header, with the key, timestamps and tables of their
-/// footer.
-///
-/// The errors are those of [`MDBShardInfo::load_from_reader`], and of reading header and sections.
+/// The shard that bytes hold right behind their header, with the key and timestamps of their footer
+/// and the tables that have rows by it. Fails as [`load_bytes`] and [`open_behind_header`] do.
 pub fn same_shard<'a>(alloc: Global, bytes: &'a [u8]) -> Result<PlacedShard<'a>>
     ensures { MatchResult result (λ shard. IsSameShard bytes.now (content shard))
         (RefusesSameShard bytes.now) }

@@ -1,4 +1,4 @@
-//! Walking through a section of a shard, one record after another.
+//! Walking through a section.
 
 ghost use Rattle.std.specs.Prelude.{◌≡◌, ◌↔◌, ◌+◌, ◌<◌, ◌^◌, ℕ, List, Option, Some, MatchResult, drop, length};
 ghost use Rattle.std.specs.FinMap as finite;
@@ -23,11 +23,10 @@ use xet_core_structures::shard_format::MDBShardInfo;
 use xet_core_structures::source::MemorySource;
 use xet_core_structures::xorb_structs::MDBXorbInfo;
 
-/// The record at a row of the file section, from a shard's bytes, or `None` if the section's
-/// bookend is there. The first record is at row 0, and the next one as many rows later as a record
-/// has.
+/// The record at a row of the file section, or `None` at its bookend. The first is at row 0, the
+/// next as many rows later as a record has.
 ///
-/// The errors are those of [`MDBShardInfo::load_from_reader`] and [`MDBShardInfo::read_file_info`].
+/// Fails as [`MDBShardInfo::load_from_reader`] and [`MDBShardInfo::read_file_info`] do.
 pub fn file_at(alloc: Global, bytes: &[u8], row: u32) -> Result<Option<MDBFileInfo>>
     ensures { MatchResult result (HasFileAt bytes.now row) (RefusesFileAt bytes.now row) }
 {
@@ -36,11 +35,8 @@ pub fn file_at(alloc: Global, bytes: &[u8], row: u32) -> Result<Option<MDBFileIn
     unless_bookend(info.read_file_info(alloc, &mut source, row))
 }
 
-/// The record at a row of the xorb section, from a shard's bytes, or `None` if the section's
-/// bookend is there. The first record is at row 0, and the next one as many rows later as a record
-/// has.
-///
-/// The errors are those of [`MDBShardInfo::load_from_reader`] and [`MDBShardInfo::read_xorb_info`].
+/// As [`file_at`], but of the xorb section. Fails as [`MDBShardInfo::load_from_reader`] and
+/// [`MDBShardInfo::read_xorb_info`] do.
 pub fn xorb_at(alloc: Global, bytes: &[u8], row: u32) -> Result<Option<MDBXorbInfo>>
     ensures { MatchResult result (HasXorbAt bytes.now row) (RefusesXorbAt bytes.now row) }
 {
@@ -49,10 +45,8 @@ pub fn xorb_at(alloc: Global, bytes: &[u8], row: u32) -> Result<Option<MDBXorbIn
     unless_bookend(info.read_xorb_info(alloc, &mut source, row))
 }
 
-/// Does nothing. Its contract says that [`file_at`], called at row 0 and then at each next row
-/// until it gives no record, gives exactly the records of the file section, in their order. If the
-/// bytes hold a shard, these are the shard's files by ascending hash. The same is said of
-/// [`xorb_at`].
+/// Does nothing: [`file_at`] and [`xorb_at`], from row 0 on until they give `None`, give all
+/// records of their section in order.
 pub fn walks_meet_all_records()
     ensures files { (bytes : List ℕ) → (info : MDBShardInfo) → (found : List MDBFileInfo)
         → HasHeaderAndFooter bytes info
@@ -68,10 +62,8 @@ pub fn walks_meet_all_records()
         → HasShard s bytes → WalksXorbs bytes found ↔ (found ≡ finite.values s.xorbs) }
 {}
 
-/// Does nothing. Its contract says of [`file_at`] and [`xorb_at`] that bytes have at a row one
-/// record at most, or the bookend (`one_file`), and where they do, a call fails only if an
-/// allocation does (`file_refused`). A record has the rows that its header announces, and its
-/// header's (`file_rows`).
+/// Does nothing: a row has at most one record or the bookend, which [`file_at`] and [`xorb_at`]
+/// fail to give only with `OutOfMemory`. A record has one row more than its header announces.
 pub fn rows_have_one_record()
     ensures one_file { (bytes : List ℕ) → (row : ℕ) → (x y : Option MDBFileInfo)
         → HasFileAt bytes row x → HasFileAt bytes row y → x ≡ y }
@@ -89,7 +81,7 @@ pub fn rows_have_one_record()
         → HasXorbAt bytes row (Some r) → xorb_row_count r ≡ 1 + r.metadata.num_entries }
 {}
 
-/// The record, or `None` where reading one met a bookend, whose error is `InternalError`.
+/// `None` for the error of a bookend, `InternalError`.
 pub(crate) fn unless_bookend<R: Drop>(read: Result<R>) -> Result<Option<R>>
     ensures { IsRead read result }
 {

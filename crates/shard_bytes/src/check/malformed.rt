@@ -1,7 +1,4 @@
-//! Malformed records: they can be read, but no shard may have them. A file is malformed if it has
-//! an unknown flag, or a reserved word that is not zero, in its header or in a row of an optional
-//! part; a xorb, if its chunks have more than 4294967295 bytes together. They are judged where they
-//! lie: a list of records would need memory for the rows of each.
+//! Records that can be read, but that no shard may have.
 
 ghost use Rattle.std.specs.Prelude.{◌≡◌, ◌+◌, ◌↔◌, ◌≤◌, [], ◌∷◌, ◌++◌, List, length, flat_map, All, IsTrue, OnOk, IfErr};
 ghost use Rattle.xet_core_structures.specs.declared.error.CoreError.{CoreError};
@@ -23,7 +20,7 @@ use xet_core_structures::error::Result;
 use xet_core_structures::fields::{split_hash, split_u64};
 use xet_core_structures::rows::ROW_SIZE;
 
-/// A record that is judged as it is stored.
+/// A record judged as it is stored.
 pub(super) trait Judged<'a>: PlacedRecord<'a> {
     ghost formed: { Self → Type 0 };
 
@@ -33,7 +30,6 @@ pub(super) trait Judged<'a>: PlacedRecord<'a> {
         ensures { IsTrue result ↔ formed self.now };
 }
 
-/// Adds each record of a section that no shard may have.
 pub(super) fn push_malformed<'a, P: Judged<'a>>(
     findings: &mut Vec<Finding>,
     section: Section,
@@ -64,7 +60,6 @@ impl<'a> Judged<'a> for PlacedFile<'a> {
     }
 }
 
-// Whether the reserved words of these rows of optional parts are zero.
 fn are_clear(rows: &[u8]) -> bool
     ensures { (stored : List HashRow) → All FitsHashRow stored
         → rows.now ≡ flat_map hash_row stored → IsTrue result ↔ AreClear stored }
@@ -80,7 +75,6 @@ fn are_clear(rows: &[u8]) -> bool
     true
 }
 
-// The reserved words of the row of an optional part at the front of bytes, and what follows it.
 fn split_reserved(bytes: &[u8]) -> (u64, u64, &[u8])
     requires { 48 ≤ length bytes.now }
     ensures row { (row : HashRow) × FitsHashRow row × (row._unused ≡ result.0 ∷ result.1 ∷ [])

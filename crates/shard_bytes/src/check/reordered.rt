@@ -1,6 +1,4 @@
-//! Whether a chunk table has the rows that the library writes, in any order in which their first
-//! words ascend. The original implementation sorts rows by their first words alone, by a sort that
-//! leaves rows with the same first word in any order.
+//! Chunk tables with rows of the same first word in any order.
 
 ghost use Rattle.std.specs.Prelude.{◌≡◌, ◌≤◌, ◌+◌, ◌++◌, ◌↔◌, IsTrue, IfOk, IfErr, MatchResult, length};
 ghost use Rattle.xet_core_structures.specs.declared.error.CoreError.{CoreError};
@@ -15,8 +13,7 @@ use xet_core_structures::fields::{split_u32, split_u64};
 use xet_core_structures::shard_format::CHUNK_ROW_SIZE;
 use xet_core_structures::shard_writer::ChunkTableRow;
 
-/// Whether the chunk table `found` has the rows of the one that was written, in any order in which
-/// their first words ascend. `OutOfMemory` if an allocation fails.
+/// Whether `found` has the same rows, in any order in which their first words ascend.
 pub fn is_reordered(alloc: Global, written: &[u8], found: &[u8]) -> Result<bool>
     requires { IsWrittenTable written.now }
     ensures { MatchResult result
@@ -35,7 +32,7 @@ pub fn is_reordered(alloc: Global, written: &[u8], found: &[u8]) -> Result<bool>
     Ok(are_equal(sorted.as_slice(), written.as_slice()))
 }
 
-// The whole rows of a table; a cut row at its end is left out.
+// A cut row at the end is left out.
 fn rows_of(alloc: Global, table: &[u8]) -> Result<Vec<ChunkTableRow>>
     ensures ok { IfOk result (λ rows. ReadsRows table.now rows.items) }
     ensures causes { IfErr result (λ e. e ≡ CoreError.OutOfMemory) }
@@ -50,7 +47,6 @@ fn rows_of(alloc: Global, table: &[u8]) -> Result<Vec<ChunkTableRow>>
     Ok(rows)
 }
 
-// The row at the front of bytes, and what follows it.
 fn split_row(bytes: &[u8]) -> (ChunkTableRow, &[u8])
     requires { 16 ≤ length bytes.now }
     ensures bytes { bytes.now ≡ chunk_table_row_bytes result.0 ++ result.1.now }
@@ -63,7 +59,6 @@ fn split_row(bytes: &[u8]) -> (ChunkTableRow, &[u8])
     (ChunkTableRow { word, row, index }, rest)
 }
 
-// Whether the first word of no row is less than that of the row before it.
 fn words_ascend(rows: &[ChunkTableRow]) -> bool
     ensures { IsTrue result ↔ WordsAscend rows.now }
 {
