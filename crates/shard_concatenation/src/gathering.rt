@@ -1,4 +1,4 @@
-//! The sections and tables of many shards, gathered to be written one after another.
+//! The sections and tables of many shards, gathered.
 
 ghost use Rattle.std.specs.Prelude.{◌≡◌, ◌+◌, ◌/◌, ◌^◌, ◌≤◌, List, All, IfOk, IfErr, MatchResult, map};
 ghost use Rattle.xet_base.specs.Errors.{IsInvalidShard};
@@ -15,8 +15,7 @@ use xet_base::merklehash::HMACKey;
 use xet_records::record_reader::FormatVersion;
 use xet_records::rows::{ROW_LIMIT, ROW_SIZE};
 
-/// Sums over parts: their records, the rows of their sections without bookends, and the sizes in
-/// bytes that their footers name.
+/// Sums over parts. Rows are without bookends.
 #[derive(Clone, Copy, Debug, Default)]
 pub struct Totals {
     pub files: u32,
@@ -28,8 +27,7 @@ pub struct Totals {
     pub stored_bytes_on_disk: u64,
 }
 
-/// The sections of all parts, a cursor at the start of each chunk table, the sums over the parts,
-/// the latest of their versions, and the key that their chunk hashes are under.
+/// The parts, and the latest of their versions.
 #[derive(Drop)]
 pub struct GatheredParts<'a> {
     pub files: Vec<SectionPart<'a>>,
@@ -40,7 +38,7 @@ pub struct GatheredParts<'a> {
     pub key: HMACKey,
 }
 
-// The number as `u32`, or `InvalidShard` if it does not fit.
+// `InvalidShard` if the number does not fit.
 fn to_u32(alloc: Global, n: u64) -> Result<u32>
     ensures value { MatchResult result (λ m. m ≡ n) (λ _. 2 ^ 32 ≤ n) }
     ensures causes { IfErr result IsInvalidShard }
@@ -51,7 +49,7 @@ fn to_u32(alloc: Global, n: u64) -> Result<u32>
     Ok(n as u32)
 }
 
-// The sum, or `InvalidShard` if it passes `u64`.
+// `InvalidShard` if the sum passes `u64`.
 fn add_u64(alloc: Global, a: u64, b: u64) -> Result<u64>
     ensures value { MatchResult result (λ n. n ≡ a + b) (λ _. 2 ^ 64 ≤ a + b) }
     ensures causes { IfErr result IsInvalidShard }
@@ -62,7 +60,7 @@ fn add_u64(alloc: Global, a: u64, b: u64) -> Result<u64>
     }
 }
 
-// The sums with one part more. `InvalidShard` if one of them does not fit its type.
+// `InvalidShard` if a sum does not fit.
 fn with_part(alloc: Global, totals: &Totals, split: &SplitShard<'_>) -> Result<Totals>
     ensures sums { MatchResult result (AddsPart totals.now split.now)
         (λ _. FitWith totals.now split.now → ⊥) }
@@ -88,11 +86,8 @@ fn with_part(alloc: Global, totals: &Totals, split: &SplitShard<'_>) -> Result<T
     })
 }
 
-/// The parts of these shards, whose chunk hashes have to be under the key.
-///
-/// `InvalidArguments` if the chunk hashes of a shard are under another key; the errors of
-/// `split_shard` if a shard can't be split; `InvalidShard` if a sum does not fit; `OutOfMemory` if
-/// an allocation fails.
+/// `InvalidArguments` if a shard is under another key; the errors of `split_shard`; `InvalidShard`
+/// if a sum does not fit; `OutOfMemory`.
 pub fn gather<'a>(alloc: Global, shards: &[&'a [u8]], key: HMACKey) -> Result<GatheredParts<'a>>
     ensures gathered { (parts : List ShardPart) → All (IsPartUnder key) parts
         → map bytes_of_part parts ≡ map (λ x. x.now) shards.now

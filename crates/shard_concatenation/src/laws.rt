@@ -12,11 +12,10 @@ ghost use Rattle.placed_shards.specs.Ranges.{is_within, ranges_between, AreCuts}
 ghost use Rattle.shard_concatenation.specs.Concatenation.{keyed_layout_in, IsHeldLayout, AreRangesOf};
 ghost use Rattle.shard_concatenation.specs.Spans.{spans_from};
 
-/// Does nothing. Its contract says that the layouts, in one version, of the parts of a shard in ranges
-/// that follow one another and leave no hash out can be concatenated. So
-/// [`concatenate_shards_into`](crate::concatenate_shards_into) writes the layout of the shard in this
-/// version from them, as the one merge does, or fails for lack of memory (`parts`). Without a key it
-/// is the layout of the shard without expiry, which `serialize_from` writes in version 3 (`no_key`).
+/// Does nothing. From the layouts, in one version, of a shard's parts in ranges that follow one
+/// another and leave no hash out, [`concatenate_shards_into`](crate::concatenate_shards_into)
+/// writes that of the shard, or fails for lack of memory (`parts`). Without a key it is the layout
+/// without expiry, which `serialize_from` writes in version 3 (`no_key`).
 pub fn ranges_concatenate()
     ensures parts { (version : FormatVersion) → (key : DataHash) → (cuts : List DataHash)
         → (join : Shard) → (parts : List Shard) → (bytes : List (List ℕ)) → AreCuts None cuts None
@@ -26,9 +25,7 @@ pub fn ranges_concatenate()
         → keyed_layout_in version join no_key ≡ layout_in version join None }
 {}
 
-/// Does nothing. Its contract says that spans that follow one another, as
-/// [`concatenated_span_into`](crate::concatenated_span_into) writes them, are the whole if their sizes
-/// add up to its size.
+/// Does nothing. Spans that follow one another are the whole if their sizes add up to its size.
 pub fn spans_are_the_whole()
     ensures { (sizes bytes : List ℕ) → sum_by (λ size. size) sizes ≡ length bytes
         → flat_map (λ span. span) (spans_from 0 sizes bytes) ≡ bytes }

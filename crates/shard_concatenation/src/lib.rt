@@ -1,7 +1,4 @@
-//! Concatenation: shards whose records follow one another, put together without reading them as records.
-//!
-//! Sections are copied without their bookends. Row numbers in the tables are raised by the rows of
-//! the shards before, and the chunk tables are merged. The memory is a few hundred bytes a shard.
+//! Concatenation of shards whose records follow one another: sections are copied, tables joined.
 #![tactic(auto)]
 
 mod chunk_merging;

@@ -1,4 +1,4 @@
-//! The parts of shards that are concatenated, and the footer of the shard that has the records of all.
+//! The parts of a concatenation in tested order, and its footer.
 
 ghost use Rattle.std.specs.Prelude.{◌≡◌, ◌+◌, ◌<◌, List, All, IfOk, IfErr, map, sum_by};
 ghost use Rattle.xet_records.specs.declared.file_structs.MDBFileInfo.{MDBFileInfo};
@@ -21,9 +21,7 @@ use xet_records::rows::ROW_SIZE;
 use xet_records::xorb_structs::MDBXorbInfo;
 use xet_shards::shard_format::{CHUNK_ROW_SIZE, HEADER_SIZE, MDBShardFileFooter, START_ROW_SIZE};
 
-/// The parts of these shards, if they are under one key and their hashes ascend from each part to
-/// the next. The errors are those of [`concatenate_shards_into`], but for the tables, and
-/// `OutOfMemory`.
+/// The errors are those of [`concatenate_shards_into`], but for the tables.
 pub fn ordered_parts<'a>(alloc: Global, shards: &[&'a [u8]]) -> Result<GatheredParts<'a>>
     ensures gathered { (key : DataHash) → (parts : List ShardPart) → All (IsPartUnder key) parts
         → map bytes_of_part parts ≡ map (λ x. x.now) shards.now
@@ -53,8 +51,7 @@ pub fn ordered_parts<'a>(alloc: Global, shards: &[&'a [u8]]) -> Result<GatheredP
     Ok(gathered)
 }
 
-/// The footer of the shard that has the records of all parts, from the sums over the parts and the
-/// number of all chunks.
+/// The footer of the whole, which has `chunks` chunks.
 pub fn footer_of_parts(totals: &Totals, chunks: u32, key: HMACKey) -> MDBShardFileFooter
     ensures value { (files : List MDBFileInfo) → (xorbs : List MDBXorbInfo) → All FitsRecord files
         → HasTotals totals.now files xorbs → chunks + totals.now.xorbs ≡ totals.now.xorb_rows

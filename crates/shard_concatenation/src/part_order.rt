@@ -1,4 +1,4 @@
-//! The test that the hashes of records ascend from each shard to the next.
+//! The test that hashes ascend from each shard to the next.
 
 ghost use Rattle.std.specs.Prelude.{◌≡◌, ◌+◌, ◌-◌, ◌*◌, ◌<◌, ◌⊎◌, List, All, length, take, drop, MatchOption, MatchResult, IfErr};
 ghost use Rattle.xet_base.specs.Errors.{IsInvalidShard};
@@ -18,18 +18,15 @@ use xet_records::record_bytes::row;
 use xet_records::record_reader::SectionRecord;
 use xet_records::rows::{ROW_SIZE, Row};
 
-/// The hashes of the first and of the last record of a section.
+/// The first and the last hash of a section.
 #[derive(Clone, Copy, Debug)]
 pub struct EndHashes {
     pub first: MerkleHash,
     pub last: MerkleHash,
 }
 
-/// Tests that the first hash of each section is above the last hash of the section before it, where
-/// sections without records are passed. So the hashes of all sections ascend if those of each do.
-///
-/// `InvalidArguments` if a first hash is not above the last one, `InvalidShard` if a section does
-/// not have the last record that its table names.
+/// `InvalidArguments` if hashes don't ascend from each section to the next with records;
+/// `InvalidShard` if a section lacks the last record that its table names.
 pub fn check_order<R: SectionRecord>(alloc: Global, sections: &[SectionPart<'_>]) -> Result<()>
     ensures order { (records : List (List R)) → HoldSections R.kind sections.now records
         → All (All R.kind.IsStored) records → All (Ascends R.kind) records
@@ -54,7 +51,6 @@ pub fn check_order<R: SectionRecord>(alloc: Global, sections: &[SectionPart<'_>]
     Ok(())
 }
 
-// Whether a hash is above the last hash of the sections before it, if there is one.
 fn is_after(first: &MerkleHash, last: Option<MerkleHash>) -> bool
     ensures { result ≡ is_after last first.now }
 {
@@ -64,7 +60,7 @@ fn is_after(first: &MerkleHash, last: Option<MerkleHash>) -> bool
     }
 }
 
-// The hashes of the first and of the last record of a section, or `None` if one of them is missing.
+// `None` if one of the records is missing.
 fn end_hashes<R: SectionRecord>(section: &SectionPart<'_>) -> Option<EndHashes>
     ensures { (records : List R) → PartHoldsRecords R.kind section.now records → 0 < length records
         → MatchOption result ⊥ (HasEnds R.kind records) }
@@ -78,7 +74,7 @@ fn end_hashes<R: SectionRecord>(section: &SectionPart<'_>) -> Option<EndHashes>
     })
 }
 
-// The row at which the last record of a table starts: the number at the table's end.
+// The row of the last record: the table's last number.
 fn last_row(table: &[u8]) -> Option<u32>
     ensures { MatchOption result (length table.now < 4)
         (λ row. drop (length table.now - 4) table.now ≡ u32_bytes row) }
@@ -87,7 +83,7 @@ fn last_row(table: &[u8]) -> Option<u32>
     Some(split_u32(&table[at..]).0)
 }
 
-// The header at a row of a section, or `None` past its end.
+// `None` past the end.
 fn header_at<R: SectionRecord>(rows: &[u8], index: u32) -> Option<R::Header>
     ensures { MatchOption result (length rows.now < 48 * index + 48)
         (ReadsRow R.Header.row_bytes R.Header.Fits R.Header.as_read

@@ -12,8 +12,7 @@ use xet_records::record_reader::FormatVersion;
 use xet_records::rows::ROW_SIZE;
 use xet_shards::shard_format::{HEADER_SIZE, MDBShardFileFooter, MDBShardInfo, START_ROW_SIZE};
 
-/// The pieces of a shard's bytes: its version, the rows of both sections without their bookends, the
-/// three tables, and the footer.
+/// The pieces of a shard, without bookends.
 #[derive(Clone, Copy, Debug)]
 pub struct SplitShard<'a> {
     pub version: FormatVersion,
@@ -25,8 +24,7 @@ pub struct SplitShard<'a> {
     pub footer: MDBShardFileFooter,
 }
 
-// The bytes from one offset up to another, or `None` if the offsets are not in order or past the
-// end.
+// `None` if the offsets are not in order or past the end.
 fn range_of(bytes: &[u8], from: u64, to: u64) -> Option<&[u8]>
     ensures { MatchOption result ((to < from) ⊎ (length bytes.now < to))
         (λ part. (from ≤ to) × (to ≤ length bytes.now)
@@ -38,8 +36,7 @@ fn range_of(bytes: &[u8], from: u64, to: u64) -> Option<&[u8]>
     Some(&bytes[from as usize..to as usize])
 }
 
-// The bytes of a table from one offset up to another, or `None` if it does not have so many rows or
-// is past the end.
+// `None` if it does not have `rows` rows or is past the end.
 fn table_of(bytes: &[u8], from: u64, rows: u64, to: u64) -> Option<&[u8]>
     ensures { MatchOption result (to ≡ from + 12 * rows → length bytes.now < to)
         (λ part. (to ≡ from + 12 * rows) × (to ≤ length bytes.now)
@@ -52,9 +49,7 @@ fn table_of(bytes: &[u8], from: u64, rows: u64, to: u64) -> Option<&[u8]>
     range_of(bytes, from, to)
 }
 
-// The pieces between the offsets that the footer names. `None` if these are not in order, if a
-// section does not have whole rows, or if the file table or the xorb table does not have the
-// footer's number of rows.
+// `None` where `split_shard` tells `InvalidShard`.
 fn parts_at<'a>(
     bytes: &'a [u8],
     version: FormatVersion,
@@ -91,11 +86,9 @@ fn parts_at<'a>(
     })
 }
 
-/// The pieces of a shard's bytes.
-///
-/// `ShardVersion` or `UnexpectedEof` if the bytes have no supported header or footer. `InvalidShard`
-/// if the footer's offsets are not in order or past the bytes, if a section does not have whole
-/// rows, or if its table does not have as many rows as the footer counts.
+/// `ShardVersion` or `UnexpectedEof` without a supported header and footer; `InvalidShard` if the
+/// footer's offsets are not in order or past the end, or if a section does not have whole rows or
+/// its table as many as the footer counts.
 pub fn split_shard(alloc: Global, bytes: &[u8]) -> Result<SplitShard<'_>>
     ensures split { (key : DataHash) → (part : ShardPart) → IsPartUnder key part
         → bytes.now ≡ bytes_of_part part → MatchResult result (IsSplitOf part) (λ e. ⊥) }

@@ -1,4 +1,4 @@
-//! Sections of many shards, and their tables, written one after another.
+//! Sections and their tables, one after another.
 
 ghost use Rattle.std.specs.Prelude.{◌≡◌, ◌+◌, ◌^◌, ◌<◌, ◌≤◌, ◌⊎◌, ℕ, List, All, OnOk, IfOk, IfErr, map, flat_map};
 ghost use Rattle.std.specs.Io.KnownBytes.{Appends};
@@ -18,8 +18,7 @@ use xet_base::serialization_utils::write_bytes;
 use xet_records::record_reader::SectionRecord;
 use xet_shards::shard_format::START_ROW_SIZE;
 
-/// A section of one shard: its rows without the bookend, their number, and the table of its
-/// records.
+/// A section, without its bookend, and its table.
 #[derive(Clone, Copy, Debug)]
 pub struct SectionPart<'a> {
     pub rows: &'a [u8],
@@ -27,8 +26,7 @@ pub struct SectionPart<'a> {
     pub table: &'a [u8],
 }
 
-/// Writes the table of the records of all sections, whose rows follow one another. `InvalidShard`
-/// if a row number passes `u32`; else the error is the writer's.
+/// `InvalidShard` if a row number passes `u32`, else the writer's errors.
 pub fn write_tables<R: SectionRecord, W: Write>(
     alloc: Global,
     writer: &mut W,
@@ -62,8 +60,7 @@ pub fn add_u32(alloc: Global, first: u32, count: u32) -> Result<u32>
     }
 }
 
-// Writes the whole rows of a table, with `first` added to each row number. `InvalidShard` if a row
-// number passes `u32`; else the error is the writer's.
+// Adds `first` to each row number. Errors are as of `write_tables`.
 fn write_later<W: Write>(alloc: Global, writer: &mut W, table: &[u8], first: u32) -> Result<()>
     ensures bytes { (rows : List (ℕ × ℕ)) → table.now ≡ flat_map start_row rows → All FitsStart rows
         → OnOk result
@@ -84,7 +81,6 @@ fn write_later<W: Write>(alloc: Global, writer: &mut W, table: &[u8], first: u32
     Ok(())
 }
 
-// Writes a row of a table: the first word of a hash, and the row at which its record starts.
 fn write_start<W: Write>(writer: &mut W, word: u64, row: u32) -> Result<()>
     ensures bytes { OnOk result
         (Appends (W.contents writer.old) (W.contents writer.new) (start_row (word, row))) }

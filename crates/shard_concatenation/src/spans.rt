@@ -1,5 +1,4 @@
-//! A span of a concatenation: the bytes from one offset of the whole up to another, so that threads
-//! can write the whole side by side.
+//! Spans of a concatenation.
 
 ghost use Rattle.std.specs.Prelude.{◌≡◌, ◌+◌, ◌-◌, ◌*◌, ◌<◌, ◌≤◌, ◌^◌, ◌++◌, ⊤, ℕ, List, [], All, IfOk, IfErr, Some, map, flat_map, length, sum_by, slice_range};
 ghost use Rattle.std.specs.Io.KnownBytes.{Appends};
@@ -35,15 +34,13 @@ use xet_shards::shard_format::{
     CHUNK_ROW_SIZE, FOOTER_SIZE, HEADER_SIZE, MDBShardFileFooter, MDBShardInfo,
 };
 
-/// Fills `out` with the bytes from the offset `from` on of what
-/// [`concatenate_shards_into`](crate::concatenate_shards_into) writes, and returns the size of the
-/// whole. If they pass its end, `out` stays as it is, and so it does after any error. Spans that
-/// follow one another, from 0 to the size, are the whole if all succeed
-/// (`laws::spans_are_the_whole`), and each may be written by a thread.
+/// Fills `out` with the bytes from offset `from` on of what
+/// [`concatenate_shards_into`](crate::concatenate_shards_into) writes, with its tests and errors,
+/// and returns the size of the whole. `out` stays as it is if they pass its end or after an error.
+/// Threads may write spans side by side (`laws::spans_are_the_whole`).
 ///
-/// Beside `out`, memory is needed for a few hundred bytes a shard, for the tables of files and of
-/// xorbs, and for the chunk table if the span has a byte of it. All tables are read and tested, as by
-/// the call for the whole, and the errors are the same.
+/// Beside `out`, memory is needed for a few hundred bytes a shard, for the tables of files and
+/// xorbs, and for the chunk table if the span has a byte of it.
 pub fn concatenated_span_into(
     alloc: Global,
     shards: &[&[u8]],
@@ -76,7 +73,7 @@ pub fn concatenated_span_into(
     fill_span(alloc, shards, from, out)
 }
 
-// `concatenated_span_into` without the clauses on bytes of shards, which follow from these here.
+// `concatenated_span_into`, whose other clauses follow from these.
 fn fill_span(alloc: Global, shards: &[&[u8]], from: usize, out: &mut [u8]) -> Result<usize>
     ensures parts { (key : DataHash) → (parts : List ShardPart) → All (IsPartUnder key) parts
         → map bytes_of_part parts ≡ map (λ x. x.now) shards.now
@@ -124,7 +121,7 @@ fn fill_span(alloc: Global, shards: &[&[u8]], from: usize, out: &mut [u8]) -> Re
     Ok(size)
 }
 
-// Adds the table of the records of all sections. `InvalidShard` if a row number passes `u32`.
+// `InvalidShard` if a row number passes `u32`.
 fn add_table<R: SectionRecord>(
     alloc: Global,
     tables: &mut Vec<u8>,
@@ -144,15 +141,14 @@ fn add_table<R: SectionRecord>(
     }
 }
 
-/// All rows of the chunk table, or none, and how many bytes of it are before these.
+/// The chunk table's rows, or none for a span without a byte of it, and how many of its bytes are
+/// before them.
 #[derive(Drop)]
 pub struct ChunkSpan {
     pub before: usize,
     pub rows: Vec<u8>,
 }
 
-// All rows of the chunk table if the span, from one offset of the whole up to another, has a byte of
-// it, else none.
 fn chunk_span(
     alloc: Global,
     cursors: &[Cursor<'_>],
@@ -194,7 +190,6 @@ fn chunk_span(
     Ok(ChunkSpan { before: 0, rows })
 }
 
-// Fills a slice with a span of the shard that has the records of the gathered parts.
 fn put_span(
     out: &mut [u8],
     from: usize,
@@ -241,8 +236,6 @@ fn put_span(
     put_within(out, from, end, ends.footer.as_slice());
 }
 
-// Puts the rows of all sections, one after another, as far as they are within a span, and returns
-// the offset after them.
 fn put_rows_within(out: &mut [u8], from: usize, at: usize, sections: &[SectionPart<'_>]) -> usize
     requires { at + sum_by (λ s. length s.rows.now) sections.now < 2 ^ 63 }
     ensures end { result ≡ at + sum_by (λ s. length s.rows.now) sections.now }
@@ -257,7 +250,7 @@ fn put_rows_within(out: &mut [u8], from: usize, at: usize, sections: &[SectionPa
     end
 }
 
-// Puts bytes at an offset of the whole, as far as they are within the span from `from` on.
+// Puts bytes at an offset of the whole, as far as they are within the span.
 fn put_within(out: &mut [u8], from: usize, at: usize, bytes: &[u8])
     ensures { (before : List ℕ) → at ≡ length before → HoldsSpan from before out.old
         → HoldsSpan from (before ++ bytes.now) out.new }
