@@ -1,5 +1,4 @@
-//! When two records with one hash agree: xorbs if they are equal, and files if they have equal
-//! segments, and an equal optional part wherever both have it.
+//! Agreement of records with one hash.
 
 ghost use Rattle.std.specs.Prelude.{◌≡◌, ◌≢◌, ◌↔◌, IsTrue, List, MatchResult};
 ghost use Rattle.xet_base.specs.declared.error.CoreError.TheVariants.{OutOfMemory};
@@ -23,7 +22,7 @@ use std::alloc::Global;
 use xet_base::error::Result;
 use xet_base::merklehash::MerkleHash;
 
-/// When two records with one hash agree.
+/// Records with one hash, which agree as `merge_agreeing` says.
 pub trait Agreement<'a>: PlacedRecord<'a> {
     ghost agree: { Self → Self → Type 0 };
 
@@ -31,7 +30,6 @@ pub trait Agreement<'a>: PlacedRecord<'a> {
 
     ghost listed: { PlacedShard → List Self };
 
-    /// The records of a shard.
     fn records<'s>(shard: &'s PlacedShard<'a>) -> &'s [Self]
         ensures { result.now ≡ listed shard.now };
 
@@ -39,15 +37,14 @@ pub trait Agreement<'a>: PlacedRecord<'a> {
     fn name(hash: MerkleHash) -> RecordHash
         ensures { result ≡ named hash };
 
-    /// Whether two records that are not copies agree, as reading returns them. `OutOfMemory` if an
-    /// allocation fails.
+    /// Whether two records that are not copies agree, as reading returns them, or `OutOfMemory`.
     fn agree_apart(alloc: Global, first: &Self, second: &Self) -> Result<bool>
         requires { first.now ≢ second.now }
         ensures { MatchResult result
             (λ agreed. IsTrue agreed ↔ AgreeAsRead Self.kind agree first.now second.now)
             (λ e. e ≡ OutOfMemory) };
 
-    /// Does nothing. It says that a record agrees with itself, and of two each with the other.
+    /// Does nothing: agreement is reflexive and symmetric.
     fn agreement_laws()
         ensures itself { (r : Self) → agree r r }
         ensures either_way { (r s : Self) → agree r s → agree s r };

@@ -1,5 +1,4 @@
-//! One shard made of another, with records that are made anew: files without optional parts, xorbs
-//! with other chunk hashes and marks.
+//! Shards made of another, with some records made anew.
 
 ghost use Rattle.std.specs.Prelude.{◌≡◌, ◌↔◌, map, Contains, IsTrue, MatchResult};
 ghost use Rattle.xet_base.specs.declared.error.CoreError.{CoreError};
@@ -23,7 +22,7 @@ use xet_base::sorted_hashes::SortedHashes;
 use xet_records::file_structs::KeptParts;
 
 impl<'a> PlacedShard<'a> {
-    /// The shard with these parts of its files. `OutOfMemory` if an allocation fails.
+    /// The shard with these parts of its files, or `OutOfMemory`.
     pub fn with_parts(self, arena: &'a Bump, kept: KeptParts) -> Result<PlacedShard<'a>>
         ensures { MatchResult result
             (HasInstead (map (as_kept kept) self.entry.files.items) self.entry.xorbs.items self.entry)
@@ -44,8 +43,7 @@ impl<'a> PlacedShard<'a> {
         })
     }
 
-    /// The shard with its chunk hashes under a key; the key of zeros is none. `OutOfMemory` if an
-    /// allocation fails.
+    /// The shard with its chunk hashes under a key, or `OutOfMemory`. The key of zeros is none.
     pub fn with_keyed_hashes(
         self,
         alloc: Global,
@@ -71,8 +69,8 @@ impl<'a> PlacedShard<'a> {
         })
     }
 
-    /// The shard with a mark at each chunk at which one of its files starts, and all other marks.
-    /// `OutOfMemory` if an allocation fails.
+    /// The shard with its marks, and one at each chunk at which one of its files starts, or
+    /// `OutOfMemory`.
     pub fn with_marks(self, alloc: Global, arena: &'a Bump) -> Result<PlacedShard<'a>>
         ensures { MatchResult result
             (HasInstead self.entry.files.items
@@ -94,7 +92,7 @@ impl<'a> PlacedShard<'a> {
         })
     }
 
-    /// The shard with those of its xorbs that have one of these hashes.
+    /// The shard with only those of its xorbs that have one of these hashes.
     pub fn with_xorbs(self, hashes: &SortedHashes) -> PlacedShard<'a>
         ensures { IsKept (λ x kept. IsTrue kept ↔ Contains hashes.now.items.items (xorb_hash_of x))
             self.entry.xorbs.items result.xorbs.items

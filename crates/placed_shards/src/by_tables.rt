@@ -1,5 +1,4 @@
-//! The records of a range of hashes in the rows that the lookup tables of a shard name for it. So
-//! threads that each take a range need not each look at all records.
+//! The records of a range of hashes, in the rows that a shard's lookup tables name for it.
 
 ghost use Rattle.std.specs.Prelude.{◌≡◌, map, true, MatchResult};
 ghost use Rattle.xet_records.specs.RecordKind.{in_version};
@@ -24,16 +23,13 @@ use xet_shards::shard_writer::{LayoutOptions, bytes_from};
 /// The records of a shard in a range, with all tables, its key, creation 0 and no expiry. Of both
 /// sections only the rows are read that their tables name for the range.
 ///
-/// The tables need not be trusted: in ranges that follow one another and leave no hash out, either
-/// some call fails, or each gives the records of its range
-/// ([`tables_lose_no_record`](crate::laws::tables_lose_no_record)). A table has only the first
-/// words of hashes. So no record below a bound may have the bound's first word: if one has, the
-/// call for the range behind the bound fails.
+/// The tables need not be trusted: in ranges that partition the hashes, some call fails, or each
+/// gives the records of its range ([`tables_lose_no_record`](crate::laws::tables_lose_no_record)).
+/// By true tables a call behind a bound fails if a record below the bound has its first word.
 ///
-/// `ShardVersion` or `UnexpectedEof` if there is no header and footer. `InvalidArguments` unless in
-/// these rows there are whole records whose hashes strictly ascend and are in the range, from row 0
-/// on if it has no lower bound, and up to the bookend if it has no upper bound. `OutOfMemory` if an
-/// allocation fails.
+/// `ShardVersion` or `UnexpectedEof` if there is no header and footer; `InvalidArguments` unless
+/// these rows are whole records whose hashes strictly ascend in the range, from row 0 on without a
+/// lower bound, and up to the bookend without an upper bound; or `OutOfMemory`.
 pub fn open_by_tables<'a>(
     alloc: Global,
     bytes: &'a [u8],
@@ -70,7 +66,7 @@ pub fn open_by_tables<'a>(
     })
 }
 
-// The records of a section in the rows that its table names for a range.
+// As `read_in_rows`, of the rows that a table names.
 fn read_by_table<'a, P: PlacedRecord<'a> + Drop>(
     alloc: Global,
     section: &'a [u8],

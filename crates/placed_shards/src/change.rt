@@ -1,4 +1,4 @@
-//! One shard that is not written yet made of another.
+//! Shards made of another, with no record made anew.
 
 ghost use Rattle.std.specs.Prelude.{◌≡◌, []};
 ghost use Rattle.xet_records.specs.FileRecord.{file_records};
@@ -15,7 +15,7 @@ use crate::range::HashRange;
 use xet_shards::shard_writer::LayoutOptions;
 
 impl<'a> PlacedShard<'a> {
-    /// The shard with the records in a range of hashes alone.
+    /// The shard with only the records in a range of hashes.
     pub fn within(self, range: &HashRange) -> PlacedShard<'a>
         ensures content { content result ≡ content_within range.now (content self.entry) }
         ensures as_read { result.as_read ≡ self.entry.as_read }
@@ -63,7 +63,6 @@ impl<'a> PlacedShard<'a> {
     }
 }
 
-// The files in a range of hashes.
 fn files_within<'a>(files: Vec<PlacedFile<'a>>, range: HashRange) -> Vec<PlacedFile<'a>>
     ensures { result.items ≡ records_passing file_records (is_within range) files.entry.items }
 {
@@ -76,7 +75,6 @@ fn files_within<'a>(files: Vec<PlacedFile<'a>>, range: HashRange) -> Vec<PlacedF
     files
 }
 
-// The xorbs in a range of hashes.
 fn xorbs_within<'a>(xorbs: Vec<PlacedXorb<'a>>, range: HashRange) -> Vec<PlacedXorb<'a>>
     ensures { result.items ≡ records_passing xorb_records (is_within range) xorbs.entry.items }
 {

@@ -20,8 +20,8 @@ use xet_shards::shard_writer::{
     PlacedRecord as HeaderAndRows, WrittenFiles, WrittenSection, WrittenXorbs,
 };
 
-/// What the table of files and the footer need, of files as they are stored or as reading returns
-/// them. `OutOfMemory` if an allocation fails.
+/// What the table of files and the footer need, the same of files as stored and as read, or
+/// `OutOfMemory`.
 pub fn collect_files(alloc: Global, files: &[PlacedFile<'_>]) -> Result<WrittenFiles>
     requires { total_rows file_records files.now ≤ MAX_ROWS }
     ensures { MatchResult result
@@ -35,8 +35,7 @@ pub fn collect_files(alloc: Global, files: &[PlacedFile<'_>]) -> Result<WrittenF
     Ok(written)
 }
 
-/// What the tables of xorbs and of chunks and the footer need; of chunks nothing if their table is
-/// left out. `OutOfMemory` if an allocation fails.
+/// As [`collect_files`], of xorbs, and of their chunks if `chunk_table` is set.
 pub fn collect_xorbs(
     alloc: Global,
     xorbs: &[PlacedXorb<'_>],
@@ -77,7 +76,6 @@ fn collect_headers(alloc: Global, xorbs: &[PlacedXorb<'_>]) -> Result<WrittenXor
     Ok(written)
 }
 
-// The header of a record, and the rows after it.
 fn header_and_rows<'a, P: PlacedRecord<'a>>(placed: &P) -> HeaderAndRows<'a, P::Header>
     ensures { StoresRecord P.kind result placed.now }
 {

@@ -1,5 +1,4 @@
-//! The hashes under which shards have records that do not agree. Records with one hash are found by
-//! sorting the places of all, and each is compared with those kept of its hash.
+//! The hashes under which shards have records that do not agree.
 
 ghost use Rattle.std.specs.Prelude.{◌≡◌, ◌≢◌, ◌↔◌, ◌<◌, IsTrue, List, Contains, Some, length, map, MatchOption, MatchResult};
 ghost use Rattle.std.specs.List.Sorted.{IsSorted};
@@ -15,7 +14,7 @@ use std::alloc::Global;
 use xet_base::error::Result;
 use xet_base::merklehash::MerkleHash;
 
-/// Two shards that have records with one hash that do not agree.
+/// Two shards whose records with this hash do not agree.
 #[derive(Clone, Copy)]
 pub struct Differing {
     pub hash: MerkleHash,
@@ -25,8 +24,8 @@ pub struct Differing {
     pub second: usize,
 }
 
-/// For each hash under which two shards have records that do not agree, two such shards, in
-/// ascending order of the hashes. `OutOfMemory` if an allocation fails.
+/// Two shards for each hash under which records do not agree, in ascending order of these, or
+/// `OutOfMemory`.
 pub fn find_differing<'a, P: Agreement<'a>>(
     alloc: Global,
     shards: &[PlacedShard<'a>],
@@ -46,7 +45,6 @@ pub fn find_differing<'a, P: Agreement<'a>>(
     Ok(found)
 }
 
-// Compares the records of the run that begins at a place, and adds what differs. Where it ends.
 fn compare_run<'a, P: Agreement<'a>>(
     alloc: Global,
     shards: &[PlacedShard<'a>],
@@ -74,7 +72,6 @@ fn compare_run<'a, P: Agreement<'a>>(
     }
 }
 
-// Two records of a run that do not agree.
 fn differ_in_run<'a, P: Agreement<'a>>(
     alloc: Global,
     shards: &[PlacedShard<'a>],
@@ -92,7 +89,7 @@ fn differ_in_run<'a, P: Agreement<'a>>(
         (λ e. e ≡ OutOfMemory) }
 {
     P::agreement_laws();
-    // Most hashes are in one shard alone, and need no list.
+    // Most hashes are in one shard alone.
     if to - from == 1 {
         return Ok(None);
     }
@@ -107,8 +104,7 @@ fn differ_in_run<'a, P: Agreement<'a>>(
     Ok(None)
 }
 
-// Compares the record at a place with those at the places that are kept, and keeps its place too,
-// unless it is a copy of one.
+// Compares a record with those kept, and keeps its place unless it is a copy.
 fn compare_place<'s, 'a, P: Agreement<'a>>(
     alloc: Global,
     shards: &'s [PlacedShard<'a>],
@@ -143,7 +139,6 @@ fn compare_place<'s, 'a, P: Agreement<'a>>(
     }
 }
 
-// Whether one of the places that are kept has a copy of a record.
 fn has_copy<'s, 'a, P: Agreement<'a>>(
     shards: &'s [PlacedShard<'a>],
     kept: &[Place],
@@ -161,8 +156,7 @@ fn has_copy<'s, 'a, P: Agreement<'a>>(
     false
 }
 
-// The number of the shard of a place that is kept whose record does not agree with this one. None of
-// those places has a copy of it.
+// The shard of a kept record that does not agree with this one.
 fn find_against<'s, 'a, P: Agreement<'a>>(
     alloc: Global,
     shards: &'s [PlacedShard<'a>],
@@ -187,7 +181,6 @@ fn find_against<'s, 'a, P: Agreement<'a>>(
     Ok(None)
 }
 
-// The record at a place.
 fn placed_at<'s, 'a, P: Agreement<'a>>(shards: &'s [PlacedShard<'a>], place: Place) -> &'s P
     requires { IsPlace P.kind (map P.listed shards.now) place }
     ensures { record_at (map P.listed shards.now) place ≡ Some result.now }

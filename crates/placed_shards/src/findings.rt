@@ -1,5 +1,4 @@
-//! What keeps shards from being merged: records with one hash that do not agree, and records that no
-//! shard may have. Unlike a union, this looks at all bytes of records with one hash.
+//! What keeps shards from being merged.
 
 ghost use Rattle.std.specs.Prelude.{◌≡◌, ⊤, ◌++◌, List, map, All, true, MatchOption, MatchResult, OnOk, IfErr};
 ghost use Rattle.std.specs.List.{AllZip};
@@ -28,7 +27,7 @@ pub enum RecordHash {
     Xorb(MerkleHash),
 }
 
-/// Two inputs that hold records with one hash that do not agree.
+/// Two inputs whose records with one hash do not agree.
 #[derive(Clone, Copy)]
 pub struct Disagreement {
     /// The hash, and whose it is.
@@ -43,18 +42,17 @@ pub struct Disagreement {
 /// or a xorb whose chunks have more than 4294967295 bytes together.
 #[derive(Clone, Copy)]
 pub struct MalformedRecord {
-    /// The hash of the record, and whether it is of a file or of a xorb.
+    /// The hash, and whose it is.
     pub record_hash: RecordHash,
     /// The number of the input that holds it.
     pub input: usize,
 }
 
-/// The hashes of the selected records under which two of the inputs disagree, each with two
-/// inputs that hold such records: files first, then xorbs, each in ascending order. There is none
-/// exactly if these records of each two inputs agree.
+/// The hashes under which selected records of two inputs do not agree, each with two such inputs:
+/// files first, then xorbs, each in ascending order.
 ///
-/// The error is that of the first input that cannot be read, as [`open`](crate::open::open) has it,
-/// or `OutOfMemory` if an allocation fails.
+/// The error is that of the first input that cannot be opened by the selection's `Access`; or
+/// `OutOfMemory`.
 pub fn find_disagreements(
     alloc: Global,
     inputs: &[&[u8]],
@@ -69,7 +67,6 @@ pub fn find_disagreements(
     disagreements_of(alloc, shards.as_slice())
 }
 
-// The records of inputs that are selected.
 fn open_all<'a>(
     alloc: Global,
     inputs: &[&'a [u8]],
@@ -86,7 +83,6 @@ fn open_all<'a>(
     Ok(opened)
 }
 
-// The same of shards.
 fn disagreements_of(alloc: Global, shards: &[PlacedShard<'_>]) -> Result<Vec<Disagreement>>
     requires { All IsReadInOrder shards.now }
     ensures { MatchResult result (λ found. HasAllDisagreements (map content shards.now) found.items)
@@ -100,7 +96,6 @@ fn disagreements_of(alloc: Global, shards: &[PlacedShard<'_>]) -> Result<Vec<Dis
     Ok(found)
 }
 
-// Adds what differs in one kind of records.
 fn add_all<'a, P: Agreement<'a>>(
     found: &mut Vec<Disagreement>,
     differing: &[Differing],
@@ -119,13 +114,10 @@ fn add_all<'a, P: Agreement<'a>>(
     Ok(())
 }
 
-/// A selected record that no shard may have, of the first input that holds one, or `None` if a
-/// shard may have all selected records of the inputs. If shards of such records agree
-/// pairwise, under one key, each order of their unions gives the same records.
+/// A malformed selected record of the first input that holds one, if any.
 ///
-/// The inputs are opened one after another, up to the first that holds such a record, or that
-/// cannot be read, whose error is that of [`open`](crate::open::open). `OutOfMemory` if an
-/// allocation fails.
+/// Inputs are opened in turn up to that one, and the error is that of the first that cannot be
+/// opened by the selection's `Access`; or `OutOfMemory`.
 pub fn find_malformed(
     alloc: Global,
     inputs: &[&[u8]],
@@ -147,7 +139,7 @@ pub fn find_malformed(
     Ok(None)
 }
 
-/// The hash of a record of a shard that no shard may have, of a file rather than of a xorb.
+/// The hash of a malformed record, first of files.
 pub(crate) fn malformed_in(shard: &PlacedShard<'_>) -> Option<RecordHash>
     requires read { shard.now.as_read ≡ true }
     requires ascend { AscendBoth (content shard.now) }

@@ -1,4 +1,4 @@
-//! The records in some rows of a section in memory, which stay where they lie.
+//! The records in some rows of a section.
 
 ghost use Rattle.std.specs.Prelude.{◌≡◌, ◌↔◌, ℕ, ◌*◌, ◌≤◌, List, map, drop, None, IsTrue, MatchOption, MatchResult};
 ghost use Rattle.xet_records.specs.Limits.{MAX_ROWS};
@@ -20,11 +20,8 @@ use xet_records::record_reader::FormatVersion;
 use xet_records::rows::ROW_SIZE;
 use xet_shards::shard_writer::bytes_from;
 
-/// The records in the rows of a section from `first` on and before `end`.
-///
-/// `InvalidArguments` unless these are whole records whose hashes strictly ascend and are in the
-/// range; a range without a lower bound starts at row 0, and one without an upper bound ends at the
-/// bookend. `OutOfMemory` if an allocation fails.
+/// The records in the rows of a section from `first` on and before `end`; `InvalidArguments` and
+/// `OutOfMemory` as in `open_by_tables`.
 pub fn read_in_rows<'a, P: PlacedRecord<'a> + Drop>(
     alloc: Global,
     section: &'a [u8],
@@ -50,14 +47,14 @@ pub fn read_in_rows<'a, P: PlacedRecord<'a> + Drop>(
     take_rows::<P>(alloc, rows, version, count, range)
 }
 
-// Whether a range may have these rows: from row 0 on if it has no lower bound.
+// A range without a lower bound starts at row 0.
 fn may_start(first: u32, end: u32, range: &HashRange) -> bool
     ensures { IsTrue result ↔ ((first ≤ end) × (range.now.from ≡ None → first ≡ 0)) }
 {
     first <= end && (first == 0 || range.from.is_some())
 }
 
-// Whether a range may end before this row of a section: at the bookend if it has no upper bound.
+// A range without an upper bound ends at the bookend.
 fn may_end<'a, P: PlacedRecord<'a>>(section: &[u8], end: u32, range: &HashRange) -> bool
     ensures { IsTrue result ↔ (range.now.to ≡ None
         → BeginsWithBookend P.kind (drop (48 * end) section.now)) }
@@ -65,7 +62,6 @@ fn may_end<'a, P: PlacedRecord<'a>>(section: &[u8], end: u32, range: &HashRange)
     range.to.is_some() || has_bookend_at::<P>(section, end)
 }
 
-// Whether a bookend is at a row of a section.
 fn has_bookend_at<'a, P: PlacedRecord<'a>>(section: &[u8], at: u32) -> bool
     ensures { IsTrue result ↔ BeginsWithBookend P.kind (drop (48 * at) section.now) }
 {
@@ -79,15 +75,13 @@ fn has_bookend_at<'a, P: PlacedRecord<'a>>(section: &[u8], at: u32) -> bool
     P::is_bookend(&header)
 }
 
-// The offset of a row in a section.
 fn offset_of(at: u32) -> u64
     ensures { result ≡ 48 * at }
 {
     ROW_SIZE as u64 * u64::from(at)
 }
 
-// The records in so many rows at the front of bytes. `InvalidArguments` if these have no whole
-// records whose hashes strictly ascend and are in the range.
+// The records in the first `count` rows, with the errors of `read_in_rows`.
 fn take_rows<'a, P: PlacedRecord<'a> + Drop>(
     alloc: Global,
     bytes: &'a [u8],
@@ -122,9 +116,8 @@ fn take_rows<'a, P: PlacedRecord<'a> + Drop>(
     Ok(records)
 }
 
-// The record at the front of bytes, and the bytes after it. Its rows are counted down from
-// `rows_left`. `None` if no whole record is there, if it has more than `rows_left` rows, or if its
-// hash is not above the one before it or not in the range.
+// As `next_record`, but `None` for an error, and for a hash that is not above `before` or not in
+// the range.
 fn take_in_range<'a, P: PlacedRecord<'a> + Drop>(
     alloc: Global,
     bytes: &'a [u8],

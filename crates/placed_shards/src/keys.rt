@@ -13,8 +13,7 @@ use xet_base::error::Result;
 use xet_base::merklehash::HMACKey;
 use xet_shards::shard_writer::with_keyed_hashes;
 
-/// The xorbs with their chunk hashes under a key; the key of zeros is none. `OutOfMemory` if an
-/// allocation fails.
+/// The xorbs with their chunk hashes under a key, or `OutOfMemory`. The key of zeros is none.
 pub(crate) fn all_keyed<'a>(
     alloc: Global,
     arena: &'a Bump,
@@ -33,7 +32,6 @@ pub(crate) fn all_keyed<'a>(
     Ok(xorbs)
 }
 
-// The xorb with its chunk hashes under a key.
 fn keyed<'a>(
     alloc: Global,
     arena: &'a Bump,

@@ -1,4 +1,5 @@
-//! Laws of shards that are opened in parts.
+//! Laws of shards that are opened in parts. Functions of these modules do nothing: their contracts
+//! are the laws.
 
 ghost use Rattle.std.specs.Prelude.{◌≡◌, ℕ, ◌+◌, ◌*◌, ◌≤◌, true, List, length, None};
 ghost use Rattle.std.specs.List.{AllZip};
@@ -21,10 +22,9 @@ pub mod ranges;
 pub mod unions;
 pub mod written;
 
-/// Does nothing. Its contract says of [`open_by_tables`](crate::by_tables::open_by_tables), for
-/// ranges that follow one another and leave no hash out: if it opens bytes in each of them, these
-/// hold one shard, as [`open`](crate::open::open) opens it, and each part has the records of this
-/// shard in its range. So by wrong tables no record is lost: some call fails instead.
+/// Law: if [`open_by_tables`](crate::by_tables::open_by_tables) opens bytes in each of some ranges
+/// that partition the hashes, [`open`](crate::open::open) opens them as one shard, of which each
+/// part has the records in its range. So wrong tables lose no record.
 pub fn tables_lose_no_record()
     ensures { (bytes : List ℕ) → (cuts : List DataHash) → (parts : List Content)
         → AreCuts None cuts None
@@ -34,9 +34,8 @@ pub fn tables_lose_no_record()
         (ranges_between None cuts None) parts }
 {}
 
-/// Does nothing. Its contract says that [`open_by_tables`](crate::by_tables::open_by_tables) has
-/// one value for bytes and a range (`one`), and that the rows of its files and those of its xorbs
-/// are each in the bytes (`rows`).
+/// Law: `open_by_tables` has one value (`one`), whose rows, of files and of xorbs each, are in the
+/// bytes (`rows`).
 pub fn tables_find_one_part()
     ensures one { (range : HashRange) → (bytes : List ℕ) → (c d : Content)
         → OpensByTables range bytes c → OpensByTables range bytes d → c ≡ d }
@@ -46,10 +45,9 @@ pub fn tables_find_one_part()
         ≤ 2 * length bytes }
 {}
 
-/// Does nothing. Its contract says that [`open_by_tables`](crate::by_tables::open_by_tables) finds
-/// the records of a range in bytes that have the tables of their records, if none below a bound of
-/// the range has the bound's first word (`opened`). Bytes that are written with both tables have
-/// the tables of their records (`written`).
+/// Law: the tables of the records find those of a range (`opened`), unless its end is below its
+/// start, or a record below a bound has the bound's first word. Bytes written with both tables have
+/// such tables (`written`).
 pub fn own_tables_find_records()
     ensures opened { (range : HashRange) → (bytes : List ℕ) → (whole : Content)
         → (opens : Opens bytes whole) → HasOwnTables bytes opens.info whole

@@ -1,8 +1,8 @@
-//! Shards that are not written yet: records of shards where they lie in memory, what is made of
-//! them, and their bytes.
+//! Shards that are not written yet: records where they lie in memory, what is made of them, and
+//! their bytes. `OutOfMemory` means that an allocation failed.
 //!
-//! Which records a shard has (`open`, `by_tables`, `change`, `unions`, `merge`, `strict`), in which
-//! version it is written, and to where (`sink`) are three choices, made one by one.
+//! `open`, `by_tables`, `change`, `unions`, `merge` and `strict` choose the records of a shard,
+//! `sink` its version and target.
 #![tactic(auto)]
 
 mod agreement;

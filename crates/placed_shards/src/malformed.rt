@@ -1,7 +1,4 @@
-//! Records that no shard may have, though they can be read: a file whose header has an unknown flag
-//! or a reserved word that is not zero, or a xorb whose chunks have more than 4294967295 bytes
-//! together. A union takes flags and reserved words from one of its inputs, so with such files the
-//! bytes of a merge depend on the order of its inputs.
+//! Records that can be read, but no shard may have. A union of such files depends on their order.
 
 ghost use Rattle.std.specs.Prelude.{◌≡◌, ◌↔◌, ◌≤◌, IsTrue};
 ghost use Rattle.xet_records.specs.FileRecord.{IsWellFormed};
@@ -27,7 +24,7 @@ pub trait RecordRule<'a>: PlacedRecord<'a> {
         ensures { IsTrue result ↔ IsFormed (Self.kind.as_read self.now) };
 }
 
-/// The hash of the first of these records that no shard may have, as reading returns it.
+/// The hash of the first record that no shard may have, as reading returns it.
 pub fn find_malformed_record<'a, P: RecordRule<'a>>(records: &[P]) -> Option<MerkleHash>
     requires { total_rows P.kind records.now ≤ MAX_ROWS }
     ensures { FindsMalformed P.kind P.IsFormed records.now result }

@@ -24,8 +24,7 @@ use xet_records::rows::Rows;
 use xet_records::xorb_structs::{MDBXorbInfo, XorbChunkSequenceEntry};
 use xet_shards::shard_writer::FileStart;
 
-/// The xorbs with a mark at each chunk at which one of these files starts. `OutOfMemory` if an
-/// allocation fails.
+/// The xorbs with a mark at each chunk at which one of these files starts, or `OutOfMemory`.
 pub(crate) fn all_marked<'a>(
     alloc: Global,
     arena: &'a Bump,
@@ -43,7 +42,7 @@ pub(crate) fn all_marked<'a>(
     Ok(xorbs)
 }
 
-// Where these files start, in ascending order. A file without segments starts nowhere.
+// Where files start, ascending. A file without segments starts nowhere.
 fn starts_of(alloc: Global, files: &[PlacedFile<'_>]) -> Result<Vec<FileStart>>
     ensures { MatchResult result
         (λ starts. (has_start starts.items ≡ is_start files.now) × IsSorted start_cmp starts.items)
@@ -57,7 +56,6 @@ fn starts_of(alloc: Global, files: &[PlacedFile<'_>]) -> Result<Vec<FileStart>>
     Ok(starts)
 }
 
-// Adds where a file starts, if it has a segment.
 fn push_start(starts: &mut Vec<FileStart>, file: &PlacedFile<'_>) -> Result<()>
     ensures { MatchResult result
         (λ _. starts.new.items ≡ starts.old.items ++ start_of_file file.now)
@@ -75,8 +73,7 @@ fn push_start(starts: &mut Vec<FileStart>, file: &PlacedFile<'_>) -> Result<()>
     Ok(())
 }
 
-// The xorb with a mark at each chunk that is one of these starts, which ascend. It stays where it
-// is if none is.
+// The xorb with a mark at each of its chunks that is a start, where it lies if there is none.
 fn marked<'a>(
     alloc: Global,
     arena: &'a Bump,
@@ -95,7 +92,6 @@ fn marked<'a>(
     place_xorb(arena, &with_marks(read_xorb(alloc, xorb)?, own))
 }
 
-// The xorb with a mark at each of these starts, which are chunks of it.
 fn with_marks(xorb: MDBXorbInfo, starts: &[FileStart]) -> MDBXorbInfo
     requires hashes { All (λ s. s.xorb_hash ≡ xorb_hash_of xorb) starts.now }
     requires indices { All (λ s. s.chunk_index < length xorb.chunks) starts.now }
@@ -110,7 +106,7 @@ fn with_marks(xorb: MDBXorbInfo, starts: &[FileStart]) -> MDBXorbInfo
     }
 }
 
-// Those of some starts, which ascend, that are chunks of a xorb.
+// The starts that are chunks of a xorb.
 fn starts_in<'s>(starts: &'s [FileStart], xorb: &PlacedXorb<'_>) -> &'s [FileStart]
     requires { IsSorted start_cmp starts.now }
     ensures hashes { All (λ s. s.xorb_hash ≡ xorb_hash_of xorb.now) result.now }
@@ -131,7 +127,6 @@ fn starts_in<'s>(starts: &'s [FileStart], xorb: &PlacedXorb<'_>) -> &'s [FileSta
     starts_before(starts_from(starts, first), end)
 }
 
-// The starts from this one on. They may repeat.
 fn starts_from<'s>(starts: &'s [FileStart], first: FileStart) -> &'s [FileStart]
     requires { IsSorted start_cmp starts.now }
     ensures { AreStartsFrom first starts.now result.now }
@@ -144,7 +139,6 @@ fn starts_from<'s>(starts: &'s [FileStart], first: FileStart) -> &'s [FileStart]
     &starts[place..]
 }
 
-// The starts before this one. They may repeat.
 fn starts_before<'s>(starts: &'s [FileStart], end: FileStart) -> &'s [FileStart]
     requires { IsSorted start_cmp starts.now }
     ensures { AreStartsBefore end starts.now result.now }
@@ -157,7 +151,6 @@ fn starts_before<'s>(starts: &'s [FileStart], end: FileStart) -> &'s [FileStart]
     &starts[..place]
 }
 
-// Marks the chunks of a xorb at these starts.
 fn mark_chunks(chunks: &mut [XorbChunkSequenceEntry], starts: &[FileStart])
     requires { All (λ s. s.chunk_index < length chunks.old) starts.now }
     ensures { (x : MDBXorbInfo) → x.chunks ≡ chunks.old

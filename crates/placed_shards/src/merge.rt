@@ -1,6 +1,5 @@
-//! The union of a list of shards, by a balanced tree of unions: that of the first half of the list with
-//! that of the second. An input is opened where its half comes down to it alone, so that of two small
-//! shards that lie side by side, the second is still near when they are united.
+//! The union of a list of shards, by a balanced tree of unions. Inputs are opened at its leaves, so
+//! that small ones stay in the cache.
 
 ghost use Rattle.std.specs.Prelude.{◌≡◌, List, map, length, true, IsTrue, IfOk, MatchResult};
 ghost use Rattle.xet_base.specs.declared.merklehash.DataHash.{DataHash};
@@ -26,15 +25,13 @@ use std::alloc::Global;
 use xet_base::error::{CoreError, Result};
 use xet_shards::shard_writer::LayoutOptions;
 
-/// The union of the records that are selected of one shard or more under one key, with all tables,
-/// this key, creation 0 and no expiry. Of shards that agree
-/// pairwise it has the records of their join, in any order of the list. In any version it has at most
-/// 344 bytes and 8/3 of the inputs'.
+/// The union of the selected records of one shard or more under one key, with all tables, this key,
+/// creation 0 and no expiry: their join, if they are well-formed and agree pairwise. In any version
+/// it has at most 344 bytes more than 8/3 of the inputs' bytes.
 ///
-/// The inputs are opened in the order of the list, and the error is that of the first input or union
-/// that fails, of a union after both its halves: those of [`open`], or of
-/// [`open_by_tables`], and of [`union`]. `InvalidArguments`
-/// if the list is empty.
+/// `InvalidArguments` if the list is empty; else the error of the first input or union that fails
+/// in the order of the list, a union after both its halves: those of [`open`] or
+/// [`open_by_tables`], and of [`union`].
 pub fn merge<'a>(
     alloc: Global,
     arena: &'a Bump,
@@ -54,8 +51,8 @@ pub fn merge<'a>(
     merge_halves(alloc, arena, inputs, *selection, false)
 }
 
-/// The same of inputs that have to be well-formed and to agree, if `strict` is set. If they don't, its
-/// error says no more than that.
+/// As [`merge`]. With `strict`, inputs have to be well-formed and agree; if they don't, the error
+/// says no more.
 pub(crate) fn merge_halves<'a>(
     alloc: Global,
     arena: &'a Bump,
@@ -81,7 +78,7 @@ pub(crate) fn merge_halves<'a>(
     union(alloc, arena, &one, &other)
 }
 
-// The records of an input that are selected, which have to be well-formed if `strict` is set.
+// With `strict`, the records have to be well-formed.
 fn open_alone<'a>(
     alloc: Global,
     bytes: &'a [u8],
@@ -101,7 +98,7 @@ fn open_alone<'a>(
     Ok(opened)
 }
 
-/// The records of an input that are selected, with all tables, its key, creation 0 and no expiry.
+/// The selected records of an input, with the options that `merge` gives.
 pub(crate) fn open_selected<'a>(
     alloc: Global,
     bytes: &'a [u8],

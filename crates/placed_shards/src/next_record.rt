@@ -24,11 +24,11 @@ pub struct NextRecord<'a, P> {
     pub rest: &'a [u8],
 }
 
-/// The next record of a section that bytes are the rest of, and the bytes after it, or `None` at the
-/// bookend. Its rows are counted down from `rows_left`.
+/// The next record of a section, or `None` at the bookend. Its rows are counted down from
+/// `rows_left`.
 ///
-/// `UnexpectedEof` if the bytes end before the record does, `InvalidShard` if the version does not
-/// have such a header, or the record has more rows than `rows_left`.
+/// `UnexpectedEof` if the bytes end before the record does; `InvalidShard` if the version does not
+/// have such a header, or the record has more than `rows_left` rows.
 pub fn next_record<'a, P: PlacedRecord<'a>>(
     alloc: Global,
     bytes: &'a [u8],

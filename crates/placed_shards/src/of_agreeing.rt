@@ -1,6 +1,4 @@
-//! What the union of two shards that have to agree makes of two records with one hash. Xorbs agree if
-//! they are equal; files if they have equal segments, and an equal optional part wherever both have
-//! it. Bytes are compared first, and a file is read only if they differ.
+//! What the union of two shards that have to agree makes of two records with one hash.
 
 ghost use Rattle.std.specs.Prelude.{◌≡◌, ◌↔◌, IsTrue, Option, None, Some, MatchResult};
 ghost use Rattle.xet_base.specs.declared.error.CoreError.TheVariants.{OutOfMemory};
@@ -25,7 +23,8 @@ use xet_records::file_structs::{MDBFileInfo, OptionalPart};
 use xet_records::record_reader::SectionRecord;
 use xet_records::rows::ROW_SIZE;
 
-/// The union of two records that agree; of others nothing is made.
+/// The union of two records that agree, as [`merge_agreeing`](crate::strict::merge_agreeing) says;
+/// of others nothing is made.
 pub struct OfAgreeing {}
 
 impl<'a> Union<'a, PlacedFile<'a>> for OfAgreeing {
@@ -69,7 +68,6 @@ pub(crate) fn files_agree(
     Ok(same_segments(&one, &other) && agree_on_parts(&one, &other))
 }
 
-// Whether two records have the same bytes.
 pub(crate) fn are_copies<'a, P: PlacedRecord<'a>>(first: &P, second: &P) -> bool
     ensures { IsTrue result ↔ (first.now ≡ second.now) }
 {
@@ -85,7 +83,7 @@ fn are_equal(first: &[u8], second: &[u8]) -> bool
     first == second
 }
 
-// Reads a file. Its rows are there to be read, so this fails only if an allocation does.
+// Only an allocation may fail, since the rows are there.
 fn read_file(alloc: Global, file: &PlacedFile<'_>) -> Result<MDBFileInfo>
     ensures { MatchResult result (λ found. found ≡ as_read file.now) (λ e. e ≡ OutOfMemory) }
 {
@@ -108,7 +106,6 @@ fn same_segments(first: &MDBFileInfo, second: &MDBFileInfo) -> bool
     first.segments == second.segments
 }
 
-// Whether each part that both files have is the same in both.
 fn agree_on_parts(first: &MDBFileInfo, second: &MDBFileInfo) -> bool
     ensures { IsTrue result ↔ ((part : OptionalPart) → AgreeOn part first.now second.now) }
 {
@@ -117,7 +114,7 @@ fn agree_on_parts(first: &MDBFileInfo, second: &MDBFileInfo) -> bool
         .all(|part| agree_on(first, second, *part))
 }
 
-// Whether a part is absent in one of two files, or the same in both.
+// A part that one of two files lacks agrees.
 fn agree_on(first: &MDBFileInfo, second: &MDBFileInfo, part: OptionalPart) -> bool
     ensures { IsTrue result ↔ AgreeOn part first.now second.now }
 {

@@ -1,5 +1,4 @@
-//! What the union of two shards makes of two records with one hash: of files that of
-//! [`shard_set_union`](xet_core_structures::set_operations::shard_set_union), of xorbs the first.
+//! What the union of two shards makes of two records with one hash.
 
 ghost use Rattle.std.specs.Prelude.{◌≡◌, Option, None, Some, MatchOption, MatchResult};
 ghost use Rattle.xet_base.specs.declared.error.CoreError.TheVariants.{OutOfMemory};
@@ -22,8 +21,8 @@ use xet_core_structures::set_operations::mix_rows;
 use xet_records::file_structs::{FileDataSequenceHeader, SupersetResult};
 use xet_records::rows::{ROW_LIMIT, ROW_SIZE, Row};
 
-/// The union: of two files the one whose flags include the other's, the first if they are equal; else
-/// a mix, with each optional part from the first if it has it. Of two xorbs the first.
+/// Of two files the one whose flags include the other's, the first if they are equal; else a mix,
+/// with each optional part from the first if it has it. Of two xorbs the first.
 pub struct OfUnion {}
 
 impl<'a> Union<'a, PlacedFile<'a>> for OfUnion {
@@ -50,8 +49,8 @@ impl<'a> Union<'a, PlacedFile<'a>> for OfUnion {
     {}
 }
 
-// A mix of two files, which is placed in the arena. `None` if they differ in their count of segments,
-// or the mix has too many rows for a section.
+// A mix in the arena. `None` if the files differ in their count of segments, or it has too many
+// rows for a section.
 fn place_mix<'a>(
     alloc: Global,
     arena: &'a Bump,
@@ -79,8 +78,7 @@ fn place_mix<'a>(
     Ok(Some(PlacedFile::of_bytes(placed)))
 }
 
-// The bytes of a mix of two files. Their rows are there to be read, and writing to a vector fails
-// only if it is out of memory.
+// Only an allocation may fail, since the rows are there.
 fn mixed_bytes(alloc: Global, first: &PlacedFile<'_>, second: &PlacedFile<'_>) -> Result<Vec<u8>>
     requires { first.now.metadata.num_entries ≡ second.now.metadata.num_entries }
     ensures { MatchResult result

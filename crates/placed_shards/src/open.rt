@@ -1,4 +1,4 @@
-//! Shards of bytes: by the footer, and of what stands behind the header.
+//! Shards of bytes: by the footer, or behind the header.
 
 ghost use Rattle.std.specs.Prelude.{◌≡◌, true, false, None, MatchResult};
 ghost use Rattle.xet_shards.specs.Ends.Ends.{EndsInHeader, FormatCase, HasHeader, HasUnsupportedHeader};
@@ -22,14 +22,14 @@ use xet_records::rows::ROW_SIZE;
 use xet_shards::shard_format::{HEADER_SIZE, MDBShardFileHeader, MDBShardInfo, TAG_SIZE};
 use xet_shards::shard_writer::{LayoutOptions, bytes_from};
 
-/// The shard that bytes hold by their footer, with the key, the times and the tables that the footer
-/// has. Reserved words of a file's optional parts are zero, as reading them returns. Hashes of files
-/// strictly ascend, and so do those of xorbs.
+/// The shard that bytes hold by their footer, with its key, times and tables. Reserved words of
+/// files' optional parts are zero, as reading returns them. Hashes of files and of xorbs each
+/// strictly ascend.
 ///
-/// `ShardVersion` or `UnexpectedEof` if there is no such header and footer; then of the files and
-/// after them of the xorbs, `UnexpectedEof` if the bytes end before the section does, `InvalidShard`
+/// `ShardVersion` or `UnexpectedEof` if there is no such header and footer; then, of the files
+/// before the xorbs, `UnexpectedEof` if the bytes end before the section does, and `InvalidShard`
 /// if the version does not have a header, the rows pass 4294967295, or a hash is not above the one
-/// before it. `OutOfMemory` if an allocation fails.
+/// before it; or `OutOfMemory`.
 pub fn open<'a>(alloc: Global, bytes: &'a [u8]) -> Result<PlacedShard<'a>>
     ensures { MatchResult result
         (λ shard. (shard.as_read ≡ true) × Opens bytes.now (content shard))
@@ -50,12 +50,11 @@ pub fn open<'a>(alloc: Global, bytes: &'a [u8]) -> Result<PlacedShard<'a>>
     })
 }
 
-/// The shard of which bytes have the header and both sections behind it, in any order, each record
-/// as it is stored, whatever comes after these. It has all tables, no key, creation 0 and no expiry.
+/// The shard of the header and both sections behind it, whatever follows: records in any order, as
+/// stored, with all tables, no key, creation 0 and no expiry.
 ///
-/// `ShardVersion` if the header is unsupported, `UnexpectedEof` if the bytes end before both
-/// sections do, `InvalidShard` if the version does not have the header of a file or the rows of a
-/// section pass 4294967295, `OutOfMemory` if an allocation fails.
+/// `ShardVersion` if the header is unsupported; `UnexpectedEof` if it is cut off; then the errors
+/// of [`read_section`], of the files before the xorbs.
 pub fn open_behind_header<'a>(alloc: Global, bytes: &'a [u8]) -> Result<PlacedShard<'a>>
     ensures { MatchResult result
         (λ shard. HasSections bytes.now shard.files.items shard.xorbs.items
@@ -81,8 +80,7 @@ pub fn open_behind_header<'a>(alloc: Global, bytes: &'a [u8]) -> Result<PlacedSh
     })
 }
 
-// The version in the header at the front of bytes. `UnexpectedEof` if they end before it does,
-// `ShardVersion` if the tag is another, or the version.
+// `UnexpectedEof` if the header is cut off; `ShardVersion` if the tag or the version is another.
 fn header_version(alloc: Global, bytes: &[u8]) -> Result<FormatVersion>
     ensures { MatchResult result
         (λ version. (header : HasHeader bytes.now) × (header.version ≡ version))

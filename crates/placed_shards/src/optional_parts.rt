@@ -16,7 +16,7 @@ use xet_records::file_structs::{FileDataSequenceHeader, KeptParts, OptionalPart}
 use xet_records::record_bytes::part as rows_at;
 use xet_records::rows::{ROW_SIZE, Row};
 
-/// The files with these of their parts. `OutOfMemory` if an allocation fails.
+/// The files with these of their parts, or `OutOfMemory`.
 pub(crate) fn all_with_parts<'a>(
     arena: &'a Bump,
     mut files: Vec<PlacedFile<'a>>,
@@ -31,7 +31,7 @@ pub(crate) fn all_with_parts<'a>(
     Ok(files)
 }
 
-// The file with these of its parts. It stays where it is if it has no others.
+// A file without other parts stays where it lies.
 fn with_parts<'a>(arena: &'a Bump, file: &PlacedFile<'a>, kept: KeptParts) -> Result<PlacedFile<'a>>
     ensures { MatchResult result (λ made. made ≡ as_kept kept file.now)
         (λ e. e ≡ CoreError.OutOfMemory) }
@@ -43,7 +43,6 @@ fn with_parts<'a>(arena: &'a Bump, file: &PlacedFile<'a>, kept: KeptParts) -> Re
     Ok(PlacedFile::of_bytes(kept_bytes(arena, file, kept)?))
 }
 
-// Whether a part is one of those that are kept.
 fn is_kept(kept: KeptParts, part: OptionalPart) -> bool
     ensures { result ≡ keeps kept part }
 {
@@ -54,7 +53,6 @@ fn is_kept(kept: KeptParts, part: OptionalPart) -> bool
     }
 }
 
-// Whether a file has no parts but those that are kept.
 fn has_no_others(file: &PlacedFile<'_>, kept: KeptParts) -> bool
     ensures { IsTrue result → as_kept kept file.now ≡ file.now }
 {
@@ -64,7 +62,6 @@ fn has_no_others(file: &PlacedFile<'_>, kept: KeptParts) -> bool
         & (kept.aux_ext | !header.contains_aux_ext())
 }
 
-// The header of a file with these of its parts.
 fn kept_header(file: &PlacedFile<'_>, kept: KeptParts) -> FileDataSequenceHeader
     ensures { result ≡ (as_kept kept file.now).metadata }
 {
@@ -88,7 +85,6 @@ fn kept_header(file: &PlacedFile<'_>, kept: KeptParts) -> FileDataSequenceHeader
     }
 }
 
-// The bytes of a file with these of its parts.
 fn kept_bytes<'a>(arena: &'a Bump, file: &PlacedFile<'_>, kept: KeptParts) -> Result<&'a [u8]>
     ensures { MatchResult result (λ bytes. bytes.now ≡ file_record_bytes (as_kept kept file.now))
         (λ e. e ≡ CoreError.OutOfMemory) }

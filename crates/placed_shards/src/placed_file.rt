@@ -1,4 +1,4 @@
-//! A file record as its bytes, where they lie.
+//! File records in memory.
 
 ghost use Rattle.std.specs.Prelude.{◌≡◌, ◌^◌, ◌≤◌, ◌↔◌, IsTrue};
 ghost use Rattle.xet_base.specs.Hash.{all_ones};

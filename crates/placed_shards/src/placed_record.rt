@@ -9,8 +9,8 @@ ghost use Rattle.xet_records.specs.Limits.{MAX_ROWS};
 use xet_base::merklehash::MerkleHash;
 use xet_records::rows::Row;
 
-/// A record of a section, a file or a xorb, as its bytes, where they lie: the header row and the
-/// rows after it, and no more. Contracts see the record.
+/// A file or a xorb as its bytes, where they lie: the header row and the rows after it. Contracts
+/// see the record.
 pub trait PlacedRecord<'a> {
     type Header: Row;
 
@@ -29,12 +29,11 @@ pub trait PlacedRecord<'a> {
         ensures rows { result ≡ kind.rows_after header.now }
         ensures bound { result ≤ 2 ^ 33 };
 
-    /// Whether the header is new in version 3, so that version 2 does not have it.
+    /// Whether version 2 does not have the header.
     fn is_new(header: &Self::Header) -> bool
         ensures { result ≡ kind.is_new header.now };
 
-    /// The record under this header, which is no bookend's, that these bytes are, no more and no
-    /// fewer.
+    /// The record of these bytes under this header, which is no bookend's.
     fn under_header(header: &Self::Header, bytes: &'a [u8]) -> Self
         requires begins { BeginsWithHeaderRow kind bytes.now header.now }
         requires is_record { kind.hash_of header.now ≢ all_ones }
@@ -67,25 +66,23 @@ pub trait PlacedRecord<'a> {
     fn hash(&self) -> MerkleHash
         ensures { result ≡ kind.hash_of (kind.header_of self.now) };
 
-    /// The first word of the hash, by which hashes are ordered first. It is kept beside the bytes,
-    /// so that to compare records touches few of them.
+    /// The first word of the hash, kept so that comparing touches few bytes.
     fn word(&self) -> u64
         ensures { result ≡ (kind.hash_of (kind.header_of self.now)).word0 };
 
-    /// Does nothing. It says that the record may be in a section.
+    /// Does nothing: the record may be in a section.
     fn is_stored(&self)
         ensures stored { kind.IsStored self.now }
         ensures rows { kind.rows_after (kind.header_of self.now) ≤ MAX_ROWS };
 
-    /// Does nothing. It says what holds of every kind of records, and that reading a header returns
-    /// it as it is stored.
+    /// Does nothing: the kind has its laws, and reading a header returns it as it is stored.
     fn laws()
         ensures laws { KindLaws kind }
         ensures header_row { IsHeaderRow kind Self.Header.row_bytes Self.Header.Fits
             Self.Header.as_read };
 }
 
-/// Does nothing. It says that records in memory may be in a section.
+/// Does nothing: these records may be in a section.
 pub fn all_stored<'a, P: PlacedRecord<'a>>(records: &[P])
     ensures { All P.kind.IsStored records.now }
 {

@@ -1,4 +1,4 @@
-//! A shard that is not written yet.
+//! Shards in memory.
 
 ghost use Rattle.std.specs.Prelude.{◌≤◌};
 ghost use Rattle.xet_records.specs.FileRecord.{file_records};
@@ -10,12 +10,12 @@ use crate::placed_file::PlacedFile;
 use crate::placed_xorb::PlacedXorb;
 use xet_shards::shard_writer::LayoutOptions;
 
-/// A shard that is not written yet: its records, files and xorbs each in the order in which they are
-/// written, and the options of its layout, of which the version is not looked at.
+/// A shard that is not written yet: its records, in the order in which they are written, and its
+/// layout's options, whose version is ignored.
 #[derive(Drop)]
 pub struct PlacedShard<'a> {
     pub options: LayoutOptions,
-    /// Whether reserved words of the rows of optional parts are zero, whatever the bytes are.
+    /// Whether reserved words of optional parts are zero, whatever the bytes are.
     pub as_read: bool,
     pub files: Vec<PlacedFile<'a>>,
     pub xorbs: Vec<PlacedXorb<'a>>,

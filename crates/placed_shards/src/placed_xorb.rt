@@ -1,4 +1,4 @@
-//! A xorb record as its bytes, where they lie.
+//! Xorb records in memory.
 
 ghost use Rattle.std.specs.Prelude.{◌≡◌, ◌^◌, ◌≤◌, ◌↔◌, false, IsTrue};
 ghost use Rattle.xet_base.specs.Hash.{all_ones};

@@ -1,5 +1,4 @@
-//! The records of some shards in the order of their hashes, so that those with one hash stand
-//! together.
+//! The records of some shards in the order of their hashes.
 
 ghost use Rattle.std.specs.Prelude.{◌≡◌, ◌↔◌, ◌<◌, IsTrue, length, map, MatchResult, OnOk, IfErr};
 ghost use Rattle.std.specs.List.Sorted.{IsSorted};
@@ -13,7 +12,7 @@ use std::alloc::Global;
 use xet_base::error::Result;
 use xet_base::merklehash::MerkleHash;
 
-/// Where a record is: the number of the shard that has it, and its index among the shard's.
+/// Where a record is: the number of its shard, and its index there.
 #[derive(Clone, Copy, Debug, PartialEq, Eq, PartialOrd, Ord)]
 pub struct Place {
     pub hash: MerkleHash,
@@ -21,8 +20,7 @@ pub struct Place {
     pub index: usize,
 }
 
-/// The places of all records of one kind, in ascending order of their hashes. `OutOfMemory` if an
-/// allocation fails.
+/// The places of all records, in ascending order of hashes, or `OutOfMemory`.
 pub fn sorted_places<'a, P: Agreement<'a>>(
     alloc: Global,
     shards: &[PlacedShard<'a>],
@@ -42,7 +40,7 @@ pub fn sorted_places<'a, P: Agreement<'a>>(
     Ok(places)
 }
 
-// Adds the places of the records of the list with this number.
+// Adds the places of the records of a list.
 fn add_places<'a, P: PlacedRecord<'a>>(
     places: &mut Vec<Place>,
     records: &[P],
@@ -60,7 +58,7 @@ fn add_places<'a, P: PlacedRecord<'a>>(
     Ok(())
 }
 
-/// Where the places end that have the hash of this one.
+/// The end of the places from this one on that have its hash.
 pub fn run_end(places: &[Place], from: usize) -> usize
     requires sorted { IsSorted place_cmp places.now }
     requires within { from < length places.now }

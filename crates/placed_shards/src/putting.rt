@@ -1,4 +1,4 @@
-//! Putting records into a slice that has room for them, one section after another.
+//! Putting records into a slice that has room for them.
 
 ghost use Rattle.std.specs.Prelude.{◌≡◌, ◌+◌, ◌*◌, ◌≤◌, List, ℕ, All, ◌++◌, flat_map, length, map};
 ghost use Rattle.xet_records.specs.declared.file_structs.rows.HashRow.{HashRow};
@@ -18,7 +18,7 @@ use xet_records::record_reader::FormatVersion;
 use xet_records::rows::{ROW_SIZE, Row};
 use xet_shards::shard_format::MDBShardFileHeader;
 
-/// Puts the header of a version at the front of a slice, and returns the offset after it.
+/// Puts the header of a version, and returns the offset after it.
 pub fn put_header(out: &mut [u8], version: FormatVersion) -> usize
     requires { 48 ≤ length out.old }
     ensures { Puts out.old out.new 0 result (shard_header_bytes (header_value version)) }
@@ -29,8 +29,7 @@ pub fn put_header(out: &mut [u8], version: FormatVersion) -> usize
     put_u64(out, at, header.footer_size)
 }
 
-/// Puts the section of files, as they are stored or as reading returns them, into a slice at an
-/// offset, and returns the offset after it.
+/// Puts the section of files, as stored or as read, at an offset, and returns the offset after it.
 pub fn put_files(out: &mut [u8], at: usize, files: &[PlacedFile<'_>], is_read: bool) -> usize
     requires { at + 48 * (total_rows file_records files.now + 1) ≤ length out.old }
     ensures { Puts out.old out.new at result
@@ -43,7 +42,6 @@ pub fn put_files(out: &mut [u8], at: usize, files: &[PlacedFile<'_>], is_read: b
     put_bytes(out, end, &PlacedFile::bookend().to_bytes())
 }
 
-// Puts a file, as it is stored or as reading returns it.
 fn put_file(out: &mut [u8], at: usize, file: &PlacedFile<'_>, is_read: bool) -> usize
     requires { at + 48 * row_count file.now ≤ length out.old }
     ensures end { result ≡ at + 48 * row_count file.now }
@@ -61,7 +59,7 @@ fn put_file(out: &mut [u8], at: usize, file: &PlacedFile<'_>, is_read: bool) -> 
     put_cleared(out, end, optional, 1 + header.rows_after() as usize - fixed)
 }
 
-// Puts rows of optional parts, with zeros for their reserved words.
+// Puts rows of optional parts with reserved words of zero.
 fn put_cleared(out: &mut [u8], at: usize, rows: &[u8], count: usize) -> usize
     requires rows { 48 * count ≤ length rows.now }
     requires room { at + 48 * count ≤ length out.old }
@@ -76,7 +74,6 @@ fn put_cleared(out: &mut [u8], at: usize, rows: &[u8], count: usize) -> usize
     end
 }
 
-// Puts a row of an optional part.
 fn put_cleared_row(out: &mut [u8], at: usize, row: &[u8]) -> usize
     requires row { length row.now ≡ 48 }
     requires room { at + 48 ≤ length out.old }
@@ -89,7 +86,7 @@ fn put_cleared_row(out: &mut [u8], at: usize, row: &[u8]) -> usize
     put_u64(out, end, 0)
 }
 
-/// Puts the section of xorbs into a slice at an offset, and returns the offset after it.
+/// As [`put_files`], of xorbs.
 pub fn put_xorbs(out: &mut [u8], at: usize, xorbs: &[PlacedXorb<'_>]) -> usize
     requires { at + 48 * (total_rows xorb_records xorbs.now + 1) ≤ length out.old }
     ensures { Puts out.old out.new at result (section_bytes xorb_records xorbs.now) }
@@ -101,7 +98,6 @@ pub fn put_xorbs(out: &mut [u8], at: usize, xorbs: &[PlacedXorb<'_>]) -> usize
     put_bytes(out, end, &PlacedXorb::bookend().to_bytes())
 }
 
-// Puts bytes into a slice at an offset, and returns the offset after them.
 fn put_bytes(out: &mut [u8], at: usize, bytes: &[u8]) -> usize
     requires { at + length bytes.now ≤ length out.old }
     ensures { Puts out.old out.new at result bytes.now }

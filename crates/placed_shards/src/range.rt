@@ -6,12 +6,12 @@ ghost use Rattle.placed_shards.specs.Ranges.{is_from, is_before, is_within};
 use std::cmp::Ordering;
 use xet_base::merklehash::MerkleHash;
 
-/// The hashes from `from` on and below `to`. There is none if `to` is not above `from`.
+/// The hashes from `from` on and below `to`: none if `to` is not above `from`.
 #[derive(Clone, Copy, Debug, PartialEq, Eq)]
 pub struct HashRange {
-    /// The least hash of the range, or `None` if it has no lower bound.
+    /// The least hash, or `None` for no lower bound.
     pub from: Option<MerkleHash>,
-    /// The hash that ends the range, or `None` if it has no upper bound.
+    /// The hash that ends the range, or `None` for no upper bound.
     pub to: Option<MerkleHash>,
 }
 
@@ -30,7 +30,6 @@ impl HashRange {
     }
 }
 
-// Whether a hash is not below another, if there is one.
 fn is_from(from: &Option<MerkleHash>, hash: &MerkleHash) -> bool
     ensures { result ≡ is_from from.now hash.now }
 {
@@ -40,7 +39,6 @@ fn is_from(from: &Option<MerkleHash>, hash: &MerkleHash) -> bool
     }
 }
 
-// Whether a hash is below another, if there is one.
 fn is_before(to: &Option<MerkleHash>, hash: &MerkleHash) -> bool
     ensures { result ≡ is_before to.now hash.now }
 {

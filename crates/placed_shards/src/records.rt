@@ -1,4 +1,4 @@
-//! A shard of records that are given as values.
+//! Shards of records that are given as values.
 
 ghost use Rattle.std.specs.Prelude.{◌≡◌, ◌+◌, ◌≤◌, ◌↔◌, IsTrue, IfOk, IfSome, option_map, unwrap_or};
 ghost use Rattle.std.specs.FinMap as finite;
@@ -26,12 +26,11 @@ use xet_records::xorb_structs::{MDBXorbInfo, XorbChunkSequenceHeader};
 use xet_shards::shard_in_memory::{is_well_formed_file, is_well_formed_xorb};
 use xet_shards::shard_writer::LayoutOptions;
 
-/// The shard that has these records, with all tables, without a key, with creation 0 and without
-/// expiry. The records may be in any order; of two files, or two xorbs, with one hash the later one
-/// counts.
+/// The shard of these records, in any order, with all tables, no key, creation 0 and no expiry. Of
+/// files, or xorbs, with one hash the last counts.
 ///
-/// `InvalidArguments` if a record is ill-formed, or if after some record the rows of the files or of
-/// the xorbs pass 4294967295. `OutOfMemory` if an allocation fails.
+/// `InvalidArguments` if a record is ill-formed, or if after some record the rows of the files or
+/// of the xorbs pass 4294967295; or `OutOfMemory`.
 pub fn of_records<'a>(
     alloc: Global,
     arena: &'a Bump,
@@ -53,7 +52,6 @@ pub fn of_records<'a>(
     })
 }
 
-// The files in the order of their hashes, of those with one hash the last.
 fn placed_files<'a>(
     alloc: Global,
     arena: &'a Bump,
@@ -74,7 +72,6 @@ fn placed_files<'a>(
     Ok(placed)
 }
 
-// The xorbs in the order of their hashes, of those with one hash the last.
 fn placed_xorbs<'a>(
     alloc: Global,
     arena: &'a Bump,
@@ -135,7 +132,7 @@ fn latest_of<R: GivenRecord + Drop>(alloc: Global, records: Vec<R>) -> Result<Ve
     Ok(latest.into_values().collect(alloc)?)
 }
 
-// The rows of a record, or 0 if there is none.
+// The rows of a record, or 0.
 fn rows_of<R: GivenRecord + Drop>(found: Option<R>) -> u64
     requires { IfSome found R.IsFormed }
     ensures { result ≡ unwrap_or (option_map R.kind.row_count found) 0 }

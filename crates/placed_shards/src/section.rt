@@ -20,7 +20,7 @@ use xet_records::record_reader::FormatVersion;
 use xet_records::rows::{ROW_LIMIT, ROW_SIZE};
 use xet_shards::shard_writer::bytes_from;
 
-/// A section: its records, each where it lies, and the bytes behind it.
+/// A section's records, and the bytes behind it.
 #[derive(Drop)]
 pub struct Section<'a, P> {
     pub records: Vec<P>,
@@ -29,8 +29,8 @@ pub struct Section<'a, P> {
 
 /// The section that bytes begin with, whose records may be in any order.
 ///
-/// `UnexpectedEof` if the bytes end before the bookend, `InvalidShard` if the version does not have
-/// a header, or the rows pass 4294967295. `OutOfMemory` if an allocation fails.
+/// `UnexpectedEof` if the bytes end before the bookend; `InvalidShard` if the version does not have
+/// a header, or the rows pass 4294967295; or `OutOfMemory`.
 pub fn read_section<'a, P: PlacedRecord<'a> + Drop>(
     alloc: Global,
     bytes: &'a [u8],
@@ -59,11 +59,8 @@ pub fn read_section<'a, P: PlacedRecord<'a> + Drop>(
     })
 }
 
-/// The records of the section that bytes begin with, whose hashes have to strictly ascend.
-///
-/// `UnexpectedEof` if the bytes end before the bookend, `InvalidShard` if the version does not have
-/// a header, the rows pass 4294967295, or a hash is not above the one before it. `OutOfMemory` if an
-/// allocation fails. Of several faults the first in the bytes is answered.
+/// The records of [`read_section`], but `InvalidShard` also if a hash is not above the one before
+/// it. Of several faults the first in the bytes is answered.
 pub(crate) fn read_ascending<'a, P: PlacedRecord<'a> + Drop>(
     alloc: Global,
     bytes: &'a [u8],

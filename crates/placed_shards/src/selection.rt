@@ -1,19 +1,18 @@
-//! Which records of an input are taken, and how they are found.
+//! The selection of an input's records.
 
 use crate::range::HashRange;
 
 /// How the records in a range are found.
 #[derive(Clone, Copy, Debug, PartialEq, Eq)]
 pub enum Access {
-    /// Both sections are read, as [`open`](crate::open::open) reads them.
+    /// Both sections are read, by [`open`](crate::open::open).
     Scan,
-    /// Of both sections only the rows are read that their tables name for the range, as
-    /// [`open_by_tables`](crate::by_tables::open_by_tables) reads them.
+    /// Only the rows are read that tables name for the range, by
+    /// [`open_by_tables`](crate::by_tables::open_by_tables).
     Tables,
 }
 
-/// The records of an input in a range of hashes, and how they are found. Files and xorbs are each
-/// taken by their own hash.
+/// The records of an input in a range, files and xorbs each by their own hash.
 #[derive(Clone, Copy, Debug, PartialEq, Eq)]
 pub struct Selection {
     pub range: HashRange,

@@ -1,8 +1,4 @@
-//! Unions and differences of two lists of records, and of two shards.
-//!
-//! A list is read from its front, and the hashes of both strictly ascend, so a loop that takes the
-//! lesser of the first two each time meets all records in order. Where it meets two with one hash, a
-//! `Union` says what is made of them.
+//! Unions and differences of two lists of records whose hashes strictly ascend.
 
 ghost use Rattle.std.specs.Prelude.{◌≡◌, ◌⊎◌, ◌+◌, ◌≤◌, ◌<◌, ℕ, List, map, Option, None, Some, MatchOption, MatchResult};
 ghost use Rattle.xet_base.specs.declared.error.CoreError.TheVariants.{OutOfMemory};
@@ -24,11 +20,11 @@ use xet_records::rows::{ROW_LIMIT, ROW_SIZE};
 
 /// What is made of two records with one hash.
 pub trait Union<'a, P: PlacedRecord<'a>> {
-    // what is made of the records with one hash, where each list may have one
+    // what is made, where each list may have a record
     ghost makes: { Option P → Option P → Option P → Type 0 };
 
-    /// What is made of two records with one hash, as reading returns them, or `None` if nothing is
-    /// that fits a section. A record that is neither is placed in the arena.
+    /// What is made of both, as reading returns them; `None` if that is nothing that fits a
+    /// section; or `OutOfMemory`. A new record is placed in the arena.
     fn make(alloc: Global, arena: &'a Bump, first: &P, second: &P) -> Result<Option<P>>
         requires { key_of_record P.kind first.now ≡ key_of_record P.kind second.now }
         ensures { MatchResult result
@@ -36,8 +32,7 @@ pub trait Union<'a, P: PlacedRecord<'a>> {
             (MakesRecord P.kind makes first.now second.now))
             (λ e. e ≡ OutOfMemory) };
 
-    /// Does nothing. It says what is made where a list has no record, and that one record is made at
-    /// most.
+    /// Does nothing: a record alone is kept, and at most one is made.
     fn laws()
         ensures nothing { makes None None None }
         ensures first_alone { (r : P) → makes (Some r) None (Some r) }
@@ -45,8 +40,8 @@ pub trait Union<'a, P: PlacedRecord<'a>> {
         ensures made_once { (a b c d : Option P) → makes a b c → makes a b d → c ≡ d };
 }
 
-/// The next turn of the union of two lists: the end; a record, and how far both lists are read after
-/// it; or two records of which nothing is made.
+/// The next turn of a union: the end; a record, and how far both lists are then read; or nothing,
+/// where two records have no union.
 #[derive(Drop)]
 pub enum Turn<P> {
     End,
@@ -56,8 +51,7 @@ pub enum Turn<P> {
 
 /// The union of two lists whose hashes strictly ascend, of records as reading returns them.
 ///
-/// `InvalidShard` if two records have no union, or the rows pass 4294967295. `OutOfMemory` if an
-/// allocation fails.
+/// `InvalidShard` if two records have no union, or the rows pass 4294967295; or `OutOfMemory`.
 pub fn unite<'a, P: PlacedRecord<'a> + Drop, U: Union<'a, P>>(
     alloc: Global,
     arena: &'a Bump,
@@ -94,7 +88,6 @@ pub fn unite<'a, P: PlacedRecord<'a> + Drop, U: Union<'a, P>>(
     }
 }
 
-// What comes next of the union of two lists, of which these places are reached.
 fn next_turn<'a, P: PlacedRecord<'a> + Drop, U: Union<'a, P>>(
     alloc: Global,
     arena: &'a Bump,
@@ -128,8 +121,8 @@ fn next_turn<'a, P: PlacedRecord<'a> + Drop, U: Union<'a, P>>(
     }
 }
 
-/// The next turn of the difference of two lists: the end; or how far both are read after a record that
-/// is dropped, or one that is left.
+/// As [`Turn`], of a difference: the end; or how far both lists are read after a record that is
+/// dropped or left.
 #[derive(Drop)]
 pub enum Pass<P> {
     Done,
@@ -137,8 +130,8 @@ pub enum Pass<P> {
     Leaves(P, usize, usize),
 }
 
-/// The records of the second list whose hashes the first does not have, as reading returns them. The
-/// hashes of both strictly ascend. `OutOfMemory` if an allocation fails.
+/// Of two lists as in [`unite`], the records of the second whose hashes the first does not have, or
+/// `OutOfMemory`.
 pub fn subtract<'a, P: PlacedRecord<'a> + Drop>(
     alloc: Global,
     first: &[P],
@@ -174,7 +167,6 @@ pub fn subtract<'a, P: PlacedRecord<'a> + Drop>(
     }
 }
 
-// What comes next of the difference of two lists, of which these places are reached.
 fn next_pass<'a, P: PlacedRecord<'a> + Drop>(
     first: &[P],
     at_1: usize,
@@ -202,7 +194,7 @@ fn next_pass<'a, P: PlacedRecord<'a> + Drop>(
     }
 }
 
-/// How the hashes of two records compare. Where their first words differ, neither record is touched.
+/// Compares the hashes. Bytes are touched only if the first words are equal.
 pub fn compare<'a, P: PlacedRecord<'a>>(one: &P, other: &P) -> Ordering
     ensures { result ≡ hash_cmp (key_of_record P.kind one.now) (key_of_record P.kind other.now) }
 {
@@ -212,14 +204,14 @@ pub fn compare<'a, P: PlacedRecord<'a>>(one: &P, other: &P) -> Ordering
     }
 }
 
-// The rows of a record, its header included. Its bytes are not touched.
+// The rows of a record, without touching its bytes.
 fn rows_of<'a, P: PlacedRecord<'a>>(placed: &P) -> u64
     ensures { result ≡ P.kind.row_count placed.now }
 {
     (placed.bytes().len() / ROW_SIZE) as u64
 }
 
-// Adds rows to a count that stays as it is once it is more than a section has.
+// The sum, unless the count is too large already.
 fn add_rows(rows: u64, more: u64) -> u64
     ensures { (total : ℕ) → CountsRows total rows → CountsRows (total + more) result }
 {
@@ -229,7 +221,6 @@ fn add_rows(rows: u64, more: u64) -> u64
     rows.saturating_add(more)
 }
 
-// A list, if it does not have too many rows for a section.
 fn if_rows_fit<P: Drop>(alloc: Global, made: Vec<P>, rows: u64) -> Result<Vec<P>>
     ensures { MatchResult result (λ found. (found ≡ made) × (rows ≤ MAX_ROWS))
         (λ e. IsInvalidShard e × (MAX_ROWS < rows)) }

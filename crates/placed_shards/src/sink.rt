@@ -1,4 +1,4 @@
-//! The bytes of a shard that is not written yet. All that may fail comes before the first byte.
+//! The bytes of a shard. All that may fail comes before the first byte.
 
 ghost use Rattle.std.specs.Prelude.{◌≡◌, ◌⊎◌, ◌≤◌, ◌↔◌, ◌++◌, drop, length, IsTrue, if◌then◌else◌, MatchResult};
 ghost use Rattle.std.specs.List.{list_any};
@@ -24,8 +24,8 @@ use xet_records::rows::{CHUNK_ROW_SIZE, EMPTY_SIZE, ROW_SIZE, START_ROW_SIZE};
 use xet_shards::shard_writer::{LayoutOptions, ShardEnd, WrittenFiles};
 
 impl PlacedShard<'_> {
-    /// The number of bytes of the shard in a version. `InvalidArguments` if a file has an auxiliary
-    /// row, and the version is 2, which has none.
+    /// The number of bytes in a version. `InvalidArguments` for version 2, if a file has an
+    /// auxiliary row.
     pub fn size(&self, version: FormatVersion) -> Result<usize>
         ensures { MatchResult result
             (λ size. HasFilesIn version (content self.now)
@@ -38,8 +38,7 @@ impl PlacedShard<'_> {
         Ok(self.byte_count())
     }
 
-    /// The bytes of the shard in a version. The errors are those of `size`, and `OutOfMemory` if an
-    /// allocation fails.
+    /// The bytes in a version. The errors are those of `size`, and `OutOfMemory`.
     pub fn to_bytes(&self, alloc: Global, version: FormatVersion) -> Result<Vec<u8>>
         ensures { MatchResult result
             (λ bytes. HasFilesIn version (content self.now)
@@ -55,9 +54,9 @@ impl PlacedShard<'_> {
         Ok(bytes)
     }
 
-    /// Writes the bytes of the shard in a version to the front of a slice, if they fit, and returns
-    /// their number. If they don't, or if the call fails, the slice stays as it is. The errors are
-    /// those of `to_bytes`; nothing is allocated if the bytes don't fit.
+    /// Writes the bytes in a version to the front of a slice, if they fit, and returns their
+    /// number. If they don't, nothing is allocated; then, and on the errors of `to_bytes`, the
+    /// slice stays as it is.
     pub fn write_into(&self, alloc: Global, version: FormatVersion, out: &mut [u8]) -> Result<usize>
         ensures { FillsWith
             (λ bytes. HasFilesIn version (content self.now)
@@ -76,7 +75,7 @@ impl PlacedShard<'_> {
         Ok(size)
     }
 
-    // Whether a version has all files: version 2 has none with an auxiliary row.
+    // Version 2 has no file with an auxiliary row.
     fn has_files_in(&self, version: FormatVersion) -> bool
         ensures { IsTrue result ↔ HasFilesIn version (content self.now) }
     {
@@ -86,7 +85,7 @@ impl PlacedShard<'_> {
         }
     }
 
-    // The number of bytes of the shard, which is the same in all versions.
+    // It is the same in all versions.
     fn byte_count(&self) -> usize
         ensures { (version : FormatVersion)
             → result ≡ length (content_layout version (content self.now)) }
@@ -98,13 +97,12 @@ impl PlacedShard<'_> {
         let xorb_rows = rows_of(xorbs);
         let file_starts = if_in(self.options.file_table, files.len());
         let xorb_starts = if_in(self.options.xorb_table, xorbs.len());
-        // Each row of the xorb section that is no header is a chunk.
+        // Each xorb row but a header is a chunk.
         let chunks = if_in(self.options.chunk_table, xorb_rows - xorbs.len());
         let sections = EMPTY_SIZE as usize + ROW_SIZE * (file_rows + xorb_rows);
         sections + START_ROW_SIZE * (file_starts + xorb_starts) + CHUNK_ROW_SIZE * chunks
     }
 
-    // What the table of files and the footer need of the files.
     fn collected_files(&self, alloc: Global) -> Result<WrittenFiles>
         ensures { MatchResult result (λ written. HasWritten written (content self.now).files)
             (λ e. e ≡ OutOfMemory) }
@@ -112,7 +110,7 @@ impl PlacedShard<'_> {
         collect_files(alloc, self.files.as_slice())
     }
 
-    // The tables and the footer, by what was collected of the files.
+    // The tables and the footer.
     fn end<'w>(
         &self,
         alloc: Global,
@@ -134,8 +132,7 @@ impl PlacedShard<'_> {
         ShardEnd::make(files, xorbs, &options)
     }
 
-    // Puts the bytes of the shard, of which this is the end, to the front of a slice that has room
-    // for them.
+    // Puts the shard, of which this is the end.
     fn put_all(&self, out: &mut [u8], version: FormatVersion, end: &ShardEnd<'_>)
         requires end { end_bytes end.now ≡ end_of_layout (content self.now).files (content self.now).xorbs
             (options_in version (content self.now)) }
@@ -170,7 +167,6 @@ fn rows_of<'a, P: PlacedRecord<'a>>(records: &[P]) -> usize
     size
 }
 
-// A number of rows of a table if it is in, else 0.
 fn if_in(is_in: bool, rows: usize) -> usize
     ensures { result ≡ (if is_in then rows else 0) }
 {

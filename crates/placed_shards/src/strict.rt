@@ -1,4 +1,4 @@
-//! The union of a list of shards that have to be well-formed, and to agree.
+//! The union of shards that have to be well-formed, and to agree.
 
 ghost use Rattle.std.specs.Prelude.{◌≡◌, List, map, true, MatchResult};
 ghost use Rattle.placed_shards.specs.Content.{content};
@@ -18,19 +18,19 @@ use xet_base::error::{CoreError, Result};
 pub enum Agreed<T> {
     /// The shards are well-formed, and agree pairwise.
     Made(T),
-    /// The hashes under which two of the shards have records that do not agree: at least one.
+    /// The hashes under which records of two inputs do not agree, at least one.
     Disagreements(Vec<Disagreement>),
-    /// A record that no shard may have, of the first input that holds one.
+    /// A record that no shard may have, of the first input with one.
     Malformed(MalformedRecord),
 }
 
-/// The union that [`merge`](crate::merge::merge) makes, if the selected records of the inputs are
-/// well-formed, and agree pairwise: two xorbs with one hash if they are equal, and two files if they
-/// have equal segments, and equal optional parts wherever both have them. Then it is their join.
+/// The [`merge`](crate::merge::merge) of inputs whose selected records are well-formed and agree
+/// pairwise, their join. Xorbs with one hash agree if they are equal; files if their segments are,
+/// and each optional part that both have.
 ///
-/// Inputs that do agree are read once. Others are read again, one after another, up to the first that
-/// cannot be read, whose error is that of [`open`](crate::open::open), or that holds a malformed
-/// record. If there is neither, all that disagree are listed. The errors of `merge` come last.
+/// Inputs that agree are read once. Others are read again, up to the first that holds a malformed
+/// record or cannot be opened by the selection's `Access`, whose error it is; then all that
+/// disagree are listed. The errors of `merge` come last.
 pub fn merge_agreeing<'a>(
     alloc: Global,
     arena: &'a Bump,
@@ -51,8 +51,6 @@ pub fn merge_agreeing<'a>(
     }
 }
 
-// Why inputs that have to agree are not merged: a malformed record, or what disagrees, or else the
-// error of their merge.
 fn why_not<'a>(
     alloc: Global,
     inputs: &[&'a [u8]],

@@ -1,7 +1,4 @@
 //! The rows of ranges of hashes in a section, by its lookup table.
-//!
-//! What ends a range and what begins the next are found by one call of the table and the bound, so
-//! ranges that follow one another have rows that follow one another, whatever the table is.
 
 ghost use Rattle.std.specs.Prelude.{◌≡◌, ◌+◌, ◌*◌, ◌≤◌, length};
 ghost use Rattle.placed_shards.specs.RangeRows.{first_row, end_row, row_from, word_in, row_in, table_rows, last_row, file_table, xorb_table, last_file_row, last_xorb_row};
@@ -14,14 +11,14 @@ use xet_shards::shard_format::MDBShardInfo;
 /// The lookup table of a section.
 #[derive(Clone, Copy)]
 pub struct SectionTable<'a> {
-    /// Its rows: the first word of the hash of each record, and the row at which the record starts.
+    /// The first word of the hash of each record, and the row at which the record starts.
     pub rows: &'a [u8],
     /// The last row for which the section has room, where its bookend is.
     pub last: u32,
 }
 
 impl<'a> SectionTable<'a> {
-    /// The table of the files of bytes with this header and footer. Nothing is checked.
+    /// The table of the files by the footer, unchecked.
     pub fn of_files(bytes: &'a [u8], info: &MDBShardInfo) -> SectionTable<'a>
         ensures rows { result.rows.now ≡ file_table bytes.now info.now }
         ensures last { result.last ≡ last_file_row info.now }
@@ -37,7 +34,7 @@ impl<'a> SectionTable<'a> {
         }
     }
 
-    /// The table of the xorbs of bytes with this header and footer. Nothing is checked.
+    /// As [`Self::of_files`], of the xorbs.
     pub fn of_xorbs(bytes: &'a [u8], info: &MDBShardInfo) -> SectionTable<'a>
         ensures rows { result.rows.now ≡ xorb_table bytes.now info.now }
         ensures last { result.last ≡ last_xorb_row info.now }
@@ -53,8 +50,8 @@ impl<'a> SectionTable<'a> {
         }
     }
 
-    /// The row at which a range of hashes begins: beside the first word that is not below that of
-    /// its first hash, as bisection finds it, or `last` if there is none. Without a hash it is 0.
+    /// The row at which a range begins: beside the first word not below that of `from`, by
+    /// bisection, or `last` if there is none; 0 without a hash.
     pub fn first_row(&self, from: &Option<MerkleHash>) -> u32
         ensures { result ≡ first_row self.now.rows.now self.now.last from.now }
     {
@@ -64,8 +61,7 @@ impl<'a> SectionTable<'a> {
         }
     }
 
-    /// The row before which a range of hashes ends, where the range that follows it begins. Without
-    /// a hash it is `last`.
+    /// The row before which a range ends, where the next begins; `last` without a hash.
     pub fn end_row(&self, to: &Option<MerkleHash>) -> u32
         ensures { result ≡ end_row self.now.rows.now self.now.last to.now }
     {
@@ -76,7 +72,7 @@ impl<'a> SectionTable<'a> {
     }
 }
 
-// The rows of a table at an offset, as far as they are in these bytes.
+// The rows of a table that are in these bytes.
 fn table_at(bytes: &[u8], offset: u64, count: u64) -> &[u8]
     ensures { result.now ≡ table_rows bytes.now offset count }
 {
@@ -91,7 +87,6 @@ fn table_at(bytes: &[u8], offset: u64, count: u64) -> &[u8]
     &rest[..size as usize]
 }
 
-// The last row for which there is room between two offsets.
 fn last_between(start: u64, end: u64) -> u32
     ensures { result ≡ last_row start end }
 {
@@ -99,8 +94,6 @@ fn last_between(start: u64, end: u64) -> u32
     rows.saturating_sub(1).min(ROW_LIMIT) as u32
 }
 
-// The row beside the first word of a table that is not below this one, as bisection finds it, or
-// `last` if there is none.
 fn row_from(table: &[u8], word: u64, last: u32) -> u32
     ensures { result ≡ row_from table.now word last }
 {
@@ -123,7 +116,6 @@ fn row_from(table: &[u8], word: u64, last: u32) -> u32
     }
 }
 
-// The word and the row of the section at an index of a table.
 fn entry_at(table: &[u8], index: usize) -> (u64, u32)
     requires { 12 * index + 12 ≤ length table.now }
     ensures word { result.0 ≡ word_in table.now index }

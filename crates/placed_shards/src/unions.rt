@@ -1,4 +1,4 @@
-//! The union and the difference of two shards that are not written yet.
+//! The union and the difference of two shards.
 
 ghost use Rattle.std.specs.Prelude.{◌≡◌, true, MatchResult};
 ghost use Rattle.xet_core_structures.specs.Records.ByteUnion.{IsEitherFile, IsEitherXorb};
@@ -15,13 +15,11 @@ use std::alloc::Global;
 use xet_base::error::{CoreError, Result};
 use xet_shards::shard_writer::LayoutOptions;
 
-/// The union of two shards under one key, with all tables, this key, creation 0 and no expiry. Of
-/// records with one hash it has what [`OfUnion`] makes of them; those that are in neither shard are
-/// placed in the arena.
+/// The union of two shards under one key, with all tables, this key, creation 0 and no expiry.
+/// [`OfUnion`] says what is made of records with one hash; new ones are placed in the arena.
 ///
-/// `InvalidArguments` if the keys differ. `InvalidShard` if files that have to be mixed differ in
-/// their count of segments, or the rows of a section pass 4294967295. `OutOfMemory` if an allocation
-/// fails.
+/// `InvalidArguments` if the keys differ; `InvalidShard` if files that have to be mixed differ in
+/// their count of segments, or the rows of a section pass 4294967295; or `OutOfMemory`.
 pub fn union<'a>(
     alloc: Global,
     arena: &'a Bump,
@@ -38,7 +36,7 @@ pub fn union<'a>(
     unite_shards::<OfUnion, OfUnion>(alloc, arena, first, second)
 }
 
-/// The same by these unions of files and of xorbs.
+/// As [`union`], by these unions of records; `InvalidShard` if they make nothing of two.
 pub fn unite_shards<'a, F: Union<'a, PlacedFile<'a>>, X: Union<'a, PlacedXorb<'a>>>(
     alloc: Global,
     arena: &'a Bump,
@@ -80,10 +78,10 @@ pub fn unite_shards<'a, F: Union<'a, PlacedFile<'a>>, X: Union<'a, PlacedXorb<'a
     })
 }
 
-/// The records of the second shard whose hashes the first does not have, files and xorbs each, under
-/// the key of both, with all tables, creation 0 and no expiry.
+/// The records of the second shard whose hashes the first does not have, with the options of
+/// [`union`].
 ///
-/// `InvalidArguments` if the keys differ. `OutOfMemory` if an allocation fails.
+/// `InvalidArguments` if the keys differ; or `OutOfMemory`.
 pub fn difference<'a>(
     alloc: Global,
     first: &PlacedShard<'a>,

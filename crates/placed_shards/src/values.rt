@@ -1,4 +1,4 @@
-//! Records as values: a xorb that is read, and records that are placed in an arena.
+//! Records as values, and values as records in an arena.
 
 ghost use Rattle.std.specs.Prelude.{◌≡◌, ◌≤◌, MatchResult};
 ghost use Rattle.xet_base.specs.declared.error.CoreError.{CoreError};
@@ -17,7 +17,7 @@ use xet_records::file_structs::MDBFileInfo;
 use xet_records::record_bytes::rows;
 use xet_records::xorb_structs::MDBXorbInfo;
 
-/// The record of a xorb. `OutOfMemory` if an allocation fails.
+/// The record of a xorb, or `OutOfMemory`.
 pub fn read_xorb(alloc: Global, xorb: &PlacedXorb<'_>) -> Result<MDBXorbInfo>
     ensures { MatchResult result (λ r. r ≡ xorb.now) (λ e. e ≡ CoreError.OutOfMemory) }
 {
@@ -27,7 +27,7 @@ pub fn read_xorb(alloc: Global, xorb: &PlacedXorb<'_>) -> Result<MDBXorbInfo>
     Ok(MDBXorbInfo { metadata, chunks })
 }
 
-/// A xorb, as its bytes in the arena. `OutOfMemory` if an allocation fails.
+/// A xorb, as its bytes in the arena, or `OutOfMemory`.
 pub fn place_xorb<'a>(arena: &'a Bump, xorb: &MDBXorbInfo) -> Result<PlacedXorb<'a>>
     requires { IsStoredXorb xorb.now }
     ensures { MatchResult result (λ placed. placed ≡ xorb.now) (λ e. e ≡ CoreError.OutOfMemory) }
@@ -35,12 +35,12 @@ pub fn place_xorb<'a>(arena: &'a Bump, xorb: &MDBXorbInfo) -> Result<PlacedXorb<
     let mut bytes = Vec::with_capacity(arena, xorb.num_bytes() as usize)?;
     match xorb.serialize(&mut bytes) {
         Ok(_) => Ok(PlacedXorb::of_bytes(into_bump_slice(bytes))),
-        // Writing to a vector fails only if it is out of memory.
+        // Writing to a vector fails only for memory.
         Err(_) => Err(CoreError::OutOfMemory),
     }
 }
 
-/// A file, as its bytes in the arena. `OutOfMemory` if an allocation fails.
+/// As [`place_xorb`], of a file.
 pub fn place_file<'a>(arena: &'a Bump, file: &MDBFileInfo) -> Result<PlacedFile<'a>>
     requires stored { IsStored file.now }
     requires few { rows_after file.now.metadata ≤ MAX_ROWS }
@@ -49,7 +49,7 @@ pub fn place_file<'a>(arena: &'a Bump, file: &MDBFileInfo) -> Result<PlacedFile<
     let mut bytes = Vec::with_capacity(arena, file.num_bytes() as usize)?;
     match file.serialize(&mut bytes) {
         Ok(_) => Ok(PlacedFile::of_bytes(into_bump_slice(bytes))),
-        // Writing to a vector fails only if it is out of memory.
+        // Writing to a vector fails only for memory.
         Err(_) => Err(CoreError::OutOfMemory),
     }
 }

@@ -1,5 +1,4 @@
-//! Whether the chunks of a xorb are such as a shard may have. They are judged where their bytes
-//! lie, since a list of its rows would need memory.
+//! Whether a shard may have the chunks of a xorb, without a list of them.
 
 ghost use Rattle.std.specs.Prelude.{◌≡◌, ◌↔◌, ◌≤◌, List, flat_map, length, All, IsTrue};
 ghost use Rattle.xet_records.specs.declared.xorb_structs.XorbChunkSequenceEntry.{XorbChunkSequenceEntry};
@@ -10,7 +9,7 @@ use xet_records::record_bytes::row;
 use xet_records::rows::ROW_SIZE;
 use xet_records::xorb_structs::{MAX_XORB_BYTES, XorbChunkSequenceEntry};
 
-/// Whether the sizes of the chunks in these rows add up to a number of bytes that fits `u32`.
+/// Whether the chunks in these rows have at most 4294967295 bytes together.
 pub fn have_few_bytes(rows: &[u8]) -> bool
     ensures { (chunks : List XorbChunkSequenceEntry) → All FitsChunk chunks
         → rows.now ≡ flat_map chunk_row chunks

@@ -20,11 +20,10 @@ ghost use Rattle.placed_shards.specs.Ranges.{is_within, ranges_between, AreCuts}
 ghost use Rattle.placed_shards.specs.Selections.{all_records, by_scan, by_tables, OpensWithin};
 ghost use Rattle.placed_shards.specs.Strict.{AreAgreeing, IsAgreedOr, AgreedRefusal, IsJoinedMerge};
 
-/// Does nothing. Its contract says what a merge selects by a scan of bytes that hold well-formed
-/// shards under one key: of each, its records in the range (`one`). If the shards agree pairwise, so
-/// do these parts, and their join is the part of the shards' join (`list`); and with no bounds that is
-/// the join itself (`all`). So the premise of `one_byte_string` of [`merge`](crate::merge::merge)
-/// follows for bytes that any shard was written to.
+/// Law: a scan of bytes that hold a well-formed shard selects its records in the range (`one`). Of
+/// shards under one key that agree pairwise, these parts agree, and their join is the part of the
+/// join (`list`), without bounds all of it (`all`), as `one_byte_string` of
+/// [`merge`](crate::merge::merge) wants.
 pub fn held_shards_are_selected()
     ensures one { (range : HashRange) → (key : DataHash) → (s part : Shard) → (x : List ℕ)
         → HoldsShard key s x → IsPartOf (is_within range) s part
@@ -40,12 +39,9 @@ pub fn held_shards_are_selected()
         → IsMergeOfList all_records key inputs shards join }
 {}
 
-/// Does nothing. Its contract says that strict merges have one value too for shards that agree
-/// pairwise, in a list of the kind that `one_byte_string` of [`merge`](crate::merge::merge) wants.
-/// The records of the inputs are well-formed and agree (`agree`). So of what
-/// [`merge_agreeing`](crate::strict::merge_agreeing) may return it returns what it made, never
-/// disagreements or a malformed record, and that has the records of the join (`made`). An error says
-/// that these have too many rows, or is memory's (`refused`).
+/// Law: of lists as `one_byte_string` of `merge` wants, the records are well-formed and agree
+/// (`agree`), and [`merge_agreeing`](crate::strict::merge_agreeing) makes their join (`made`), or
+/// fails for its rows or for memory (`refused`).
 pub fn lists_that_agree_are_joined()
     ensures agree { (selection : Selection) → (key : DataHash) → (inputs : List (List ℕ))
         → (parts : List Shard) → (join : Shard) → IsMergeOfList selection key inputs parts join
@@ -61,11 +57,9 @@ pub fn lists_that_agree_are_joined()
         → MergeRefused join e }
 {}
 
-/// Does nothing. Its contract says of merges by tables, for ranges that follow one another and leave
-/// no hash out: if there is one in each of them, each is the merge of its range by a scan
-/// (`lose_no_record`). In one range it is that also if the tables of each input find its records there
-/// (`find_records`), as those that it was written with do
-/// ([`own_tables_find_records`](crate::laws::own_tables_find_records)).
+/// Law: merges by tables in ranges that partition the hashes, if there is one in each, are those by
+/// a scan (`lose_no_record`). In one range a merge by a scan is that by tables if the tables of
+/// each input find its records there (`find_records`).
 pub fn merges_by_tables_are_merges()
     ensures lose_no_record { (inputs : List (List ℕ)) → (cuts : List DataHash)
         → (merges : List Content) → AreCuts None cuts None
@@ -79,11 +73,9 @@ pub fn merges_by_tables_are_merges()
         → IsMergeOf (by_tables range) inputs made }
 {}
 
-/// Does nothing. Its contract says how merges of ranges and the merge of all records go together,
-/// whether or not the inputs agree. Inputs have one merge (`one`). If there is one of all records, its
-/// records in a range are the merge of the range (`within`). So in ranges that follow one another and
-/// leave no hash out, the files of the merges, one after another, are those of the merge of all, and
-/// so are the xorbs (`files`, `xorbs`).
+/// Law: inputs have at most one merge, agreeing or not (`one`). The records in a range of the merge
+/// of all are the merge of the range (`within`), so merges in ranges that partition the hashes have
+/// in turn its files (`files`) and its xorbs (`xorbs`).
 pub fn merges_of_ranges_make_the_whole()
     ensures one { (selection : Selection) → (inputs : List (List ℕ)) → (m n : Content)
         → IsMergeOf selection inputs m → IsMergeOf selection inputs n → m ≡ n }

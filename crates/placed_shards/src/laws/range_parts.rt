@@ -1,4 +1,4 @@
-//! Laws of the parts of shards in ranges of hashes, and of unions that are made range by range.
+//! Laws of the parts of shards in ranges of hashes.
 
 ghost use Rattle.std.specs.Prelude.{◌≡◌, Bool, List, ◌++◌, flat_map, Contains, Option, None};
 ghost use Rattle.std.specs.FinMap.{values};
@@ -20,9 +20,8 @@ ghost use Rattle.placed_shards.specs.MergedLists.{IsPartOf};
 ghost use Rattle.placed_shards.specs.Parts.{HasRecordsInOrder};
 ghost use Rattle.placed_shards.specs.Ranges.{is_within, ranges_between, AreCuts};
 
-/// Does nothing. Its contract says, of two lists of records that are cut at one hash: the union of the
-/// records before it, followed by the union of the others, is the union of both lists, whether they
-/// agree or not.
+/// Law: of lists that are cut at one hash, the unions of the records before it and of the others
+/// are in turn the union of the lists, agreeing or not.
 pub fn unions_of_ranges_follow_one_another()
     ensures files { (k : DataHash) → (xs ys zs us vs ws : List MDBFileInfo)
         → AreApart file_records xs ys zs us vs ws k
@@ -34,9 +33,8 @@ pub fn unions_of_ranges_follow_one_another()
         → Combines xorb_records IsEitherXorb (xs ++ us) (ys ++ vs) (zs ++ ws) }
 {}
 
-/// Does nothing. Its contract says of the records of shards whose hashes pass a test, such as being in
-/// a range: if the shards agree, so do these parts (`agree`), and the join of the parts is that part
-/// of the join (`join`).
+/// Law: if shards agree, so do their parts whose hashes pass a test, such as being in a range
+/// (`agree`). The join of parts is that part of the join (`join`).
 pub fn joins_pass_to_parts()
     ensures join { (passes : DataHash → Bool) → (shards parts : List Shard) → (join part : Shard)
         → AllZip (IsPartOf passes) shards parts → IsPartOf passes join part
@@ -45,10 +43,9 @@ pub fn joins_pass_to_parts()
         → IsPartOf passes b d → ShardsAgree a b → ShardsAgree c d }
 {}
 
-/// Does nothing. Its contract says that a shard has exactly one part in each range (`exist`, `one`). Its
-/// parts in ranges that follow one another are its records in the range from the first bound to the
-/// last, each once and in order (`range`). With no bounds these are all of its records (`all`). So the
-/// layout of a shard is the layout of the records of its parts, one part after another (`bytes`).
+/// Law: a shard has one part in each range (`exist`, `one`). Parts in adjacent ranges are its
+/// records between the outer bounds, once and in order (`range`), without bounds all (`all`). Its
+/// layout is that of these in turn (`bytes`).
 pub fn ranges_have_all_records()
     ensures exist { (range : HashRange) → (all : Shard)
         → (part : Shard) × IsPartOf (is_within range) all part }

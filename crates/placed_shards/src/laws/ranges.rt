@@ -8,10 +8,8 @@ ghost use Rattle.placed_shards.specs.Content.{Content, AscendBoth, content_withi
 ghost use Rattle.placed_shards.specs.Ranges.{ranges_between, AreCuts};
 ghost use Rattle.placed_shards.specs.Unions.{IsUnionOf, IsDifferenceOf};
 
-/// Does nothing. Its contract says that what two shards have in a range can be united before or
-/// after the rest is left out: the records of a union in a range are the union of the records that
-/// both shards have there. The same holds of the union of shards that have to agree, and of the
-/// difference.
+/// Law: what is outside a range can be left out before or after a union (`union`), a union of
+/// shards that have to agree (`agreed`), or a difference (`difference`).
 pub fn within_of_union()
     ensures union { (range : HashRange) → (c d made : Content) → IsUnionOf c d made
         → IsUnionOf (content_within range c) (content_within range d) (content_within range made) }
@@ -23,10 +21,9 @@ pub fn within_of_union()
         (content_within range made) }
 {}
 
-/// Does nothing. Its contract says that a shard whose hashes ascend can be taken apart into ranges
-/// that follow one another and leave no hash out: the files of all ranges, one after another, are
-/// those of the shard (`files`), and so are the xorbs (`xorbs`). Of ranges from one bound to another
-/// they are those between these bounds (`files_between`, `xorbs_between`).
+/// Law: of a shard whose hashes ascend, adjacent ranges have in turn the files and the xorbs
+/// between the outer bounds (`files_between`, `xorbs_between`), without bounds all (`files`,
+/// `xorbs`).
 pub fn ranges_make_the_whole()
     ensures files { (cuts : List DataHash) → (c : Content) → AreCuts None cuts None → AscendBoth c
         → flat_map (λ range. (content_within range c).files) (ranges_between None cuts None)

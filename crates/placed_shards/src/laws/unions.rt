@@ -14,26 +14,22 @@ ghost use Rattle.placed_shards.specs.Findings.{AgreeInAll};
 ghost use Rattle.placed_shards.specs.Laws.{with_keyed_hashes, IsWellFormedShard, HasFlagsOf};
 ghost use Rattle.placed_shards.specs.Unions.{IsUnionOf, IsDifferenceOf};
 
-/// Does nothing. Its contract says that two shards have at most one union and at most one
-/// difference.
+/// Law: two shards have at most one union and at most one difference.
 pub fn one_union()
     ensures union { (c d m n : Content) → IsUnionOf c d m → IsUnionOf c d n → m ≡ n }
     ensures difference { (c d m n : Content) → IsDifferenceOf c d m → IsDifferenceOf c d n → m ≡ n }
 {}
 
-/// Does nothing. Its contract says that the union of a shard with itself has the records of the
-/// shard, with all tables, its key, creation 0 and no expiry (`is`), and that there is such a union
-/// if the records may be stored and their rows fit (`exists`).
+/// Law: the union of a shard with itself has its records, with all tables, its key, creation 0 and
+/// no expiry (`is`), and exists if these may be stored and their rows fit (`exists`).
 pub fn union_with_itself()
     ensures is { (c made : Content) → AscendBoth c → IsUnionOf c c made → made ≡ with_all_tables c }
     ensures exists { (c : Content) → AscendBoth c → FitsSection file_records c.files
         → FitsSection xorb_records c.xorbs → IsUnionOf c c (with_all_tables c) }
 {}
 
-/// Does nothing. Its contract says that well-formed shards which agree are united in any order: the
-/// union is the same if the two are exchanged (`turned`), and the union of three does not depend on
-/// which two are united first (`grouped`). If the first two have a union, and it has one with the
-/// third, then the last two have one (`united`).
+/// Law: the union of well-formed shards that agree does not depend on their order (`turned`) or
+/// grouping (`grouped`). If three have one, so do the last two (`united`).
 pub fn unions_in_any_order()
     ensures turned { (c d made : Content) → IsWellFormedShard c → IsWellFormedShard d
         → AgreeInAll c d → IsUnionOf c d made → IsUnionOf d c made }
@@ -45,9 +41,8 @@ pub fn unions_in_any_order()
         → IsUnionOf a b ab → IsUnionOf ab c made → (bc : Content) × IsUnionOf b c bc }
 {}
 
-/// Does nothing. Its contract says that the union of two shards that agree can be united with others
-/// in turn: it is well-formed if both are (`well_formed`), and another shard agrees with it exactly
-/// if it agrees with both (`agrees`).
+/// Law: the union of two shards that agree is well-formed if both are (`well_formed`), and agrees
+/// with another shard exactly if both do (`agrees`).
 pub fn agreeing_unions()
     ensures well_formed { (c d made : Content) → IsWellFormedShard c → IsWellFormedShard d
         → AgreeInAll c d → IsUnionOf c d made → IsWellFormedShard made }
@@ -55,11 +50,9 @@ pub fn agreeing_unions()
         → AgreeInAll other made ↔ (AgreeInAll other c × AgreeInAll other d) }
 {}
 
-/// Does nothing. Its contract says of the difference of two shards, the records of the second that
-/// the first lacks: it has no hash of the first (`files_apart`, `xorbs_apart`); united with the
-/// first, it gives under each hash the first's record if there is one, else the second's (`files`,
-/// `xorbs`); and that is the union of the two shards, if of files with one hash the first's has each
-/// flag that the second's has, as equal files do (`union`).
+/// Law: a difference has no hash of the first shard (`files_apart`, `xorbs_apart`). United with it,
+/// it gives under each hash the first's record, or else the second's (`files`, `xorbs`): the union,
+/// if of files with one hash the first's has each flag of the second's (`union`).
 pub fn difference_and_union()
     ensures files_apart { (c d left : Content) → IsDifferenceOf c d left
         → (q : DataHash) (r : MDBFileInfo) → with_hash file_records left.files q ≡ Some r
@@ -77,8 +70,7 @@ pub fn difference_and_union()
         → IsUnionOf c left made ↔ IsUnionOf c d made }
 {}
 
-/// Does nothing. Its contract says that chunk hashes can be put under a key before or after two
-/// shards are united, or one is taken away from the other.
+/// Law: chunk hashes can be put under a key before or after a union or a difference.
 pub fn keyed_of_union()
     ensures union { (key : DataHash) → (c d made : Content) → IsUnionOf c d made
         → IsUnionOf (with_keyed_hashes key c) (with_keyed_hashes key d)

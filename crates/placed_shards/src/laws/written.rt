@@ -7,9 +7,8 @@ ghost use Rattle.placed_shards.specs.Findings.{HasFormedRecords};
 ghost use Rattle.placed_shards.specs.Laws.{opened_again, options_named, AreAsRead, IsWellFormedShard, IsWritable};
 ghost use Rattle.placed_shards.specs.Opening.{Opens};
 
-/// Does nothing. Its contract says that the bytes of a shard in a version are opened as what was
-/// written: its files as reading returns them, its xorbs, and its options in this version, without
-/// tables that have no row (`opened`). They are opened as nothing else (`only`).
+/// Law: written bytes are opened as the files as reading returns them, the xorbs, and the options
+/// in this version without tables that have no row (`opened`), and as nothing else (`only`).
 pub fn written_is_opened()
     ensures opened { (version : FormatVersion) → (c : Content) → IsWritable version c
         → Opens (content_layout version c) (opened_again version c) }
@@ -17,9 +16,8 @@ pub fn written_is_opened()
         → Opens (content_layout version c) d → d ≡ opened_again version c }
 {}
 
-/// Does nothing. Its contract says that what is opened of written bytes is written as these bytes
-/// again, if the files were as reading returns them (`again`). So two shards of which the same is
-/// opened were written as the same bytes (`same_bytes`).
+/// Law: if files are as reading returns them, what is opened of written bytes is written as these
+/// again (`again`), so the same is opened only of the same bytes (`same_bytes`).
 pub fn opened_is_written()
     ensures again { (version : FormatVersion) → (c : Content) → AreAsRead c
         → content_layout version (opened_again version c) ≡ content_layout version c }
@@ -28,9 +26,8 @@ pub fn opened_is_written()
         → Opens (content_layout w d) opened → content_layout v c ≡ content_layout w d }
 {}
 
-/// Does nothing. Its contract says that a shard which was opened can be written in its own version
-/// (`writable`), and that these bytes are opened as the same shard, without tables that have no row
-/// (`opened`). A shard which was opened is well-formed if its records are (`well_formed`).
+/// Law: an opened shard can be written in its version (`writable`), and is opened again without
+/// tables that have no row (`opened`). It is well-formed if its records are (`well_formed`).
 pub fn opened_can_be_written()
     ensures writable { (bytes : List ℕ) → (c : Content) → Opens bytes c
         → IsWritable c.options.version c }
