@@ -1,5 +1,5 @@
-//! A shard that is written in parts: first the rows of all its files, then those of all its xorbs,
-//! then the tables, whose rows wait in another file.
+//! A shard written in parts: the rows of files, those of xorbs, then the tables, whose rows wait in
+//! another file.
 
 ghost use Rattle.std.specs.Prelude.{◌≡◌, ◌+◌, ◌-◌, ◌++◌, ◌<◌, ◌≤◌, ◌^◌, ℕ, List, All, length, map, flat_map, drop, slice_range, true, false, IfOk, IfErr, OnOk};
 ghost use Rattle.std.specs.Io.KnownBytes.{Appends};
@@ -29,16 +29,16 @@ use xet_core_structures::shard_format::{
 };
 use xet_core_structures::xorb_structs::XorbChunkSequenceHeader;
 
-/// The least bytes of a table that are read at once.
+/// The least bytes of a table read at once.
 const LEAST_READ: u64 = 4096;
 
-/// The most bytes of a table that are read at once.
+/// The most bytes of a table read at once.
 const MOST_READ: u64 = 1 << 20;
 
-/// The bytes of the output that are written at once.
+/// The bytes of the output written at once.
 const OUTPUT_SIZE: usize = 1 << 16;
 
-/// The chunk tables are merged with a quarter of the memory, since other values need some too.
+/// Merging chunk tables takes a quarter of the memory.
 const MEMORY_PARTS: u64 = 4;
 
 /// A shard that is written in parts.
@@ -51,16 +51,16 @@ pub struct Assembly<F: Read + Write + Seek + Drop> {
     /// Whether the header is written.
     has_header: bool,
     counts: Counts,
-    /// The ranges of the parts' file tables in the file in which they wait.
+    /// The ranges of file tables in `tables`.
     file_tables: Vec<Extent>,
-    /// The ranges of the parts' xorb tables there.
+    /// The ranges of xorb tables there.
     xorb_tables: Vec<Extent>,
-    /// The ranges of the parts' chunk tables there.
+    /// The ranges of chunk tables there.
     runs: Vec<Extent>,
 }
 
 impl<F: Read + Write + Seek + Drop> Assembly<F> {
-    /// A shard of which nothing is written. The rows of its tables wait in a file of their own.
+    /// A shard of which nothing is written; the rows of its tables wait in `tables`.
     pub fn new(alloc: Global, output: F, tables: F) -> Assembly<F>
         ensures { NoneWritten (F.contents output) (F.contents tables) (state_of F.contents result) }
     {
@@ -77,11 +77,11 @@ impl<F: Read + Write + Seek + Drop> Assembly<F> {
         }
     }
 
-    /// Writes the next part of a section, from the bytes of the shard that has it: its header, unless
-    /// one is written, and its rows. Those of its tables wait.
+    /// Writes the next part of a section from a shard's bytes: the header, unless it is written,
+    /// and the rows; those of its tables wait.
     ///
-    /// The errors are those of [`load_bytes`], `InvalidShard` if the part lacks what its footer names
-    /// or there are more rows than a section may have, and those of the files.
+    /// Fails as [`load_bytes`]; with `InvalidShard` if the part lacks what its footer names, a
+    /// section has too many rows or a sum passes 64 bits; or with a file's error.
     pub fn add(&mut self, section: Section, part: &mut [u8]) -> Result<()>
         ensures added { OnOk result
             (AddsPart section part.old (state_of F.contents self.old) (state_of F.contents self.new)) }
@@ -97,7 +97,6 @@ impl<F: Read + Write + Seek + Drop> Assembly<F> {
         }
     }
 
-    // Writes the header of a part, unless one is written.
     fn write_header(&mut self, part: &[u8]) -> Result<()>
         ensures header { OnOk result
             (Appends (F.contents self.old.output) (F.contents self.new.output)
@@ -117,7 +116,6 @@ impl<F: Read + Write + Seek + Drop> Assembly<F> {
         Ok(())
     }
 
-    // Writes the rows of the files of a part with this footer, and keeps those of its file table.
     fn add_files(&mut self, footer: &MDBShardFileFooter, part: &mut [u8]) -> Result<()>
         ensures added { OnOk result
             (AddsFiles footer.now part.old (state_of F.contents self.old)
@@ -138,8 +136,6 @@ impl<F: Read + Write + Seek + Drop> Assembly<F> {
         Ok(())
     }
 
-    // Writes the rows of the xorbs of a part with this footer, and keeps those of its xorb table and
-    // of its chunk table.
     fn add_xorbs(&mut self, footer: &MDBShardFileFooter, part: &mut [u8]) -> Result<()>
         ensures added { OnOk result
             (AddsXorbs footer.now part.old (state_of F.contents self.old)
@@ -164,8 +160,7 @@ impl<F: Read + Write + Seek + Drop> Assembly<F> {
         Ok(())
     }
 
-    // Writes the rows of a section between two offsets of a part, without the bookend, and returns
-    // their size in bytes.
+    // Leaves the bookend out, and returns how many bytes were written.
     fn write_rows(&mut self, part: &[u8], from: u64, end: u64) -> Result<u64>
         ensures rows { OnOk result
             (Appends (F.contents self.old.output) (F.contents self.new.output)
@@ -181,8 +176,7 @@ impl<F: Read + Write + Seek + Drop> Assembly<F> {
         Ok(end - from)
     }
 
-    // Keeps the rows of a file table or a xorb table between two offsets of a part, whose section has
-    // `first` rows before it in the whole.
+    // Keeps the rows of a table of a part with `first` rows before it.
     fn keep_starts(&mut self, part: &mut [u8], from: u64, to: u64, first: u32) -> Result<Extent>
         ensures written { (starts : List (ℕ × ℕ)) → All FitsStart starts
             → slice_range part.old from to ≡ flat_map start_row starts
@@ -206,7 +200,6 @@ impl<F: Read + Write + Seek + Drop> Assembly<F> {
         self.keep_rows(rows)
     }
 
-    // The same of a chunk table.
     fn keep_chunk_rows(&mut self, part: &mut [u8], from: u64, to: u64, first: u32) -> Result<Extent>
         ensures written { (chunks : List ChunkTableRow)
             → All (λ row. FitsTriple (triple_of row)) chunks
@@ -230,7 +223,6 @@ impl<F: Read + Write + Seek + Drop> Assembly<F> {
         self.keep_rows(rows)
     }
 
-    // Keeps rows of a table in the file in which they wait, and returns their range there.
     fn keep_rows(&mut self, rows: &[u8]) -> Result<Extent>
         ensures written { OnOk result
             (Appends (F.contents self.old.tables) (F.contents self.new.tables) rows.now) }
@@ -252,7 +244,7 @@ impl<F: Read + Write + Seek + Drop> Assembly<F> {
         Ok(extent)
     }
 
-    /// Ends a section, whose parts are all written.
+    /// Ends a section whose parts are all written.
     pub fn end_section(&mut self) -> Result<()>
         ensures bookend { OnOk result
             (Appends (F.contents self.old.output) (F.contents self.new.output)
@@ -263,9 +255,8 @@ impl<F: Read + Write + Seek + Drop> Assembly<F> {
         Ok(())
     }
 
-    /// Writes the tables and the footer of the shard, with this key and this expiry in seconds, and
-    /// returns its file. The chunk tables take about a quarter of `memory`, in bytes. The errors are
-    /// those of the files.
+    /// Writes the tables and the footer, with an expiry in seconds, and returns the file. Chunk
+    /// tables take about a quarter of `memory` bytes. The errors are those of the files.
     pub fn finish(self, key: HMACKey, expiry: Option<u64>, memory: u64) -> Result<F>
         ensures written { IfOk result
             (λ file. EndsWith (state_of F.contents self) key expiry (F.contents file)) }
@@ -296,7 +287,6 @@ impl<F: Read + Write + Seek + Drop> Assembly<F> {
     }
 }
 
-// Copies ranges of the tables to the output.
 fn copy_all<F: Read + Seek, W: Write>(
     tables: &mut F,
     extents: &[Extent],
@@ -312,7 +302,6 @@ fn copy_all<F: Read + Seek, W: Write>(
     Ok(())
 }
 
-// Copies a range of the tables to the output.
 fn copy<F: Read + Seek, W: Write>(tables: &mut F, extent: Extent, output: &mut W) -> Result<()>
     ensures copied { OnOk result ((bytes : List ℕ) × (length bytes ≡ extent.size)
         × Appends (W.contents output.old) (W.contents output.new) bytes) }

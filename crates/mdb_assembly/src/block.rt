@@ -1,4 +1,4 @@
-//! A block: the next records of a section, as a shard that has only these.
+//! Blocks: the next records of a section, as a shard.
 
 use crate::counts::{Counts, with_rows};
 use shard_bytes::check::Section;
@@ -15,9 +15,9 @@ use xet_core_structures::xorb_structs::{MDBXorbInfo, XorbChunkSequenceHeader};
 /// How far a section is read.
 #[derive(Clone, Copy)]
 pub struct Mark {
-    /// The bytes of the records that were read.
+    /// The bytes of the records read.
     pub bytes: usize,
-    /// The hash of the last of them, or of the record before them if there is none.
+    /// The hash of the last of them, else of the one before.
     pub last: Option<MerkleHash>,
     /// The rows that the section may still have.
     pub rows_left: u64,
@@ -36,7 +36,7 @@ impl Mark {
         }
     }
 
-    /// Whether the section has ended, or the last record is not before a hash.
+    /// Whether the section has ended, or its last hash is not below `goal`.
     pub fn reaches(&self, goal: &MerkleHash) -> bool {
         match self.last {
             _ if self.ended => true,
@@ -46,7 +46,7 @@ impl Mark {
     }
 }
 
-/// The bytes of a shard up to a section, and then the rows of the section that were read.
+/// A shard's bytes up to a section, and the section's rows read.
 #[derive(Drop)]
 pub struct Block {
     pub bytes: Vec<u8>,
@@ -55,7 +55,7 @@ pub struct Block {
 }
 
 impl Block {
-    /// A block without rows, with room for so many bytes of them.
+    /// A block without rows, with room for so many bytes.
     pub fn new(
         alloc: Global,
         section: Section,
@@ -75,10 +75,10 @@ impl Block {
         })
     }
 
-    /// The mark behind the last whole record of the rows, after a mark and up to a hash.
+    /// The mark behind the last whole record after a mark and up to a hash.
     ///
-    /// `InvalidShard` if the version does not have the header of a record, the rows pass 4294967295
-    /// or the hashes do not strictly ascend.
+    /// `InvalidShard` if the version lacks a record's header, the rows pass 4294967295 or the
+    /// hashes do not strictly ascend.
     pub fn read(&self, alloc: Global, after: Mark, limit: Option<MerkleHash>) -> Result<Mark> {
         let rows = rows_of(self.bytes.as_slice(), self.section);
         match self.section {
@@ -87,7 +87,7 @@ impl Block {
         }
     }
 
-    /// The bytes of the shard that has the records in the first bytes of the rows, and no tables.
+    /// The shard of the records in the first `rows` bytes, without tables.
     pub fn shard_of(self, alloc: Global, rows: usize, key: HMACKey) -> Result<Vec<u8>> {
         let Block {
             mut bytes,
@@ -108,8 +108,8 @@ impl Block {
     }
 }
 
-/// Puts the footer of a shard without tables behind its sections, whose rows have so many bytes
-/// without the bookends. `InvalidShard` if the rows of a section pass 32 bits.
+/// Puts the footer of a shard without tables, whose sections have so many bytes without bookends.
+/// `InvalidShard` if the rows of one pass 32 bits.
 pub fn put_footer(
     alloc: Global,
     bytes: &mut Vec<u8>,
@@ -133,8 +133,7 @@ fn rows_of(bytes: &[u8], section: Section) -> &[u8] {
     }
 }
 
-// Where the rows of a section start in a block: behind the header, and those of xorbs behind the
-// bookend of the files.
+// The rows of xorbs are behind the bookend of the files.
 fn rows_start(section: Section) -> usize {
     match section {
         Section::Files => HEADER_SIZE as usize,
@@ -142,13 +141,12 @@ fn rows_start(section: Section) -> usize {
     }
 }
 
-/// Puts the bookend of a section behind its rows.
+/// Puts a section's bookend behind its rows.
 pub fn put_bookend(bytes: &mut Vec<u8>) -> Result<()> {
     XorbChunkSequenceHeader::bookend().serialize(bytes)?;
     Ok(())
 }
 
-// The mark behind the last record that is whole in some bytes, after a mark and up to a hash.
 fn read_records<S: SectionRecord>(
     alloc: Global,
     rows: &[u8],
@@ -189,7 +187,7 @@ fn read_records<S: SectionRecord>(
     Ok(mark)
 }
 
-// The size in bytes of a record with so many rows after its header; `usize::MAX` if it is larger.
+// In bytes; at most `usize::MAX`.
 fn record_size(rows_after: u64) -> usize {
     let size = rows_after.saturating_add(1).saturating_mul(ROW_SIZE as u64);
     usize::try_from(size).unwrap_or(usize::MAX)

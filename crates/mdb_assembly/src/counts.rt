@@ -1,4 +1,4 @@
-//! What is counted of a shard that is written in parts, and the footer with these numbers.
+//! Counts of a shard written in parts, and its footer.
 
 ghost use Rattle.std.specs.Prelude.{◌≡◌, ◌+◌, ◌/◌, ◌<◌, ◌≤◌, ◌^◌, [], MatchResult};
 ghost use Rattle.xet_base.specs.Errors.{IsInvalidShard};
@@ -13,7 +13,7 @@ use xet_core_structures::shard_format::{
     CHUNK_ROW_SIZE, HEADER_SIZE, MDBShardFileFooter, START_ROW_SIZE,
 };
 
-/// The numbers of rows of a shard's sections and tables, and its sums of bytes.
+/// The rows of a shard's sections and tables, and its sums of bytes.
 #[derive(Clone, Copy)]
 pub struct Counts {
     /// The rows of the files, without the bookend.
@@ -48,8 +48,7 @@ impl Counts {
         }
     }
 
-    /// The counts with the sums of bytes that a footer names. `InvalidShard` exactly if one passes 64
-    /// bits.
+    /// Adds a footer's sums of bytes. `InvalidShard` exactly if one passes 64 bits.
     pub fn with_sums(&self, alloc: Global, footer: &MDBShardFileFooter) -> Result<Counts>
         ensures { MatchResult result (AddsSums footer.now self.now)
             (λ e. IsInvalidShard e × (FitSums footer.now self.now → ⊥)) }
@@ -66,7 +65,7 @@ impl Counts {
         })
     }
 
-    /// The footer of the shard with these counts, with a key and an expiry in seconds or none.
+    /// The shard's footer, with an expiry in seconds or none.
     pub fn footer(&self, key: HMACKey, expiry: Option<u64>) -> MDBShardFileFooter
         ensures { IsFooterOf self.now key expiry result }
     {
@@ -98,8 +97,7 @@ impl Counts {
     }
 }
 
-/// The number of rows, and of those in so many bytes more. `InvalidShard` exactly if it passes 32
-/// bits.
+/// The rows with those in so many bytes more. `InvalidShard` exactly if they pass 32 bits.
 pub fn with_rows(alloc: Global, rows: u32, bytes: u64, row_size: u64) -> Result<u32>
     requires { 0 < row_size }
     ensures { MatchResult result (λ n. n ≡ rows + bytes / row_size)
@@ -114,7 +112,7 @@ pub fn with_rows(alloc: Global, rows: u32, bytes: u64, row_size: u64) -> Result<
     }
 }
 
-/// The sum of two numbers. `InvalidShard` exactly if it passes 64 bits.
+/// The sum. `InvalidShard` exactly if it passes 64 bits.
 pub fn sum(alloc: Global, one: u64, other: u64) -> Result<u64>
     ensures { MatchResult result (λ n. n ≡ one + other)
         (λ e. IsInvalidShard e × (2 ^ 64 ≤ one + other)) }

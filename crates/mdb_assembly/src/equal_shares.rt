@@ -2,7 +2,7 @@
 
 ghost use Rattle.std.specs.Prelude.{◌≡◌, ◌/◌, ◌<◌};
 
-/// The quotient of a number by a number of parts; the number itself if there is no part.
+/// The quotient, or `number` if there are no parts.
 pub fn share_of(number: u64, parts: u64) -> u64
     ensures none { parts ≡ 0 → result ≡ number }
     ensures some { 0 < parts → result ≡ number / parts }

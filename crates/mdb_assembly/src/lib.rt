@@ -1,5 +1,5 @@
-//! Shards that are put together from parts, whose records are in turn in memory: blocks of a
-//! section, as shards that can be merged, and the file that the merged parts are written to.
+//! Shards put together from parts: blocks of a section to merge, and the file that merged parts are
+//! written to.
 #![tactic(auto)]
 
 pub mod assembly;

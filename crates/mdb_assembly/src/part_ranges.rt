@@ -1,4 +1,4 @@
-//! The ranges of a part between the offsets in its footer, and the refusal of a part without them.
+//! The ranges of a part between its footer's offsets.
 
 ghost use Rattle.std.specs.Prelude.{◌≡◌, ◌+◌, ◌<◌, ◌≤◌, ◌⊎◌, length, MatchResult, slice_range};
 ghost use Rattle.xet_base.specs.Errors.{IsInvalidShard};
@@ -7,7 +7,7 @@ use std::alloc::Global;
 use xet_core_structures::error::{CoreError, Result};
 use xet_core_structures::rows::ROW_SIZE;
 
-/// The offset of the bookend of a section that ends at an offset. `InvalidShard` exactly if it has no
+/// The offset of the bookend of a section that ends at `end`. `InvalidShard` exactly if it has no
 /// room for one.
 pub fn before_bookend(alloc: Global, end: u64) -> Result<u64>
     ensures { MatchResult result (λ start. start + 48 ≡ end) (λ e. IsInvalidShard e × (end < 48)) }
@@ -18,7 +18,7 @@ pub fn before_bookend(alloc: Global, end: u64) -> Result<u64>
     }
 }
 
-/// The bytes of a part from an offset up to another. `InvalidShard` exactly if it does not have them.
+/// The bytes from an offset up to another. `InvalidShard` exactly if the part lacks them.
 pub fn range(alloc: Global, part: &[u8], from: u64, to: u64) -> Result<&[u8]>
     ensures { MatchResult result
         (λ bytes. (bytes.now ≡ slice_range part.now from to) × (from ≤ to) × (to ≤ length part.now))
@@ -28,7 +28,7 @@ pub fn range(alloc: Global, part: &[u8], from: u64, to: u64) -> Result<&[u8]>
     Ok(&part[from as usize..to as usize])
 }
 
-/// `InvalidShard` exactly if so many bytes have no range from an offset up to another.
+/// `InvalidShard` exactly if so many bytes have no such range.
 pub fn check_range(alloc: Global, size: usize, from: u64, to: u64) -> Result<()>
     ensures { MatchResult result (λ _. (from ≤ to) × (to ≤ size))
         (λ e. IsInvalidShard e × ((to < from) ⊎ (size < to))) }
@@ -39,7 +39,7 @@ pub fn check_range(alloc: Global, size: usize, from: u64, to: u64) -> Result<()>
     Ok(())
 }
 
-/// The error of a part that is no shard, or of more than one shard has room for.
+/// The error of a part that is no shard, or of too much for one shard.
 pub fn invalid_shard(alloc: Global) -> CoreError
     ensures { IsInvalidShard result }
 {

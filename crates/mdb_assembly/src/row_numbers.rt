@@ -1,4 +1,4 @@
-//! The row numbers in tables of a part, raised by the rows before the part.
+//! Raising the row numbers in a part's tables by the rows before it.
 
 ghost use Rattle.std.specs.Prelude.{◌≡◌, ◌+◌, ◌<◌, ◌≤◌, ◌^◌, ◌++◌, ℕ, List, All, length, map, flat_map, IfErr, MatchResult};
 ghost use Rattle.xet_base.specs.Bytes.{u32_bytes};
@@ -14,11 +14,11 @@ use xet_core_structures::error::{CoreError, Result};
 use xet_core_structures::fields::{put_u32, split_u32};
 use xet_core_structures::shard_format::{CHUNK_ROW_SIZE, START_ROW_SIZE};
 
-/// The offset of the row number in a row of any table, in bytes.
+/// The offset of the number in a row, in bytes.
 const NUMBER_OFFSET: usize = 8;
 
-/// Adds a number of rows to the row number in each row of a file table or a xorb table.
-/// `InvalidShard` exactly if one passes 32 bits.
+/// Adds `first` to each row number of a file or xorb table. `InvalidShard` exactly if one passes 32
+/// bits.
 pub fn shift_starts(alloc: Global, rows: &mut [u8], first: u32) -> Result<()>
     ensures raised { (starts : List (ℕ × ℕ)) → rows.old ≡ flat_map start_row starts → All FitsStart starts
         → MatchResult result (λ _. rows.new ≡ flat_map start_row (map (start_later first) starts))
@@ -28,7 +28,7 @@ pub fn shift_starts(alloc: Global, rows: &mut [u8], first: u32) -> Result<()>
     shift_row_numbers(alloc, rows, START_ROW_SIZE, first)
 }
 
-/// The same of a chunk table.
+/// As [`shift_starts`], of a chunk table.
 pub fn shift_chunk_rows(alloc: Global, rows: &mut [u8], first: u32) -> Result<()>
     ensures raised { (table : List ChunkTableRow) → rows.old ≡ flat_map chunk_table_row_bytes table
         → All (λ row. FitsTriple (triple_of row)) table
@@ -41,7 +41,6 @@ pub fn shift_chunk_rows(alloc: Global, rows: &mut [u8], first: u32) -> Result<()
     shift_row_numbers(alloc, rows, CHUNK_ROW_SIZE, first)
 }
 
-// Adds a number of rows to the row number in each row of a table.
 fn shift_row_numbers(alloc: Global, rows: &mut [u8], row_size: usize, first: u32) -> Result<()>
     requires { 12 ≤ row_size }
     ensures raised { (table : List NumberedRow) → rows.old ≡ flat_map row_bytes table
@@ -59,7 +58,6 @@ fn shift_row_numbers(alloc: Global, rows: &mut [u8], row_size: usize, first: u32
     Ok(())
 }
 
-// Adds a number of rows to the row number in the row at an offset.
 fn shift_row_number(alloc: Global, rows: &mut [u8], at: usize, first: u32) -> Result<()>
     requires { at + 12 ≤ length rows.old }
     ensures value { (before after : List ℕ) (number : ℕ) → length before ≡ at + 8 → number < 2 ^ 32

@@ -1,4 +1,4 @@
-//! Merging sorted chunk tables that lie in one file, with little of each in memory.
+//! Merging sorted chunk tables of one file, with little in memory.
 
 ghost use Rattle.std.specs.Prelude.{◌≡◌, ◌+◌, ◌-◌, ◌≤◌, ◌^◌, ℕ, List, length, flat_map, slice_range, take, min, IfOk, IfSome, OnOk, MatchOption};
 ghost use Rattle.std.specs.BinaryHeap.{heap_items, heap_len};
@@ -15,25 +15,24 @@ use xet_core_structures::fields::{split_u32, split_u64};
 use xet_core_structures::shard_format::CHUNK_ROW_SIZE;
 use xet_core_structures::shard_writer::ChunkTableRow;
 
-/// A range of the bytes of a file.
+/// A range of a file's bytes.
 #[derive(Clone, Copy)]
 pub struct Extent {
     pub start: u64,
     pub size: u64,
 }
 
-/// The rows of a table that are still to be merged: some in memory, and those in the file from
-/// `start` on.
+/// The rows of a table still to be merged: some in memory, others in the file from `start` on.
 #[derive(Drop)]
 struct Run {
     start: u64,
     left: u64,
     rows: Vec<u8>,
-    /// Where the next row is among those in memory.
+    /// The offset of the next row in memory.
     at: usize,
 }
 
-/// The next row of the table with an index. Of equal rows, that of the first table comes first.
+/// The next row of a table; of equal rows, the first table's comes first.
 #[derive(Clone, Copy, PartialEq, Eq, PartialOrd, Ord)]
 struct Head {
     row: ChunkTableRow,
@@ -50,7 +49,6 @@ impl Run {
         }
     }
 
-    // The next row, or `None` if there is none. So many bytes are read at once.
     fn next<F: Read + Seek>(&mut self, file: &mut F, room: u64) -> io::Result<Option<ChunkTableRow>>
         ensures { IfOk result (λ next. IfSome next (λ row. (16 ≤ self.new.at)
             × (slice_range self.new.rows.items (self.new.at - 16) self.new.at
@@ -70,7 +68,6 @@ impl Run {
         Ok(Some(row))
     }
 
-    // Reads the next rows, at most so many bytes of them.
     fn refill<F: Read + Seek>(&mut self, file: &mut F, room: u64) -> io::Result<()>
         ensures { OnOk result ((length self.new.rows.items ≡ min self.old.left room)
             × (self.new.at ≡ 0) × (self.new.left + length self.new.rows.items ≡ self.old.left)
@@ -94,7 +91,6 @@ impl Run {
     }
 }
 
-// The row at the front of some bytes.
 fn row_of(bytes: &[u8]) -> ChunkTableRow
     requires { 16 ≤ length bytes.now }
     ensures { take 16 bytes.now ≡ chunk_table_row_bytes result }
@@ -105,8 +101,8 @@ fn row_of(bytes: &[u8]) -> ChunkTableRow
     ChunkTableRow { word, row, index }
 }
 
-/// Writes the rows of tables, each of which ascends, in ascending order. Of each table at most `room`
-/// bytes are in memory, or one row.
+/// Merges ascending tables into ascending rows. At most `room` bytes of each, or one row, are in
+/// memory.
 pub fn merge_runs<F: Read + Seek, W: Write>(
     alloc: Global,
     file: &mut F,
@@ -118,7 +114,6 @@ pub fn merge_runs<F: Read + Seek, W: Write>(
         × Appends (W.contents output.old) (W.contents output.new)
         (flat_map chunk_table_row_bytes rows)) }
 {
-    // Whole rows.
     let room = (room / CHUNK_ROW_SIZE as u64)
         .max(1)
         .saturating_mul(CHUNK_ROW_SIZE as u64);
@@ -141,7 +136,6 @@ pub fn merge_runs<F: Read + Seek, W: Write>(
     Ok(())
 }
 
-// Adds the next row of a table to those that come next, if there is one.
 fn push_next<F: Read + Seek>(
     heads: &mut BinaryHeap<Reverse<Head>>,
     run: &mut Run,
@@ -155,7 +149,6 @@ fn push_next<F: Read + Seek>(
     Ok(())
 }
 
-// Takes the least of the rows that come next, or gives `None` if there is none.
 fn take_least(heads: &mut BinaryHeap<Reverse<Head>>) -> Option<Head>
     ensures { MatchOption result (heap_len heads.old ≡ 0)
         (λ head. TakesLeast head (heap_items heads.old) (heap_items heads.new)) }

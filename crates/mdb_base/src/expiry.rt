@@ -1,4 +1,4 @@
-//! Expiries: which shards have expired, and the earliest expiry of several.
+//! Expired shards, and the earliest expiry of several.
 
 ghost use Rattle.std.specs.Prelude.{◌≡◌, map, zip, MatchResult};
 ghost use Rattle.xet_core_structures.specs.Layout.{layout};
@@ -26,14 +26,14 @@ use std::{fmt, fs};
 use xet_core_structures::error::CoreError;
 use xet_core_structures::shard_format::MDBShardInfo;
 
-/// The expiry that a footer says.
+/// The expiry in a footer.
 pub fn shard_expiry(info: &MDBShardInfo) -> Option<u64>
     ensures { result ≡ shard_expiry info.now }
 {
     expiry_of(info.metadata.shard_key_expiry)
 }
 
-/// The earlier of two expiries. None is later than any.
+/// The earlier of two expiries; `None` is the latest.
 pub fn earlier_of(one: Option<u64>, other: Option<u64>) -> Option<u64>
     ensures { result ≡ earlier_of one other }
 {
@@ -44,7 +44,6 @@ pub fn earlier_of(one: Option<u64>, other: Option<u64>) -> Option<u64>
     }
 }
 
-// The earliest of the expiries that some footers say.
 fn earliest_in(infos: &[MDBShardInfo]) -> Option<u64>
     ensures { IsEarliest (map shard_expiry infos.now) result }
 {
@@ -55,8 +54,8 @@ fn earliest_in(infos: &[MDBShardInfo]) -> Option<u64>
     found
 }
 
-/// The expiry of what is made of the shards in some inputs. It fails only if it is the earliest of
-/// theirs, and then if an input has no header and footer, or memory is lacking.
+/// The expiry of what is made of some inputs. Fails only for the earliest of theirs, if an input
+/// has no header and footer or memory is lacking.
 pub fn new_expiry<'a>(
     alloc: Global,
     wanted: NewExpiry,
@@ -76,8 +75,7 @@ pub fn new_expiry<'a>(
     }
 }
 
-/// The bytes of a shard that was written, with an expiry if one is wanted. It fails only if it is out
-/// of memory.
+/// The bytes of a written shard, with the expiry if any. Fails only with `OutOfMemory`.
 pub fn with_expiry_if_any(
     alloc: Global,
     bytes: Vec<u8>,
@@ -95,8 +93,8 @@ pub fn with_expiry_if_any(
     }
 }
 
-/// The files whose shards have not expired by a time, in seconds. With `verbose` each other file is
-/// reported. What is no regular file, or no shard, counts as not expired.
+/// The files whose shards have not expired by `now`, in seconds; `verbose` reports the others. What
+/// is no regular file or no shard counts as not expired.
 pub fn without_expired<'a, R: Files + Eprint + AllocGlobal>(
     rt: &R,
     files: &[&'a str],
@@ -126,7 +124,6 @@ pub fn expiry_at<R: Files + AllocGlobal>(rt: &R, file: &str) -> Option<u64> {
     shard_expiry(&load_bytes(rt.alloc(), ends.as_slice()).ok()?)
 }
 
-/// The message that the shard in a file which is read has expired.
 #[derive(Drop, Serialize)]
 struct ExpiredShard<'a> {
     shard: &'a str,
@@ -141,7 +138,7 @@ impl fmt::Display for ExpiredShard<'_> {
     }
 }
 
-/// Says of a file that is used that its shard has expired, if that is known.
+/// Reports that a file's shard has expired, if that is known.
 pub fn report_expired<R: Eprint + AllocGlobal>(
     rt: &R,
     style: Style,
@@ -169,7 +166,7 @@ pub fn report_expired<R: Eprint + AllocGlobal>(
     }
 }
 
-/// The same of the shard in these bytes, if they hold one.
+/// As [`report_expired`], of the shard in these bytes, if any.
 pub fn report_expired_in<R: Eprint + AllocGlobal>(
     rt: &R,
     style: Style,

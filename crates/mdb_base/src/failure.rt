@@ -1,4 +1,4 @@
-//! Failures: why a command did not do what was asked for.
+//! Why a command failed, and on what.
 
 ghost use Rattle.std.specs.Prelude.{◌≡◌};
 
@@ -21,7 +21,7 @@ pub enum Subject<'a> {
 }
 
 impl<'a> Subject<'a> {
-    /// All of some files; standard output, if there are none.
+    /// All of some files; standard output if none.
     pub fn of_all(files: &[&'a str]) -> Subject<'a> {
         match files {
             [only] => Subject::File(only),
@@ -31,7 +31,7 @@ impl<'a> Subject<'a> {
         }
     }
 
-    /// A path to which is written, or standard output if it is `-`.
+    /// A path written to; standard output for `-`.
     pub fn of_target(path: &'a str) -> Subject<'a> {
         if path == STANDARD_STREAM {
             Subject::StandardOutput
@@ -40,7 +40,7 @@ impl<'a> Subject<'a> {
         }
     }
 
-    /// What was made. Any error is a lack of memory, and a failure on the subject.
+    /// What was made; any error is `OutOfMemory` on the subject.
     pub fn in_memory<T, E: Drop>(self, made: Result<T, E>) -> Result<T, Failure<'a>> {
         match made {
             Ok(made) => Ok(made),
@@ -52,7 +52,7 @@ impl<'a> Subject<'a> {
     }
 }
 
-/// A failure: its one line is the subject and what is wrong.
+/// A failure, printed as its subject and what is wrong.
 #[derive(Drop)]
 pub struct Failure<'a> {
     pub subject: Subject<'a>,
@@ -71,7 +71,7 @@ impl<'a> Failure<'a> {
         }
     }
 
-    /// Whether shards that have to be well-formed and to agree are not, or do not.
+    /// Whether shards that must be well-formed and agree are not, or do not.
     pub fn is_disagreement(&self) -> bool {
         matches!(self.fault, Fault::Disagree(..) | Fault::Malformed(_))
     }
@@ -89,7 +89,7 @@ impl<'a> Failure<'a> {
         }
     }
 
-    /// A failure on the words of the command line.
+    /// A failure on the command line.
     pub fn on_words(fault: Fault) -> Failure<'a> {
         Failure {
             subject: Subject::CommandLine,
@@ -97,7 +97,7 @@ impl<'a> Failure<'a> {
         }
     }
 
-    /// A failure on a path to which is written, or on standard output if it is `-`.
+    /// A failure on a path written to, or on standard output for `-`.
     pub fn on_target(path: &'a str, fault: Fault) -> Failure<'a>
         ensures { result.fault ≡ fault }
     {
@@ -153,7 +153,7 @@ impl Serialize for Failure<'_> {
     }
 }
 
-// A failure in JSON. If it is on a file, the problem does not name the file again.
+// The problem of a failure on a file does not name the file again.
 #[derive(Clone, Copy, Serialize)]
 struct FailureLine<'f, 'a> {
     shard: Option<&'a str>,

@@ -1,4 +1,4 @@
-//! The headers and footers of a command's inputs, and the keys in them.
+//! Headers, footers and keys of inputs.
 
 ghost use Rattle.std.specs.Prelude.{◌≡◌, map, zip, IfOk, MatchResult};
 ghost use Rattle.std.specs.List.{AllZip};
@@ -12,7 +12,7 @@ use std::alloc::{AllocError, Global};
 use xet_core_structures::merklehash::HMACKey;
 use xet_core_structures::shard_format::MDBShardInfo;
 
-/// The header and footer of the shard in each input. A failure is on the first input without.
+/// Each input's header and footer. A failure is on the first input without.
 pub fn infos_of<'a>(
     alloc: Global,
     files: &[&'a str],
@@ -36,7 +36,7 @@ pub fn infos_of<'a>(
     Ok(infos)
 }
 
-/// The key of each shard with one of these headers and footers.
+/// The key in each footer.
 pub fn keys_in(alloc: Global, infos: &[MDBShardInfo]) -> Result<Vec<HMACKey>, AllocError>
     ensures { IfOk result
         (λ keys. keys.items ≡ map (λ i. i.metadata.chunk_hash_hmac_key) infos.now) }

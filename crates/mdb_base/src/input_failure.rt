@@ -1,4 +1,4 @@
-//! Why inputs cannot be combined, and which of them is at fault.
+//! Why inputs can't be combined.
 
 ghost use Rattle.std.specs.Prelude.{◌≡◌, ⊤, List, [], map, slice_get, IsTrue, MatchOption, MatchResult};
 ghost use Rattle.placed_shards.specs.Content.{Content};
@@ -21,8 +21,8 @@ use xet_core_structures::error::CoreError;
 use xet_core_structures::merklehash::MerkleHash;
 use xet_core_structures::record_reader::FormatVersion;
 
-/// Why a union or a difference failed: the first input that cannot be read, else what is wrong with
-/// the inputs together.
+/// Why a union or a difference failed: `OutOfMemory`, else the first input that can't be read, else
+/// what is wrong with all together.
 pub fn combine_failure<'a>(
     alloc: Global,
     files: &[&'a str],
@@ -47,8 +47,7 @@ pub fn combine_failure<'a>(
     footer_failure(alloc, files, inputs)
 }
 
-/// Why a union or a difference in the version of a target failed: the version lacks a file, or else as
-/// [`combine_failure`] says.
+/// As [`combine_failure`], but `HasAuxRow` on the target if its version lacks a file.
 pub fn combine_failure_in<'a>(
     alloc: Global,
     files: &[&'a str],
@@ -64,8 +63,8 @@ pub fn combine_failure_in<'a>(
     combine_failure(alloc, files, inputs, error)
 }
 
-/// Whether a union or a difference in a version failed since the version lacks a file. The same
-/// error is that of inputs under different keys.
+/// Whether a union or a difference failed since the version lacks a file, and not since keys
+/// differ.
 pub fn lacks_files(
     alloc: Global,
     inputs: &[&[u8]],
@@ -80,8 +79,6 @@ pub fn lacks_files(
         && other_key(alloc, inputs).is_none()
 }
 
-// The failure of inputs under different keys: that of the first two, whose shards are under
-// different ones.
 fn key_failure<'a>(alloc: Global, files: &[&'a str], inputs: &[&[u8]]) -> Failure<'a> {
     if let (Some(first), Some(at)) = (files.first(), other_key(alloc, inputs))
         && let Some(other) = files.get(at)
@@ -91,8 +88,7 @@ fn key_failure<'a>(alloc: Global, files: &[&'a str], inputs: &[&[u8]]) -> Failur
     failure_on_all(files, Fault::KeysDiffer)
 }
 
-// The place of the first input whose shard is under another key than that of the first input. The
-// inputs before it can be loaded.
+// The first input under another key than the first one.
 fn other_key(alloc: Global, inputs: &[&[u8]]) -> Option<usize> {
     let mut first: Option<MerkleHash> = None;
     for (at, bytes) in inputs.iter().enumerate() {
@@ -106,7 +102,7 @@ fn other_key(alloc: Global, inputs: &[&[u8]]) -> Option<usize> {
     None
 }
 
-/// The failure of two files whose shards are under different keys.
+/// `KeysDiffer` on two files.
 pub fn failure_of_two_keys<'a>(first: &'a str, second: &'a str) -> Failure<'a> {
     Failure {
         subject: Subject::Pair(first, second),
@@ -114,8 +110,7 @@ pub fn failure_of_two_keys<'a>(first: &'a str, second: &'a str) -> Failure<'a> {
     }
 }
 
-// Why readable inputs were not combined: the first whose footer has wrong offsets, else a pair
-// without a union, else all.
+// The first input with a wrong footer, else as [`union_failure`].
 fn footer_failure<'a>(alloc: Global, files: &[&'a str], inputs: &[&[u8]]) -> Failure<'a> {
     for (file, bytes) in files.iter().zip(inputs) {
         match has_wrong_footer(alloc, bytes) {
@@ -129,13 +124,11 @@ fn footer_failure<'a>(alloc: Global, files: &[&'a str], inputs: &[&[u8]]) -> Fai
     union_failure(alloc, files, inputs)
 }
 
-/// The failure of inputs that have no union together: that of the first two with different records
-/// under one hash that have none, else of all.
+/// `NoUnion` on the first two inputs with a differing record and no union, else on all.
 pub fn union_failure<'a>(alloc: Global, files: &[&'a str], inputs: &[&[u8]]) -> Failure<'a> {
     let Ok(found) = find_disagreements(alloc, inputs, &Selection::ALL) else {
         return failure_on_all(files, Fault::NoUnion);
     };
-    // The pair that was tried last.
     let mut tried = (0, 0);
     for disagreement in &found {
         let pair = (disagreement.first, disagreement.second);
@@ -155,7 +148,7 @@ pub fn union_failure<'a>(alloc: Global, files: &[&'a str], inputs: &[&[u8]]) -> 
     failure_on_all(files, Fault::NoUnion)
 }
 
-/// A failure on all inputs together.
+/// A failure on all files.
 pub fn failure_on_all<'a>(files: &[&'a str], fault: Fault) -> Failure<'a>
     ensures { result.fault ≡ fault }
 {
@@ -165,7 +158,7 @@ pub fn failure_on_all<'a>(files: &[&'a str], fault: Fault) -> Failure<'a>
     }
 }
 
-/// What differs in the records of the inputs, or `None` if they agree.
+/// What differs in the inputs' records, or `None` if they agree.
 pub fn disagreement_failure<'a>(
     alloc: Global,
     files: &[&'a str],
@@ -188,7 +181,7 @@ pub fn disagreement_failure<'a>(
     Ok(Some(disagreement_under(files, first, found.len())))
 }
 
-/// What differs in the records of files: that under the first of so many hashes.
+/// The failure of files with records that differ under `count` hashes, the first of them this one.
 pub fn disagreement_under<'a>(files: &[&'a str], first: &Disagreement, count: usize) -> Failure<'a>
     ensures { result.fault ≡ Fault.Disagree count first.now.record_hash }
 {
@@ -198,7 +191,7 @@ pub fn disagreement_under<'a>(files: &[&'a str], first: &Disagreement, count: us
     }
 }
 
-/// The file that has a record which no shard may have, and the record.
+/// The failure of the file with a record that no shard may have.
 pub fn failure_on_malformed<'a>(files: &[&'a str], malformed: &MalformedRecord) -> Failure<'a>
     ensures fault { result.fault ≡ Fault.Malformed malformed.now.record_hash }
     ensures subject { MatchOption (slice_get files.now malformed.now.input)
@@ -214,8 +207,8 @@ pub fn failure_on_malformed<'a>(files: &[&'a str], malformed: &MalformedRecord) 
     }
 }
 
-/// The first of the files that keeps shards from being merged: it can't be read, or else its footer
-/// is wrong. `None` if there is none. One file is in memory at a time.
+/// The failure of the first file that can't be read, else of the first with a wrong footer, else
+/// `None`. One file is in memory at a time.
 pub fn failure_in_files<'a, R: Files + Input + AllocGlobal>(
     rt: &R,
     files: &[&'a str],
@@ -240,8 +233,7 @@ pub fn failure_in_files<'a, R: Files + Input + AllocGlobal>(
     None
 }
 
-/// The first of the files that can't be read. `None` if there is none. One file is in memory at a
-/// time.
+/// As [`failure_in_files`], but whatever the footers are.
 pub fn unreadable_file<'a, R: Files + Input + AllocGlobal>(
     rt: &R,
     files: &[&'a str],

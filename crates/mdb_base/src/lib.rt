@@ -1,4 +1,4 @@
-//! What the commands of `mdb` share: requests, failures, progress, and shards in files.
+//! What the commands of `mdb` share.
 #![tactic(auto)]
 
 pub mod expiry;

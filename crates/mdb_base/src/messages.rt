@@ -1,11 +1,11 @@
-//! Messages on standard error, in the style of what is printed.
+//! Messages on standard error.
 
 use mdb_records::line::{Style, json_of};
 use serde::Serialize;
 use std::fmt::Display;
 
-/// Prints a value on standard error and a line's end: as JSON, if the style is that and there is
-/// memory for it, else as text. That it can't be printed is ignored.
+/// Prints a value as a line on standard error: as JSON in that style if memory allows, else as
+/// text. Errors of printing are ignored.
 pub fn say<R: Eprint + AllocGlobal, T: Display + Serialize>(rt: &R, style: Style, value: &T) {
     if let Style::Json = style
         && let Ok(json) = json_of(rt.alloc(), value)

@@ -1,4 +1,4 @@
-//! Files that commands read whole, and what they write to paths.
+//! Files read whole, and what is written to paths.
 
 use crate::failure::Failure;
 use crate::host::Host;
@@ -10,7 +10,7 @@ use std::alloc::{AllocError, Global};
 use std::fs;
 use std::rt::Files;
 
-/// Writes bytes to a path, or to standard output, and reports what is left there.
+/// Writes bytes to a path, or to standard output for `-`, and reports leftovers.
 pub fn put<'a, R: Host>(rt: &R, output: &'a str, bytes: &[u8]) -> Result<(), Failure<'a>> {
     let written = write(rt, rt.alloc(), output, bytes);
     if output != STANDARD_STREAM {
@@ -22,8 +22,7 @@ pub fn put<'a, R: Host>(rt: &R, output: &'a str, bytes: &[u8]) -> Result<(), Fai
     }
 }
 
-/// Names the new files that runs that were ended have left beside a target, or beside the file that
-/// it leads to.
+/// Reports the new files that ended runs left beside a target, or beside the file that it leads to.
 pub fn report_leftovers<R: Host>(rt: &R, target: &str) {
     let found = match fs::canonicalize(rt, target) {
         Ok(file) => leftovers(rt, file.as_str()),
@@ -45,7 +44,7 @@ fn report_leftover<R: Eprint>(rt: &R, name: &str, target: &str) {
     ));
 }
 
-/// What is read of the shard in a file, or in standard input if it is `-`.
+/// What is read of the shard in a file, or in standard input for `-`.
 pub fn contents_of<'a, R: Files + Input + AllocGlobal>(
     rt: &R,
     file: &'a str,
@@ -56,7 +55,7 @@ pub fn contents_of<'a, R: Files + Input + AllocGlobal>(
     }
 }
 
-/// The same of a shard that may end after its sections, so that it needs no footer.
+/// As [`contents_of`], of a shard that needs no footer.
 pub fn sections_of<'a, R: Files + Input + AllocGlobal>(
     rt: &R,
     file: &'a str,

@@ -4,15 +4,15 @@ use std::fmt;
 use std::rt::Clock;
 use std::time::{Duration, Instant};
 
-/// The seconds before the line is first shown, and between its updates.
+/// The seconds before the line is shown, and between updates.
 const PAUSE: u64 = 1;
 
 /// What a command does.
 #[derive(Clone, Copy)]
 pub enum Stage {
-    /// So many of all the shards are read.
+    /// So many of all shards are read.
     Reading { read: usize, all: usize },
-    /// So many of all the shards are asked.
+    /// So many of all shards are asked.
     Asking { asked: usize, all: usize },
     /// So many shards are merged.
     Merging(usize),
@@ -33,17 +33,16 @@ impl fmt::Display for Stage {
     }
 }
 
-/// A line on standard error that says how far a command has come, for one that takes over a second.
+/// A line on standard error that says how far a command of over a second has come.
 #[derive(Clone, Copy)]
 pub struct Progress {
-    /// When the line was shown last, or the command began; `None` if it is never shown.
+    /// When the line was shown last; `None` if never.
     last: Option<Instant>,
     shown: bool,
 }
 
 impl Progress {
-    /// The progress of a command that begins. Nothing is said if standard error is no terminal, or
-    /// the clock cannot be read.
+    /// The progress of a new command, not shown without a terminal or if the clock can't be read.
     pub fn new<R: Clock>(rt: &R, terminal: bool) -> Progress {
         let last = if terminal {
             Instant::now(rt).ok()
@@ -53,7 +52,7 @@ impl Progress {
         Progress { last, shown: false }
     }
 
-    /// Shows a stage in place of the last one, if that has stood for a second.
+    /// Shows a stage, if the last one stood for a second.
     pub fn show_after_pause<R: Clock + Eprint>(&mut self, rt: &R, stage: Stage) {
         let Some(last) = self.last else {
             return;
@@ -67,7 +66,7 @@ impl Progress {
         }
     }
 
-    /// Shows a stage at once: one that may take long, and says nothing before it ends.
+    /// Shows a stage that may take long at once.
     pub fn show<R: Eprint>(&mut self, rt: &R, stage: Stage) {
         if self.last.is_some() {
             let _ = rt.eprint(format_args!("\r\u{1b}[K{stage}"));
@@ -75,7 +74,7 @@ impl Progress {
         }
     }
 
-    /// Removes the line, so that others stand where it was.
+    /// Removes the line.
     pub fn clear<R: Eprint>(&mut self, rt: &R) {
         if self.shown {
             let _ = rt.eprint(format_args!("\r\u{1b}[K"));

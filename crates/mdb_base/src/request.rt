@@ -1,4 +1,4 @@
-//! Requests: the commands as values, with all that their arguments say.
+//! Commands as values.
 
 use mdb_files::files::STANDARD_STREAM;
 use mdb_records::line::Style;
@@ -10,7 +10,7 @@ use xet_core_structures::file_structs::KeptParts;
 use xet_core_structures::merklehash::{HMACKey, MerkleHash};
 use xet_core_structures::record_reader::FormatVersion;
 
-/// The memory that is taken if none is given, in bytes.
+/// The bytes of memory that are taken if none are given.
 pub const DEFAULT_MEMORY: u64 = 256 << 20;
 
 /// What is asked for.
@@ -39,15 +39,15 @@ impl Request<'_> {
     }
 }
 
-/// How answers about shards are printed.
+/// How answers are printed.
 #[derive(Clone, Copy)]
 pub struct PrintOptions {
     pub style: Style,
-    /// The order of the shards; `None` if it is that in which they are named.
+    /// The order of the shards; `None` as they are named.
     pub sort: Option<Sort>,
-    /// The time, in seconds, by which it is judged whether a shard has expired, if it is known.
+    /// The time by which shards have expired, in seconds, if known.
     pub now: Option<u64>,
-    /// Whether nothing is said of how far the command has come.
+    /// Whether no progress is shown.
     pub quiet: bool,
 }
 
@@ -61,33 +61,33 @@ pub enum Sort {
     Expiry,
 }
 
-/// How what does not fit together in shards is found and printed.
+/// How misfits in shards are found and printed.
 #[derive(Clone, Copy)]
 pub struct Collection {
     pub style: Style,
     /// About how many bytes of memory are taken.
     pub memory: u64,
-    /// Whether nothing is said of how far the command has come.
+    /// Whether no progress is shown.
     pub quiet: bool,
 }
 
 /// How an overview of shards is made.
 #[derive(Clone, Copy)]
 pub struct OverviewOptions<'a> {
-    /// The path to write to, or `-` for standard output.
+    /// The path, or `-` for standard output.
     pub output: &'a str,
     /// About how many bytes of memory are taken.
     pub memory: u64,
-    /// The time, in seconds, by which shards have expired, if it is known.
+    /// The time by which shards have expired, in seconds, if known.
     pub now: Option<u64>,
-    /// Whether nothing is said of how far the command has come.
+    /// Whether no progress is shown.
     pub quiet: bool,
 }
 
-/// Where a shard is written, and in which version of the format.
+/// Where a shard is written, and in which version.
 #[derive(Clone, Copy)]
 pub struct Target<'a> {
-    /// A path, or `-` for standard output; of a merge by keys a folder.
+    /// A path, or `-` for standard output; of a merge by keys or in groups a folder.
     pub path: &'a str,
     pub version: FormatVersion,
 }
@@ -97,15 +97,15 @@ pub struct Target<'a> {
 pub struct Sources<'a> {
     /// Paths of shards and of folders.
     pub words: Vec<&'a str>,
-    /// The path of a file that lists more of them.
+    /// A file that lists more of them.
     pub list: Option<&'a str>,
-    /// The list of more hashes to look up.
+    /// A list of more hashes.
     pub hashes: Option<HashList<'a>>,
     /// The byte that ends a path in the list.
     pub end: u8,
-    /// How failures to read what is named are printed.
+    /// How failures are printed.
     pub style: Style,
-    /// Whether the folders in a folder are read too.
+    /// Whether folders in a folder are read.
     pub recursive: bool,
     /// Whether a folder without shards is no failure.
     pub may_be_empty: bool,
@@ -137,10 +137,10 @@ pub enum MakeCommand<'a> {
     Combine(Operation, &'a str, &'a str),
     Export(&'a str, Export),
     Minimal(&'a str, u64, KeptParts),
-    /// The xorbs to keep may be listed besides.
+    /// The list has more xorbs to keep.
     Subset(&'a str, Subset, Option<HashList<'a>>, NewExpiry),
     Drop(Removal<'a>),
-    /// The shard of the records in a file, one a line, with an expiry in seconds or none.
+    /// Of the records in a file, one a line, with an expiry in seconds or none.
     Records(&'a str, Option<u64>),
 }
 
@@ -149,7 +149,7 @@ pub enum MakeCommand<'a> {
 pub struct Removal<'a> {
     pub file: &'a str,
     pub hashes: Vec<MerkleHash>,
-    /// The list of more hashes.
+    /// A list of more hashes.
     pub list: Option<HashList<'a>>,
     pub expiry: NewExpiry,
 }
@@ -161,7 +161,7 @@ pub enum NewExpiry {
     Unset,
     /// This time, in seconds.
     At(u64),
-    /// The earliest of those that the inputs have.
+    /// The earliest of the inputs.
     Earliest,
 }
 
@@ -172,25 +172,25 @@ pub struct Merge<'a> {
     pub strictness: Strictness,
     /// Whether each file is reported as it is read.
     pub verbose: bool,
-    /// Whether nothing is said of how far the merge has come.
+    /// Whether no progress is shown.
     pub quiet: bool,
-    /// Whether the shards under each key are merged by themselves, into a folder.
+    /// Whether shards are merged by key, into a folder.
     pub by_key: bool,
     pub expiry: NewExpiry,
-    /// About how many bytes of memory a merge in rounds takes; `None` if all shards are in memory.
+    /// About how many bytes a merge in rounds takes; `None` if all shards are in memory.
     pub memory: Option<u64>,
-    /// The time, in seconds, by which shards have expired, if it is known.
+    /// The time by which shards have expired, in seconds, if known.
     pub now: Option<u64>,
     /// Whether expired shards are left out.
     pub drops_expired: bool,
     /// Whether what can't be read is left out.
     pub skips_unreadable: bool,
-    /// How shards are merged in groups, each to a file in a folder; `None` if all are merged as one.
+    /// How shards are merged in groups, into a folder; `None` if as one.
     pub compaction: Option<Compaction>,
 }
 
 impl Merge<'_> {
-    /// Whether the shards are removed once they are merged.
+    /// Whether merged shards are removed.
     pub fn removes_inputs(&self) -> bool {
         match self.compaction {
             Some(compaction) => compaction.remove_inputs,
@@ -202,7 +202,7 @@ impl Merge<'_> {
 /// How shards are merged in groups.
 #[derive(Clone, Copy)]
 pub struct Compaction {
-    /// The most bytes that the shards of a group have together.
+    /// The most bytes of a group together.
     pub max_size: u64,
     /// The key of the hashes by which merges are named.
     pub hash_key: HMACKey,
@@ -210,7 +210,7 @@ pub struct Compaction {
     pub remove_inputs: bool,
 }
 
-/// What is done where shards that are to be merged do not agree.
+/// What is done if merged shards differ.
 #[derive(Clone, Copy)]
 pub enum Strictness {
     /// One record is kept, and the difference is reported.

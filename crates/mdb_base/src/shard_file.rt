@@ -19,17 +19,17 @@ use xet_core_structures::merklehash::{HMACKey, MerkleHash};
 use xet_core_structures::record_reader::FormatVersion;
 use xet_core_structures::shard_format::MDBShardInfo;
 
-/// How often a block is enlarged to hold a record that is longer than it.
+/// How often a block is doubled for a longer record.
 const DOUBLINGS: u32 = 40;
 
-/// How many bytes are read first behind a share that ends before the goal of a round.
+/// The bytes read first behind a share that ends before the goal.
 const FIRST_STEP: u64 = 4096;
 
 /// Why a round ends without a part of the merge.
 #[derive(Drop)]
 pub enum RoundFault<'a> {
     Failed(Failure<'a>),
-    /// A shard can't be read to the end of a section, or memory is lacking.
+    /// A section can't be read to its end, or memory is lacking.
     Unreadable(CoreError),
 }
 
@@ -65,7 +65,7 @@ pub struct ShardFile<'a> {
     stamp: Stamp,
 }
 
-/// The stamp of a regular file, and the bytes of its header and its footer.
+/// A regular file's stamp, and the bytes of its header and footer. `NoParts` for anything else.
 pub fn ends_of<'a, R: Files + AllocGlobal>(
     rt: &R,
     path: &'a str,
@@ -80,7 +80,7 @@ pub fn ends_of<'a, R: Files + AllocGlobal>(
     }
 }
 
-// `None` if the path leads to no regular file.
+// `None` if there is no regular file.
 fn regular_ends_of<R: Files + AllocGlobal>(
     rt: &R,
     path: &str,
@@ -94,7 +94,7 @@ fn regular_ends_of<R: Files + AllocGlobal>(
 }
 
 impl<'a> ShardFile<'a> {
-    /// The shard in the file at a path, with its header and footer and the file's stamp.
+    /// The shard in a file with this header, footer and stamp.
     pub fn new(path: &'a str, info: MDBShardInfo, stamp: Stamp) -> ShardFile<'a> {
         ShardFile { path, info, stamp }
     }
@@ -124,7 +124,8 @@ impl<'a> ShardFile<'a> {
         self.info.metadata.chunk_hash_hmac_key
     }
 
-    /// Opens the file at an offset, or at its end. It fails if the file is another one, or was changed.
+    /// Opens the file at an offset, at most its end; `Changed` if the file is another or was
+    /// changed.
     pub fn open_at<R: Files>(&self, rt: &R, offset: u64) -> Result<R::File, Failure<'a>> {
         match open_stamped(rt, self.path, offset.min(self.stamp.size)) {
             Ok((file, stamp)) if stamp == self.stamp => Ok(file),
@@ -171,7 +172,7 @@ impl<'a> Cursor<'a> {
         self.mark.ended
     }
 
-    /// How many bytes of the section are left, if the footer has the offsets of its parts.
+    /// How many bytes of the section are left, if the footer is right.
     pub fn bytes_left(&self) -> u64 {
         let footer = &self.shard.info.metadata;
         let end = match self.section {
@@ -184,9 +185,8 @@ impl<'a> Cursor<'a> {
         end.min(self.shard.stamp.size).saturating_sub(self.offset)
     }
 
-    /// The next records in `size` bytes, or one that is longer, and the mark behind the last whole
-    /// one. While that is before `goal`, more is read, in at most `extra` bytes, from which what was
-    /// read is then subtracted.
+    /// The next records in `size` bytes, or one longer, and the mark behind the last whole one.
+    /// While that is before `goal`, up to `extra` bytes more are read, and taken off `extra`.
     pub fn read<R: Files + AllocGlobal>(
         &self,
         rt: &R,
@@ -223,7 +223,7 @@ impl<'a> Cursor<'a> {
             };
             let mark = block.read(alloc, self.mark, None)?;
             if mark.bytes > 0 {
-                // What is cut short is an error of the next round, in which nothing is read.
+                // A cut section is an error of the next round, which reads nothing.
                 if mark.reaches(goal) || read < more || step > *extra {
                     return Ok((block, mark));
                 }
@@ -250,8 +250,7 @@ impl<'a> Cursor<'a> {
         self.mark.last
     }
 
-    /// The records of a block up to a hash, or all that are whole, as a shard. The cursor passes
-    /// them.
+    /// Passes the records of a block up to a hash, or all whole ones, and returns them as a shard.
     pub fn take<R: AllocGlobal>(
         &mut self,
         rt: &R,
@@ -268,7 +267,6 @@ impl<'a> Cursor<'a> {
     }
 }
 
-// Reads so many bytes, or all that are left, and returns their number.
 fn read_more<F: Read>(file: &mut F, size: u64, bytes: &mut Vec<u8>) -> io::Result<u64> {
     let read = file.by_ref().take(size).read_to_end(bytes)?;
     Ok(read as u64)

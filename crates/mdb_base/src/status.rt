@@ -25,7 +25,7 @@ pub enum Status {
 }
 
 impl Status {
-    /// The status after a check found something, beside what came before.
+    /// The status after a check also found something.
     pub fn and_found(self) -> Status
         ensures { result ≡ after_finding self }
     {
@@ -35,7 +35,7 @@ impl Status {
         }
     }
 
-    /// The status after files were left out, beside what came of the others.
+    /// The status after files were also left out.
     pub fn and_left_out(self) -> Status
         ensures { result ≡ after_leaving_out self }
     {
@@ -45,7 +45,7 @@ impl Status {
         }
     }
 
-    /// The number that the process ends with.
+    /// The number of the process's exit.
     pub fn number(self) -> u8
         ensures { result ≡ number_of self }
     {

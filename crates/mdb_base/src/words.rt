@@ -8,12 +8,12 @@ use std::rt::Env;
 /// The most bytes of a word that are read; Linux passes at most 131071.
 const LONGEST: usize = 1 << 17;
 
-/// The words of a command line, the first of which is the program's name.
+/// A command line, whose first word is the program's name.
 #[derive(Drop)]
 pub struct Words {
-    /// The words, in which each byte that is no text is written as `\x` and its digits.
+    /// The words; one that is not UTF-8 is escaped by [`escape_word`].
     pub texts: Vec<String>,
-    /// The words that are not UTF-8: no file can be opened by such a word.
+    /// Those that are not UTF-8, by which no file can be opened.
     pub unreadable: Vec<String>,
 }
 
@@ -81,7 +81,7 @@ impl Words {
     }
 }
 
-/// The letters of a word, and the digits of its other bytes.
+/// A word with each byte that is not graphic ASCII as `\x` and two digits.
 pub fn escape_word(alloc: Global, word: &[u8]) -> Result<String, AllocError> {
     let mut text = String::new(alloc);
     for byte in word {

@@ -1,5 +1,4 @@
-//! Reading shards from files and standard input, and writing outputs so that the old file stays if
-//! anything fails.
+//! Reading shards, and writing outputs so that the old file stays if anything fails.
 
 use crate::new_file::{folder_and_name, write_beside};
 use crate::stamp::Stamp;
@@ -13,17 +12,15 @@ use std::{fs, io};
 use xet_core_structures::error::CoreError;
 use xet_core_structures::shard_format::{self, MDBShardFileHeader};
 
-/// The path that stands for standard input where a file is read, and for standard output where one
-/// is written.
+/// The path of standard input where a file is read, and of standard output where one is written.
 pub const STANDARD_STREAM: &str = "-";
 
-// The size of a header, in bytes.
 const HEADER_SIZE: usize = shard_format::HEADER_SIZE as usize;
 
-// The size of a header and a footer, in bytes.
+// Header and footer, in bytes.
 const ENDS_SIZE: usize = HEADER_SIZE + shard_format::FOOTER_SIZE as usize;
 
-/// All bytes of a file, or what is left of standard input if the path is `-`.
+/// All bytes of a file, or the rest of standard input for `-`.
 pub fn read<R: Files + Input + AllocGlobal>(rt: &R, path: &str) -> io::Result<Vec<u8>> {
     if path != STANDARD_STREAM {
         return read_to_end(rt.alloc(), &mut fs::open(rt, path)?);
@@ -33,7 +30,7 @@ pub fn read<R: Files + Input + AllocGlobal>(rt: &R, path: &str) -> io::Result<Ve
     Ok(bytes)
 }
 
-/// All bytes of a file that was just opened, in room of its size.
+/// All bytes of a file just opened.
 pub fn read_to_end<F: Read + OpenFile>(alloc: Global, file: &mut F) -> io::Result<Vec<u8>> {
     let size = file.metadata()?.len();
     let mut bytes = Vec::with_capacity(alloc, usize::try_from(size).unwrap_or(usize::MAX))?;
@@ -51,9 +48,9 @@ pub struct Contents {
     pub stamp: Option<Stamp>,
 }
 
-/// The bytes of the shard in a file, or in what is left of standard input if the path is `-`. Of a
-/// regular file without header and footer only as many are read as these have: no more are needed
-/// to say why it is no shard. The same holds of anything else that does not begin with a header.
+/// The bytes of the shard in a file, or in the rest of standard input for `-`. Of a regular file
+/// without header and footer, and of anything else without a header, only as many are read as these
+/// have.
 pub fn read_shard<R: Files + Input + AllocGlobal>(rt: &R, path: &str) -> io::Result<Contents> {
     let alloc = rt.alloc();
     if path == STANDARD_STREAM {
@@ -67,8 +64,7 @@ pub fn read_shard<R: Files + Input + AllocGlobal>(rt: &R, path: &str) -> io::Res
     stream_contents(alloc, &mut file)
 }
 
-/// The same of a shard that may end after its sections, so that it needs no footer: all that begins
-/// with a header is read.
+/// As [`read_shard`], but all that begins with a header is read, and no footer is needed.
 pub fn read_sections<R: Files + Input + AllocGlobal>(rt: &R, path: &str) -> io::Result<Contents> {
     if path == STANDARD_STREAM {
         stream_contents(rt.alloc(), &mut rt.reader())
@@ -77,7 +73,6 @@ pub fn read_sections<R: Files + Input + AllocGlobal>(rt: &R, path: &str) -> io::
     }
 }
 
-// What is read of a regular file that has room for header and footer.
 fn file_contents<F: Read + Seek>(
     alloc: Global,
     file: &mut F,
@@ -101,7 +96,6 @@ fn file_contents<F: Read + Seek>(
     })
 }
 
-// What is read of a stream from its start on.
 fn stream_contents<F: Read>(alloc: Global, stream: &mut F) -> io::Result<Contents> {
     let mut bytes = Vec::new(alloc);
     stream
@@ -124,8 +118,8 @@ fn begins_with_header(alloc: Global, bytes: &[u8]) -> bool {
     MDBShardFileHeader::deserialize(alloc, &mut header).is_ok()
 }
 
-/// Whether a regular file is read whole: it begins with a header and ends with a footer, which these
-/// bytes are, or memory is lacking to say so.
+/// Whether a regular file with these bytes at its ends is read whole: they are a header and a
+/// footer, or memory is lacking to tell.
 pub fn is_worth_reading(alloc: Global, ends: &[u8]) -> bool {
     match load_bytes(alloc, ends) {
         Ok(_) | Err(CoreError::OutOfMemory) => true,
@@ -133,8 +127,8 @@ pub fn is_worth_reading(alloc: Global, ends: &[u8]) -> bool {
     }
 }
 
-/// Opens a regular file, and gives its size. `None` if the path is not a regular file, or its size
-/// is 0, as of files in /proc.
+/// Opens a regular file, and gives its size. `None` for anything else, or if its size is 0, as in
+/// /proc.
 pub fn open_sized<R: Files>(rt: &R, path: &str) -> io::Result<Option<(R::File, u64)>> {
     if path == STANDARD_STREAM || !fs::metadata(rt, path)?.is_file() {
         return Ok(None);
@@ -146,14 +140,13 @@ pub fn open_sized<R: Files>(rt: &R, path: &str) -> io::Result<Option<(R::File, u
     }
 }
 
-/// The bytes of the header with which a file begins and those of the footer with which it ends.
+/// The bytes of the header and the footer of a file.
 pub fn read_ends<R: Files + AllocGlobal>(rt: &R, path: &str) -> io::Result<Vec<u8>> {
     let mut file = fs::open(rt, path)?;
     let size = file.metadata()?.len();
     ends_in(rt.alloc(), &mut file, size)
 }
 
-// The same of a file of this size.
 fn ends_in<F: Read + Seek>(alloc: Global, file: &mut F, size: u64) -> io::Result<Vec<u8>> {
     let ends = size.min(ENDS_SIZE as u64) as usize;
     let mut bytes = vec![in alloc; 0u8; ends]?;
@@ -164,12 +157,11 @@ fn ends_in<F: Read + Seek>(alloc: Global, file: &mut F, size: u64) -> io::Result
     Ok(bytes)
 }
 
-/// Writes bytes to a path, or to standard output if it is `-`.
+/// Writes bytes to a path, or to standard output for `-`.
 ///
-/// A new name, or a regular file, also one behind symbolic links, gets a new file beside it, which
-/// is renamed over it: if anything fails, the target stays as it was and the new file is removed.
-/// What is no regular file, as a device or a pipe, is written to. A link that leads nowhere is
-/// refused.
+/// A new name, or a regular file, also behind links, is replaced by a new file beside it: if
+/// anything fails, the target stays and the new file is removed. Anything else, as a device, is
+/// written to; a link that leads nowhere is refused.
 pub fn write<R: Files + Print + RandomSource + AllocGlobal>(
     rt: &R,
     alloc: Global,
@@ -194,13 +186,12 @@ pub fn write<R: Files + Print + RandomSource + AllocGlobal>(
 /// What a path names for writing.
 #[derive(Drop)]
 pub enum Place {
-    /// A new file, which is renamed over this target: the path, or the regular file to which it
-    /// leads and which is replaced.
+    /// A new file, to be renamed over the target: the path, or the regular file that it leads to.
     File {
         target: String,
         replaced: Option<Metadata>,
     },
-    /// What is there, and is no regular file.
+    /// What is there is no regular file.
     Other,
 }
 
@@ -222,7 +213,6 @@ pub fn place_at<R: Files + AllocGlobal>(rt: &R, alloc: Global, path: &str) -> io
     }
 }
 
-// The path of a file itself, where it is behind a link.
 fn file_at<R: Files + AllocGlobal>(rt: &R, alloc: Global, path: &str) -> io::Result<String> {
     if !is_link(rt, path) {
         return Ok(String::from_str(alloc, path)?);
@@ -238,7 +228,6 @@ fn is_link<R: Files>(rt: &R, path: &str) -> bool {
     }
 }
 
-// Writes bytes to what is at a path and is no regular file.
 fn write_into<R: Files>(rt: &R, path: &str, bytes: &[u8]) -> io::Result<()> {
     let mut options = OpenOptions::new();
     options.write(true);
@@ -246,8 +235,8 @@ fn write_into<R: Files>(rt: &R, path: &str, bytes: &[u8]) -> io::Result<()> {
     there.write_all(bytes)
 }
 
-/// Renames a new file over a target, and waits until the device has the new name; or removes it if it
-/// can't be renamed.
+/// Renames a new file over a target, and waits until the device has the name. A file that can't be
+/// renamed is removed.
 pub fn rename_over<R: Files>(rt: &R, beside: &str, target: &str) -> io::Result<()> {
     if let Err(error) = fs::rename(rt, beside, target) {
         let _ = fs::remove_file(rt, beside);
@@ -255,7 +244,7 @@ pub fn rename_over<R: Files>(rt: &R, beside: &str, target: &str) -> io::Result<(
     }
     let (folder, _) = folder_and_name(target);
     match sync_folder(rt, folder) {
-        // Not every folder in which files are made may be read, nor can every system wait for one.
+        // Some folders may not be read, and some systems can't wait for one.
         Err(error)
             if error.kind() == ErrorKind::PermissionDenied
                 || error.kind() == ErrorKind::InvalidInput => { Ok(()) }

@@ -1,21 +1,21 @@
-//! How much memory this program can get, as Linux says.
+//! How much memory this program can get.
 
 use std::fs;
 use std::rt::Files;
 
-/// Where the system says what memory is free or can be freed, and how much swap is free.
+/// The system's free memory and swap.
 const SYSTEM: &str = "/proc/meminfo";
 
-/// Where it says what limits this program has.
+/// This program's limits.
 const PROGRAM: &str = "/proc/self/limits";
 
-/// Where it says what memory the container may have in which the program runs.
+/// The container's limit of memory.
 const CONTAINER: &str = "/sys/fs/cgroup/memory.max";
 
-/// Where it says what swap the container may have beside its memory.
+/// The container's limit of swap beside its memory.
 const CONTAINER_SWAP: &str = "/sys/fs/cgroup/memory.swap.max";
 
-/// The memory that this program can get, in bytes, as far as the system says: at most so much.
+/// The most bytes of memory that this program can get, as far as the system says.
 pub fn free_memory<R: Files + AllocGlobal>(rt: &R) -> u64 {
     let free = match (
         number_in(rt, SYSTEM, "MemAvailable:"),
@@ -30,8 +30,7 @@ pub fn free_memory<R: Files + AllocGlobal>(rt: &R) -> u64 {
     free.min(limit).min(memory.saturating_add(swap))
 }
 
-// The number that a file of the system has after a name, at the start of a line. `None` also if
-// there is another word, as where no limit is set.
+// The number after a name at the start of a line; `None` for another word, as without a limit.
 fn number_in<R: Files + AllocGlobal>(rt: &R, path: &str, name: &str) -> Option<u64> {
     let text = fs::read_to_string(rt, path).ok()?;
     for line in text.as_str().lines() {

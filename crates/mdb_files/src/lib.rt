@@ -1,5 +1,4 @@
-//! Shards in files: they are read, replaced as a whole by new files beside them, and known again by
-//! stamps.
+//! Shards in files: reading them, replacing them as a whole, and their stamps.
 #![tactic(auto)]
 
 pub mod files;

@@ -1,4 +1,4 @@
-//! New files beside a target, which are renamed over it once they are whole.
+//! New files beside a target, renamed over it once they are whole.
 
 use std::alloc::{AllocError, Global};
 use std::fs::{Metadata, OpenFile, OpenOptions};
@@ -12,10 +12,10 @@ use xet_core_structures::utils::parse_shard_filename;
 /// The ending of a new file's name.
 const ENDING: &str = ".new";
 
-/// The digits of a new file's name before its end.
+/// The digits before it.
 const DIGITS: usize = 16;
 
-/// How many names are tried for a new file.
+/// How many names are tried.
 const TRIES: u32 = 100;
 
 /// A new file beside a target.
@@ -25,8 +25,7 @@ pub struct NewFile<F: Drop> {
     pub path: String,
 }
 
-/// Writes bytes to a new file beside a target and returns its path. It has the mode of the file
-/// that it is to replace, and its owner and group where the system lets them be given.
+/// Writes bytes to a new file as [`create_beside`] makes it, and returns its path.
 pub fn write_beside<R: Files + RandomSource>(
     rt: &R,
     alloc: Global,
@@ -44,15 +43,13 @@ pub fn write_beside<R: Files + RandomSource>(
     }
 }
 
-// Writes bytes, and waits until the device has them.
 fn fill<F: Write + OpenFile>(file: &mut F, bytes: &[u8]) -> io::Result<()> {
     file.write_all(bytes)?;
     file.sync_all()
 }
 
-/// A new file beside a target, with the mode, owner and group of the file that it is to replace.
-///
-/// Its name is the target's with random digits, so that no other run or user has taken it.
+/// A new file beside a target, with the mode of the file that it is to replace, and its owner and
+/// group where the system lets them be given. Random digits keep its name apart from others.
 pub fn create_beside<R: Files + RandomSource>(
     rt: &R,
     alloc: Global,
@@ -73,7 +70,7 @@ pub fn create_beside<R: Files + RandomSource>(
     }
 }
 
-/// A new file beside a target that nobody else may read, for what is needed while it is written.
+/// A new file beside a target that nobody else may read.
 pub fn create_private<R: Files + RandomSource>(
     rt: &R,
     alloc: Global,
@@ -112,7 +109,6 @@ fn new_name<R: RandomSource>(rt: &R, alloc: Global, target: &str) -> io::Result<
     Ok(format!(in alloc; "{target}.{number:016x}{ENDING}")?)
 }
 
-// Gives a new file the owner, where the system lets it be given, and the mode of another.
 fn take_place<R: Files, F: OpenFile>(
     rt: &R,
     file: &mut F,
@@ -127,8 +123,7 @@ fn take_place<R: Files, F: OpenFile>(
     file.set_permissions(replaced.permissions())
 }
 
-/// The names in a target's folder that new files for it have: each is of a run that was ended
-/// before it could rename it or remove it, or of one that still writes.
+/// The names of new files beside a target, of runs that were ended or still write.
 pub fn leftovers<R: Files + AllocGlobal + Clone + Drop>(
     rt: &R,
     target: &str,
@@ -159,8 +154,8 @@ pub fn folder_and_name(file: &str) -> (&str, &str) {
     }
 }
 
-/// Removes from a folder the new files that runs which were ended have left there for shards named by
-/// their hashes. No other run may write such a file there.
+/// Removes the new files for shards named by hashes that ended runs left in a folder. No other run
+/// may write there.
 pub fn remove_leftovers<R: Files + AllocGlobal + Clone + Drop>(rt: &R, folder: &str) {
     let Ok(entries) = fs::read_dir(rt, folder) else {
         return;
@@ -175,7 +170,6 @@ pub fn remove_leftovers<R: Files + AllocGlobal + Clone + Drop>(rt: &R, folder: &
     }
 }
 
-// Whether a name is one that a new file for a target of this name has.
 fn is_new_name(name: &str, target: &str) -> bool {
     match target_of(name) {
         Some(its) => its == target,
@@ -183,7 +177,7 @@ fn is_new_name(name: &str, target: &str) -> bool {
     }
 }
 
-// The name of the target of which a name may be that of a new file.
+// The target's name, if this is a new file's.
 fn target_of(name: &str) -> Option<&str> {
     let (target, digits) = name.strip_suffix(ENDING)?.rsplit_once('.')?;
     if digits.len() == DIGITS && digits.bytes().all(|digit| digit.is_ascii_hexdigit()) {

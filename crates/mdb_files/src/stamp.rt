@@ -1,9 +1,9 @@
-//! Stamps of files, by which a file that was changed or replaced is noticed.
+//! Stamps, by which changed or replaced files are noticed.
 
 use std::fs::Metadata;
 use std::os::unix::fs::MetadataExt;
 
-/// Which file of which device a file is: all its names lead to it.
+/// A file's device and number, which all its names lead to.
 #[derive(Clone, Copy, PartialEq, Eq)]
 pub struct FileId {
     device: u64,
@@ -11,7 +11,7 @@ pub struct FileId {
 }
 
 impl FileId {
-    /// The device and the number of the file with this metadata.
+    /// The id in a file's metadata.
     pub fn of(there: &Metadata) -> FileId {
         FileId {
             device: there.dev(),
@@ -20,8 +20,7 @@ impl FileId {
     }
 }
 
-/// A file and the time of its last change: another file has another stamp, and so has one that was
-/// changed.
+/// A file's id, size and time of last change: another file, or a changed one, has another stamp.
 #[derive(Clone, Copy, PartialEq, Eq)]
 pub struct Stamp {
     pub id: FileId,
@@ -31,7 +30,7 @@ pub struct Stamp {
 }
 
 impl Stamp {
-    /// The stamp of the file with this metadata.
+    /// The stamp in a file's metadata.
     pub fn of(there: &Metadata) -> Stamp {
         Stamp {
             id: FileId::of(there),

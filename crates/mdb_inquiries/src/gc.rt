@@ -1,8 +1,6 @@
-//! Finding what does not fit together in the records of shards, with only a part of them in memory.
-//!
-//! The search takes one range of xorb hashes after another, in ascending order. For each it reads all
-//! files, keeps the segments that name a xorb in the range, and then reads all xorbs. If that is too
-//! much, the range ends earlier. Then it reads shards again, to name the first that has each finding.
+//! Finding what does not fit together in shards, with a part of their records in memory: all files,
+//! then all xorbs are read for one range of xorb hashes after another. A range with too much ends
+//! earlier.
 
 use crate::inputs::Inputs;
 use crate::origins::Origins;
@@ -29,17 +27,17 @@ use xet_core_structures::file_structs::MDBFileInfo;
 use xet_core_structures::merklehash::MerkleHash;
 use xet_core_structures::xorb_structs::MDBXorbInfo;
 
-/// About the memory for what is kept of a segment, of a xorb or of a finding, in bytes.
+/// About the bytes kept for a segment, a xorb or a finding.
 const ITEM_SIZE: u64 = 256;
 
-/// The fewest of these that are kept at once.
+/// The fewest of these kept at once.
 const LEAST_ITEMS: u64 = 64;
 
 /// How often a range is halved when too much is kept.
 const HALVINGS: u32 = 64;
 
-/// Prints what does not fit together in shards. Nothing is printed before all of them have been read.
-/// If standard error is a terminal, it says there how far it has come.
+/// Prints what does not fit together in shards, after all have been read. Shows progress if
+/// standard error is a terminal.
 pub fn collect_garbage<R: Host>(
     rt: &R,
     inputs: &Inputs,
@@ -75,7 +73,6 @@ pub fn collect_garbage<R: Host>(
     }
 }
 
-// Prints what is found in one range of hashes after another.
 fn print_garbage<'a, R: Files + Clock + Eprint + AllocGlobal, W: Write>(
     rt: &R,
     inputs: &'a Inputs,
@@ -124,8 +121,7 @@ pub fn open_all<'a, R: Files + AllocGlobal>(
     Ok(opened)
 }
 
-// What does not fit together about hashes from one on, and where the range ends that was looked at;
-// `None` if there is no end.
+// Also returns the end of the range that was looked at, if it has one.
 fn garbage_from<'a, R: Files + Clock + Eprint + AllocGlobal>(
     rt: &R,
     shards: &[ShardFile<'a>],
@@ -158,7 +154,6 @@ fn garbage_from<'a, R: Files + Clock + Eprint + AllocGlobal>(
     Ok((found, to))
 }
 
-// Prints findings, each with the path of the first shard that has its record.
 fn print_with_origins<'a, R: Files + Clock + Eprint + AllocGlobal, W: Write>(
     rt: &R,
     shards: &[ShardFile<'a>],
@@ -181,7 +176,7 @@ fn path_of<'a>(shards: &[ShardFile<'a>], number: Option<usize>) -> Option<&'a st
     Some(shards.get(number?)?.path)
 }
 
-// Reads shards until the first one that has its record is known of each finding.
+// Reads shards until each finding's first one is known.
 fn origins_of<'a, 'f, R: Files + Clock + Eprint + AllocGlobal>(
     rt: &R,
     shards: &[ShardFile<'a>],
@@ -202,7 +197,7 @@ fn origins_of<'a, 'f, R: Files + Clock + Eprint + AllocGlobal>(
     Ok(origins)
 }
 
-// The segments of files, of which some are given up where they are too many.
+// Segments, some of which are given up if they are too many.
 #[derive(Drop)]
 struct LimitedSegments {
     segments: Segments,
@@ -220,7 +215,7 @@ impl TakesFiles for LimitedSegments {
     }
 }
 
-// What is found in xorbs, of which some is given up where it is too much.
+// Findings, some of which are given up if they are too many.
 #[derive(Drop)]
 struct LimitedGarbage {
     garbage: Garbage,
@@ -238,7 +233,7 @@ impl TakesXorbs for LimitedGarbage {
     }
 }
 
-// Gives segments up until no more than so many are left, or all name one xorb. How many are left.
+// Until at most `most` are left, or all name one xorb. Returns how many are left.
 fn halve_segments(segments: &mut Segments, most: usize) -> usize {
     for _ in 0..HALVINGS {
         let before = segments.items.len();
@@ -253,7 +248,6 @@ fn halve_segments(segments: &mut Segments, most: usize) -> usize {
     segments.items.len()
 }
 
-// The same of hashes and findings.
 fn halve_garbage(garbage: &mut Garbage, most: usize) -> usize {
     for _ in 0..HALVINGS {
         let before = garbage.len();
@@ -268,8 +262,8 @@ fn halve_garbage(garbage: &mut Garbage, most: usize) -> usize {
     garbage.len()
 }
 
-// How much is kept before some is given up again. Where nothing could be, twice as much is waited
-// for, so that this is not tried in vain for each record.
+// Where too much could not be given up, twice as much is waited for, so that not each record tries
+// again.
 fn limit_after(most: usize, left: usize) -> usize {
     if left <= most {
         most

@@ -10,8 +10,8 @@ use shard_bytes::minimal::KeptXorbs;
 use std::rt::Files;
 use xet_core_structures::merklehash::MerkleHash;
 
-/// Adds the hashes in the list that a request names, if it names one, to its own. Some words are no
-/// text, so that no file can be opened by them.
+/// Adds the hashes of the list that a request names, if any, to its own. `NoText` if the list's
+/// name is among `unreadable`; `NoHash` for a line that is none.
 pub fn add_listed<'a, R: Files + Input + AllocGlobal>(
     rt: &R,
     request: &mut Request<'a>,
@@ -33,7 +33,6 @@ pub fn add_listed<'a, R: Files + Input + AllocGlobal>(
     }
 }
 
-// The list of hashes that a request names.
 fn list_of<'a>(request: &Request<'a>) -> Option<HashList<'a>> {
     match request {
         Request::Inspect(sources, _, _) => sources.hashes,
@@ -56,7 +55,7 @@ fn add_to_inquiry<'a, R: Files + Input + AllocGlobal>(
     }
 }
 
-// Where all xorbs are kept, those in the list are kept alone.
+// Of all xorbs, only those in the list are kept.
 fn add_to_kept<'a, R: Files + Input + AllocGlobal>(
     rt: &R,
     list: HashList<'a>,
@@ -71,7 +70,7 @@ fn add_to_kept<'a, R: Files + Input + AllocGlobal>(
     }
 }
 
-// Adds the hashes in a list, one a line; empty lines are passed over.
+// Empty lines are passed over.
 fn add_from<'a, R: Files + Input + AllocGlobal>(
     rt: &R,
     list: HashList<'a>,

@@ -1,4 +1,4 @@
-//! The list of shards that a command reads: those of its words, of folders and of lists.
+//! The shards that a command reads, of words, folders and lists.
 
 use mdb_base::failure::Failure;
 use mdb_base::outputs::path_in;
@@ -13,24 +13,23 @@ use std::io::Read;
 use std::rt::Files;
 use std::{fs, io};
 
-/// The end of a shard's name in a folder.
+/// The end of a shard's name.
 const ENDING: &str = ".mdb";
 
-/// How many bytes of the names in a folder are read at once. No read ends inside a name, and 4096
-/// have room for any.
+/// The bytes of names in a folder read at once; 4096 have room for any.
 const NAMES_SIZE: usize = 8192;
 
 /// The shards that a command reads.
 #[derive(Drop)]
 pub struct Inputs {
     pub paths: Vec<String>,
-    /// Whether answers are printed with the shards' names: there may be more than one shard.
+    /// Whether answers have shards' names, as there may be more than one.
     pub named: bool,
-    /// Whether a path was left out that cannot be read, which was reported.
+    /// Whether a path that can't be read was left out, and reported.
     pub failed: bool,
     /// What was reported of such paths.
     pub failures: Vec<InputFailure>,
-    /// Whether something that was named reads standard input.
+    /// Whether standard input is read.
     pub reads_input: bool,
 }
 
@@ -41,8 +40,8 @@ pub struct InputFailure {
     pub reason: String,
 }
 
-/// The shards that sources name: each folder stands for the shards in it. Some words are no text,
-/// so that no file can be opened by them. It fails only if memory is lacking.
+/// The shards that sources name; a folder stands for those in it. Words among `unreadable` are not
+/// UTF-8, and are reported.
 pub fn inputs_of<R: Files + Input + Eprint + AllocGlobal>(
     rt: &R,
     sources: &Sources<'_>,
@@ -76,7 +75,7 @@ pub fn inputs_of<R: Files + Input + Eprint + AllocGlobal>(
 }
 
 impl Inputs {
-    // Adds a path, or the shards in the folder there. Standard input can be read only once.
+    // Standard input can be read only once.
     fn add<R: Files + Eprint + AllocGlobal>(
         &mut self,
         rt: &R,
@@ -97,8 +96,8 @@ impl Inputs {
         Ok(())
     }
 
-    // Adds the shards in a folder, and in those in it if they are read too, in the order of their
-    // paths. Reports names that are no UTF-8, and that there is no shard.
+    // Adds shards in the order of their paths. Reports names that are not UTF-8, and that there is
+    // no shard.
     fn add_folder<R: Files + Eprint + AllocGlobal>(
         &mut self,
         rt: &R,
@@ -151,7 +150,6 @@ impl Inputs {
         Ok(())
     }
 
-    // Adds the paths of a list.
     fn add_list<R: Files + Input + Eprint + AllocGlobal>(
         &mut self,
         rt: &R,
@@ -180,7 +178,6 @@ impl Inputs {
         Ok(())
     }
 
-    // Reports what keeps a path from being read.
     fn report<R: Eprint + AllocGlobal>(
         &mut self,
         rt: &R,
@@ -200,14 +197,13 @@ impl Inputs {
     }
 }
 
-// What was found in a folder, or in several.
 #[derive(Drop)]
 struct Found {
-    /// The regular files, also behind links, whose names are those of shards.
+    /// Regular files, also behind links, with the names of shards.
     shards: Vec<String>,
-    /// Shards, and what may be folders to read, whose names are no UTF-8.
+    /// Shards and what may be folders to read, with names that are not UTF-8.
     unreadable: Vec<String>,
-    /// Folders that are still to be read.
+    /// Folders still to be read.
     folders: Vec<String>,
 }
 
@@ -220,7 +216,7 @@ impl Found {
         }
     }
 
-    // Adds what has one of the names in a folder, each ended by a zero, but for hidden ones.
+    // Each name is ended by a zero; hidden ones are passed over.
     fn add_names<R: Files + AllocGlobal>(
         &mut self,
         rt: &R,
@@ -264,7 +260,7 @@ impl Found {
     }
 }
 
-// Whether there is a folder at a path, and no link to one: links may lead in a circle.
+// Links to folders may lead in a circle.
 fn is_folder_itself<R: Files>(rt: &R, path: &str) -> bool {
     match fs::symlink_metadata(rt, path) {
         Ok(there) => there.is_dir(),
@@ -282,8 +278,7 @@ fn is_folder<R: Files>(rt: &R, path: &str) -> bool {
     }
 }
 
-// Whether there is something at a path that is no regular file, as a folder or a pipe. A link that
-// leads nowhere is none, so that it is reported.
+// A link that leads nowhere is none, so that it is reported.
 fn is_no_file<R: Files>(rt: &R, path: &str) -> bool {
     match fs::metadata(rt, path) {
         Ok(there) => !there.is_file(),
@@ -291,8 +286,7 @@ fn is_no_file<R: Files>(rt: &R, path: &str) -> bool {
     }
 }
 
-// Appends the names in a folder, each ended by a zero. `fs::read_dir` does not give names that are
-// no UTF-8.
+// `fs::read_dir` does not give names that are not UTF-8.
 fn read_names<R: Files + AllocGlobal>(rt: &R, folder: &str, names: &mut Vec<u8>) -> io::Result<()> {
     // The slash leads to the folder behind a link.
     let path = path_in(rt.alloc(), folder, "")?;

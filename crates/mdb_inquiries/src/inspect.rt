@@ -1,4 +1,4 @@
-//! Running the commands that print what each of some shards answers.
+//! The commands that print what shards answer.
 
 use crate::inputs::Inputs;
 use mdb_base::expiry::report_expired_in;
@@ -22,8 +22,7 @@ use std::io::{BufWriter, ErrorKind, Write};
 use std::rt::Files;
 use xet_core_structures::error::CoreError;
 
-/// Prints what each of some shards answers, and reports on standard error what fails. If that is a
-/// terminal, it says there how far it has come.
+/// Prints what each shard answers; failures, and progress on a terminal, go to standard error.
 pub fn inspect<R: Host>(
     rt: &R,
     inputs: &Inputs,
@@ -75,7 +74,6 @@ pub fn inspect<R: Host>(
     }
 }
 
-// Says how many shards a check has looked at, for people.
 fn report_checked<R: Eprint>(
     rt: &R,
     inquiry: &Inquiry,
@@ -99,7 +97,7 @@ fn report_checked<R: Eprint>(
     let _ = rt.eprintln("");
 }
 
-// The status with which the run ends after totals are printed, or, as an error, ends at once.
+// As an error, the status with which the run ends at once.
 fn inspect_all<R: Host, W: Write>(
     rt: &R,
     inputs: &Inputs,
@@ -113,7 +111,6 @@ fn inspect_all<R: Host, W: Write>(
         true => Status::Failed,
         false => Status::Done,
     };
-    // Whether all lookups so far found nothing.
     let mut nothing = !inputs.failed && inquiry.looks_up();
     for (asked, file) in inputs.paths.iter().enumerate() {
         let all = inputs.paths.len();
@@ -137,7 +134,7 @@ fn inspect_all<R: Host, W: Write>(
                 status = status.and_found();
                 tally.with_findings = tally.with_findings.saturating_add(1);
             }
-            // The reader of the output has closed it.
+            // The reader has closed the output.
             Err(failure) if failure.is_closed_pipe() => return Err(status),
             Err(failure) if failure.is_on_output() => {
                 return Err(report_failure(rt, printing.style, &failure));
@@ -155,8 +152,7 @@ fn inspect_all<R: Host, W: Write>(
     }
 }
 
-// Reads of a file only what the answer needs, if it can be sought. Says whether its shard has
-// expired by a time, if one is given.
+// Reads only what the answer needs, if the file can be sought.
 fn inspect_file<'a, R: Files + Input + Eprint + AllocGlobal, W: Write>(
     rt: &R,
     file: &'a str,
@@ -209,8 +205,7 @@ fn inspect_file<'a, R: Files + Input + Eprint + AllocGlobal, W: Write>(
     }
 }
 
-// What is read of a file to answer from its bytes. The chunks of the global index are in the
-// sections.
+// The chunks of the global index are in the sections.
 fn contents_for<'a, R: Files + Input + AllocGlobal>(
     rt: &R,
     file: &'a str,
@@ -222,8 +217,7 @@ fn contents_for<'a, R: Files + Input + AllocGlobal>(
     }
 }
 
-// Answers from what was read of a file. What is no shard has no name by its hash, and its bytes are
-// not hashed.
+// What is no shard has no name by its hash.
 fn inspect_contents<'a, W: Write>(
     alloc: Global,
     file: &'a str,
@@ -255,7 +249,6 @@ fn inspect_contents<'a, W: Write>(
     }
 }
 
-// The failure behind an error, from what was read of the file to explain it.
 fn failure_of_error<'a>(
     alloc: Global,
     file: &'a str,
@@ -268,7 +261,6 @@ fn failure_of_error<'a>(
     }
 }
 
-// The failure behind a fault of an inquiry about a file of these bytes.
 fn failure_of<'a>(
     alloc: Global,
     file: &'a str,

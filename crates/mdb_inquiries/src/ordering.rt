@@ -9,7 +9,7 @@ use std::alloc::AllocError;
 use std::fs;
 use std::rt::Files;
 
-/// A shard, and by what it is sorted; then by its path.
+/// A shard, sorted by rank, then by path.
 #[derive(PartialEq, Eq, PartialOrd, Ord, Drop)]
 struct RankedShard {
     rank: u64,
@@ -51,7 +51,7 @@ pub fn inputs_in_order<R: Files + AllocGlobal>(
     })
 }
 
-// What has no size or no expiry comes last.
+// Shards without a size or an expiry come last.
 fn rank_of<R: Files + AllocGlobal>(rt: &R, path: &str, sort: Sort) -> u64 {
     match sort {
         Sort::Name => 0,
@@ -63,7 +63,6 @@ fn rank_of<R: Files + AllocGlobal>(rt: &R, path: &str, sort: Sort) -> u64 {
     }
 }
 
-// The same shards, in ascending order.
 fn in_order(ranked: &mut Vec<RankedShard>)
     ensures same { IsPermutation ranked.old.items ranked.new.items }
 {

@@ -1,4 +1,4 @@
-//! The first of some shards that has the record of a finding.
+//! The first shard that has a finding's record.
 
 use crate::sections::{TakesFiles, TakesXorbs};
 use mdb_garbage::finding::{GarbageFinding, Misfit};
@@ -10,8 +10,7 @@ use xet_core_structures::file_structs::MDBFileInfo;
 use xet_core_structures::merklehash::MerkleHash;
 use xet_core_structures::xorb_structs::MDBXorbInfo;
 
-/// What does not fit together, in ascending order, and for each the number of the first shard that
-/// has the segment or the xorb that it is about.
+/// Ascending findings, and for each the number of the first shard with its segment or xorb.
 #[derive(Drop)]
 pub struct Origins<'f> {
     alloc: Global,
@@ -24,7 +23,7 @@ pub struct Origins<'f> {
 }
 
 impl<'f> Origins<'f> {
-    /// Before any shard. It fails only if memory is lacking.
+    /// Before any shard.
     pub fn new(alloc: Global, findings: &'f [GarbageFinding]) -> Result<Origins<'f>, AllocError> {
         let mut shards = Vec::new(alloc);
         for _ in findings {
@@ -39,12 +38,12 @@ impl<'f> Origins<'f> {
         })
     }
 
-    /// The number of the first shard that has the record of a finding, if one was found.
+    /// The number of a finding's first shard, if found.
     pub fn shard_of(&self, finding: usize) -> Option<usize> {
         self.shards.as_slice().get(finding).copied().unwrap_or(None)
     }
 
-    // The shard has the record of all findings about a xorb from one misfit to another.
+    // The shard has the record of a xorb's findings from one misfit to another.
     fn note(&mut self, xorb: MerkleHash, first: Misfit, last: Misfit) {
         let first = GarbageFinding {
             xorb,

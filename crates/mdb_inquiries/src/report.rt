@@ -1,4 +1,4 @@
-//! The command that writes an overview of shards as a page.
+//! The command that writes an overview of shards.
 
 use crate::inputs::{InputFailure, Inputs};
 use crate::sections::{TakesFiles, TakesXorbs, read_files, read_xorbs};
@@ -22,35 +22,34 @@ use xet_core_structures::merklehash::MerkleHash;
 use xet_core_structures::rows::ROW_SIZE;
 use xet_core_structures::xorb_structs::MDBXorbInfo;
 
-/// About the memory for what is kept of a chunk, in bytes.
+/// About the bytes kept for a chunk.
 const ITEM_SIZE: u64 = 192;
 
-/// A shard that was opened, and its brief.
 #[derive(Drop)]
 struct BriefShard<'a> {
     file: ShardFile<'a>,
     brief: Brief<'a>,
 }
 
-/// What was read of the xorbs of a shard.
+/// What was read of a shard's xorbs.
 #[derive(Drop)]
 struct Xorbs {
     part: HashPart,
     xorbs: u64,
     chunks: u64,
-    /// The hashes of the chunks of a part.
+    /// The hashes of the part's chunks.
     hashes: Vec<MerkleHash>,
 }
 
-/// A part of all hashes: those that leave this rest.
+/// The hashes whose first words leave `rest` by `parts`.
 #[derive(Clone, Copy)]
 struct HashPart {
     rest: u64,
     parts: u64,
 }
 
-/// Writes an overview of shards. What cannot be read is reported on standard error, and in the page.
-/// If standard error is a terminal, it says there how far it has come.
+/// Writes an overview of shards. What can't be read is reported on standard error and in the page.
+/// Shows progress if standard error is a terminal.
 pub fn report<'a, R: Host>(
     rt: &R,
     inputs: &'a Inputs,
@@ -107,7 +106,6 @@ fn write_page<'a, R: Host>(
     }
 }
 
-// Reports that a shard cannot be read.
 fn leave_out<'a, R: Eprint + AllocGlobal>(
     rt: &R,
     overview: &mut Overview<'a>,
@@ -147,7 +145,7 @@ fn open_shard<'a, R: Files + AllocGlobal>(
     Ok(BriefShard { file, brief })
 }
 
-// How many parts of the hashes are kept one after another, so that each takes about so much memory.
+// How many parts of the hashes there are, so that each takes about `memory` bytes.
 fn parts_of(opened: &[BriefShard<'_>], memory: u64) -> u64 {
     let mut bytes: u64 = 0;
     for shard in opened {
@@ -160,8 +158,7 @@ fn parts_of(opened: &[BriefShard<'_>], memory: u64) -> u64 {
         .saturating_add(1)
 }
 
-// Reads the records of all shards, and counts the hashes of the first part. Returns the shards that
-// could be read.
+// Counts the hashes of the first part, and returns the shards that could be read.
 fn read_all<'a, R: Files + Clock + Eprint + AllocGlobal>(
     rt: &R,
     opened: Vec<BriefShard<'a>>,
@@ -192,8 +189,7 @@ fn read_all<'a, R: Files + Clock + Eprint + AllocGlobal>(
     Ok(files)
 }
 
-// Counts the records of a shard: its xorbs and their chunks, whose hashes of a part it returns, and
-// its files where its table does not say how many there are.
+// Counts xorbs and chunks, and files if the table does not say; returns the part's hashes.
 fn read_records<'a, R: Files + AllocGlobal>(
     rt: &R,
     file: &ShardFile<'a>,
@@ -211,7 +207,6 @@ fn read_records<'a, R: Files + AllocGlobal>(
     Ok(found.hashes)
 }
 
-// How many files were read.
 #[derive(Clone, Copy)]
 struct FileCount(u64);
 
@@ -222,7 +217,6 @@ impl TakesFiles for FileCount {
     }
 }
 
-// Counts the hashes of a further part.
 fn read_part<'a, R: Files + Clock + Eprint + AllocGlobal>(
     rt: &R,
     files: &[ShardFile<'a>],

@@ -1,4 +1,4 @@
-//! Reading all records of a shard's sections, with one in memory at a time.
+//! Reading a shard's records, one in memory at a time.
 
 ghost use Rattle.xet_core_structures.specs.XorbRecord.{HasItsChunks};
 
@@ -16,18 +16,18 @@ use xet_core_structures::xorb_structs::MDBXorbInfo;
 
 /// What files are added to.
 pub trait TakesFiles {
-    /// Adds a file. It fails only if memory is lacking.
+    /// Adds a file.
     fn take_file(&mut self, file: &MDBFileInfo) -> Result<(), AllocError>;
 }
 
 /// What xorbs are added to.
 pub trait TakesXorbs {
-    /// Adds a xorb. It fails only if memory is lacking.
+    /// Adds a xorb.
     fn take_xorb(&mut self, xorb: &MDBXorbInfo) -> Result<(), AllocError>
         requires { HasItsChunks xorb.now };
 }
 
-/// Adds each file of a shard. It fails if the shard can't be read, or if memory is lacking.
+/// Adds each file of a shard. Fails if the shard can't be read, or if memory is lacking.
 pub fn read_files<'a, R: Files + AllocGlobal, T: TakesFiles>(
     rt: &R,
     shard: &ShardFile<'a>,
@@ -47,7 +47,7 @@ pub fn read_files<'a, R: Files + AllocGlobal, T: TakesFiles>(
     Ok(())
 }
 
-/// Adds each xorb of a shard. It fails if the shard can't be read, or if memory is lacking.
+/// As [`read_files`], of xorbs.
 pub fn read_xorbs<'a, R: Files + AllocGlobal, T: TakesXorbs>(
     rt: &R,
     shard: &ShardFile<'a>,

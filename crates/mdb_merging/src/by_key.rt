@@ -1,4 +1,4 @@
-//! Grouping shards by their keys, each group for a merge of its own.
+//! Grouping shards by their keys.
 
 ghost use Rattle.std.specs.Prelude.{◌≡◌, IfOk};
 ghost use Rattle.mdb_base.specs.Keys.{distinct_keys, values_under};
@@ -6,7 +6,7 @@ ghost use Rattle.mdb_base.specs.Keys.{distinct_keys, values_under};
 use std::alloc::{AllocError, Global};
 use xet_core_structures::merklehash::HMACKey;
 
-/// The keys without repetitions, in the order in which they first occur.
+/// The distinct keys, in the order of their first occurrences.
 pub fn distinct_keys(alloc: Global, keys: &[HMACKey]) -> Result<Vec<HMACKey>, AllocError>
     ensures { IfOk result (λ found. found.items ≡ distinct_keys keys.now) }
 {
@@ -19,7 +19,7 @@ pub fn distinct_keys(alloc: Global, keys: &[HMACKey]) -> Result<Vec<HMACKey>, Al
     Ok(found)
 }
 
-/// The values of the shards under a key. The keys are those of all shards.
+/// The values of the shards under `key`; `keys` are those of all.
 pub fn values_under<T: Copy>(
     alloc: Global,
     values: &[T],
@@ -37,7 +37,7 @@ pub fn values_under<T: Copy>(
     Ok(found)
 }
 
-/// The path, in a folder, of the merge of the shards under a key.
+/// The path in a folder of the merge under a key.
 pub fn path_under(alloc: Global, folder: &str, key: &HMACKey) -> Result<String, AllocError> {
     format!(in alloc; "{folder}/{key}.mdb")
 }

@@ -1,5 +1,4 @@
-//! Merging shards into fewer ones, in groups up to a size. The name of each merge is the hash of its
-//! bytes.
+//! Merging shards in groups up to a size; the name of each merge is its hash.
 
 use crate::input_removal::{HashedFile, ReadInput, remove_inputs};
 use crate::merge::{contents_of_all, merge_with_expiry};
@@ -22,7 +21,7 @@ use xet_core_structures::error::Result as ShardResult;
 use xet_core_structures::merklehash::{HMACKey, MerkleHash, keyed_hash};
 use xet_core_structures::utils::shard_file_name;
 
-/// Shards under one key that are merged, and how many bytes they have.
+/// Shards under one key, and their bytes together.
 #[derive(Drop)]
 struct Group<'a> {
     key: HMACKey,
@@ -30,10 +29,10 @@ struct Group<'a> {
     files: Vec<&'a str>,
 }
 
-/// Merges shards in groups, in their order. The shards of a group have one key and together at most
-/// `max_size` bytes; a larger one is a group of its own. Each merge is written to a folder, by the
-/// hash of its bytes, and its path is printed. After a failure the merges before it stay. Only once
-/// the device has all merges are inputs removed, if they are to be.
+/// Merges shards in groups, in their order, each of one key and at most `max_size` bytes; a larger
+/// shard is a group of its own. Each merge is written to the target's folder, by the hash of its
+/// bytes, and its path is printed. After a failure the merges before it stay. Inputs are removed,
+/// if they are to be, only once the device has all merges.
 pub fn merge_groups<'a, R: Host>(
     rt: &R,
     files: &[&'a str],
@@ -66,7 +65,6 @@ pub fn merge_groups<'a, R: Host>(
     )
 }
 
-// The groups in which shards are merged.
 fn groups_of<'a, R: Files + AllocGlobal>(
     rt: &R,
     files: &[&'a str],
@@ -110,8 +108,6 @@ fn add_to_group<'a>(
     Ok(())
 }
 
-// Merges the shards in some files, and writes the merge to a folder. Adds what was read to the
-// inputs, if they are to be removed.
 fn write_group<'a, R: Host>(
     rt: &R,
     files: &[&'a str],
@@ -135,7 +131,6 @@ fn write_group<'a, R: Host>(
     put_by_hash(rt, merge.target.path, compaction.hash_key, bytes.as_slice())
 }
 
-// Adds files to the inputs, as they were read.
 fn note_inputs<'a>(
     files: &[&'a str],
     contents: &[Contents],
@@ -155,7 +150,6 @@ fn note_inputs<'a>(
     Ok(())
 }
 
-// Writes a shard to a folder, by the hash of its bytes, and prints its path.
 fn put_by_hash<'a, R: Host>(
     rt: &R,
     folder: &'a str,
@@ -181,14 +175,12 @@ fn put_by_hash<'a, R: Host>(
     }
 }
 
-// The path of the shard with a hash in a folder.
 fn path_of_hash(alloc: Global, folder: &str, hash: &MerkleHash) -> ShardResult<String> {
     let name = shard_file_name(alloc, hash)?;
     Ok(path_in(alloc, folder, name.as_str())?)
 }
 
-// Whether a path leads to a regular file; `false` also for a link that leads nowhere. Whoever opens a
-// pipe waits.
+// Asked before a file is opened, since opening a pipe waits. `false` for a link that leads nowhere.
 fn is_regular<R: Files>(rt: &R, path: &str) -> io::Result<bool> {
     match fs::metadata(rt, path) {
         Ok(there) => Ok(there.is_file()),
@@ -197,7 +189,7 @@ fn is_regular<R: Files>(rt: &R, path: &str) -> io::Result<bool> {
     }
 }
 
-// Waits until the device has the file at a path. `None` if it has other bytes than these.
+// `None` if the file has other bytes.
 fn id_of_synced<R: Files + AllocGlobal>(
     rt: &R,
     path: &str,

@@ -1,4 +1,4 @@
-//! Removing the inputs of merges, once the device has the merges.
+//! Removing the inputs of merges.
 
 ghost use Rattle.std.specs.Prelude.{◌≡◌, ◌↔◌, IsTrue};
 ghost use Rattle.mdb_merging.specs.Removal.{MayRemove};
@@ -20,22 +20,22 @@ pub struct ReadInput<'a> {
     pub seen: HashedFile,
 }
 
-/// A file, and the hash of its bytes.
+/// A file and its hash.
 #[derive(Clone, Copy, PartialEq, Eq)]
 pub struct HashedFile {
     pub stamp: Stamp,
     pub hash: MerkleHash,
 }
 
-/// Whether an input may be removed: it still is what was read, and none of the results.
+/// Whether an input may be removed: it is as it was read, and no result.
 pub fn may_remove(read: &HashedFile, now: &HashedFile, results: &[FileId]) -> bool
     ensures { IsTrue result ↔ MayRemove read.now now.now results.now }
 {
     now == read && !results.contains(&now.stamp.id)
 }
 
-/// Removes the inputs that may be removed. Those that stay are reported, and are a failure, but for
-/// results. The key is that of the hashes. The device has to have the results and their names.
+/// Removes the inputs that may be; others, except results, are reported and a failure. `key` is
+/// that of the hashes. The device must have the results and their names.
 pub fn remove_inputs<'a, R: Files + Eprint + AllocGlobal>(
     rt: &R,
     inputs: &[ReadInput<'a>],
@@ -57,7 +57,6 @@ pub fn remove_inputs<'a, R: Files + Eprint + AllocGlobal>(
     }
 }
 
-// Removes an input, unless it is a result; else says why it stays.
 fn remove_input<R: Files + AllocGlobal>(
     rt: &R,
     input: &ReadInput<'_>,
@@ -82,7 +81,6 @@ fn remove_input<R: Files + AllocGlobal>(
     }
 }
 
-// The file at a path, and the hash of its bytes.
 fn seen_at<R: Files + AllocGlobal>(rt: &R, path: &str, key: HMACKey) -> io::Result<HashedFile> {
     let mut file = fs::open(rt, path)?;
     let bytes = read_to_end(rt.alloc(), &mut file)?;

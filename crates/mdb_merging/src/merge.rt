@@ -39,10 +39,9 @@ use std::fs;
 use std::rt::Files;
 use xet_core_structures::merklehash::HMACKey;
 
-/// Writes the merge of the shards in some files to a target. With `by_key` it writes a merge of
-/// those under each key to the folder at the target's path, by the digits of the key; with `memory`
-/// it takes about so much. If standard error is a terminal, it says there how far it has come. The
-/// status is `Partial` if files that can't be read were left out, else `Done`.
+/// Writes the merge of shards to the target: with `by_key` one for each key, in a folder there, by
+/// the key's digits; with `memory` in about so many bytes. Shows progress if standard error is a
+/// terminal. `Partial` if files that can't be read were left out, else `Done`.
 pub fn merge_files<'a, R: Host>(
     rt: &R,
     files: &[&'a str],
@@ -64,7 +63,6 @@ pub fn merge_files<'a, R: Host>(
     merged
 }
 
-// Writes the merge of the shards in some files, of which those that can't be read may be left out.
 fn merge_readable<'a, R: Host>(
     rt: &R,
     files: &[&'a str],
@@ -84,7 +82,6 @@ fn merge_readable<'a, R: Host>(
     }
 }
 
-// Writes the merge of the shards in some files, none of which is left out.
 fn merge_remaining<'a, R: Host>(
     rt: &R,
     files: &[&'a str],
@@ -92,7 +89,7 @@ fn merge_remaining<'a, R: Host>(
     progress: &mut Progress,
 ) -> Result<(), Failure<'a>> {
     match (merge.compaction, merge.memory) {
-        // There are no groups, so there is nothing to do.
+        // There are no groups.
         (Some(_), _) if files.is_empty() => Ok(()),
         _ if files.is_empty() => Err(Failure::on_words(Fault::NoFiles)),
         (Some(compaction), _) => merge_groups(rt, files, merge, compaction, progress),
@@ -101,7 +98,6 @@ fn merge_remaining<'a, R: Host>(
     }
 }
 
-// Writes the merge of shards that are all in memory at once.
 fn merge_in_memory<'a, R: Host>(
     rt: &R,
     files: &[&'a str],
@@ -125,14 +121,12 @@ fn merge_in_memory<'a, R: Host>(
     }
 }
 
-// Whether the shards in some regular files have more bytes together than there is memory for.
 fn exceed_memory<R: Files + AllocGlobal>(rt: &R, files: &[&str]) -> bool {
     let room = free_memory(rt);
-    // Ends of files say which are read whole. They are read only where the sizes are too large.
+    // Ends, which say what is read whole, are read only if the sizes are too large.
     size_of_files(rt, files) > room && size_of_shards(rt, files) > room
 }
 
-// The number of bytes that some regular files have together.
 fn size_of_files<R: Files>(rt: &R, files: &[&str]) -> u64 {
     let mut size = 0u64;
     for file in files {
@@ -145,7 +139,6 @@ fn size_of_files<R: Files>(rt: &R, files: &[&str]) -> u64 {
     size
 }
 
-// The number of bytes that are read of some regular files together.
 fn size_of_shards<R: Files + AllocGlobal>(rt: &R, files: &[&str]) -> u64 {
     let mut size = 0u64;
     for file in files {
@@ -154,7 +147,7 @@ fn size_of_shards<R: Files + AllocGlobal>(rt: &R, files: &[&str]) -> u64 {
     size
 }
 
-// The number of bytes that are read of a regular file; 0 of anything else.
+// Of what is read; 0 if it is no regular file.
 fn size_at<R: Files + AllocGlobal>(rt: &R, path: &str) -> u64 {
     match open_sized(rt, path) {
         Ok(Some((_, size))) => match read_ends(rt, path) {
@@ -165,7 +158,6 @@ fn size_at<R: Files + AllocGlobal>(rt: &R, path: &str) -> u64 {
     }
 }
 
-// Reads the shards, merges them and writes the merge.
 fn read_and_merge<'a, R: Host>(
     rt: &R,
     files: &[&'a str],
@@ -196,7 +188,7 @@ fn merge_contents<'a, R: Host>(
     put(rt, merge.target.path, bytes.as_slice())
 }
 
-/// What is read of each file. All are read once, since standard input and pipes cannot be read again.
+/// What is read of each file, once, since pipes can't be read again.
 pub fn contents_of_all<'a, R: Host>(
     rt: &R,
     files: &[&'a str],
@@ -221,7 +213,6 @@ pub fn contents_of_all<'a, R: Host>(
     Ok(all)
 }
 
-// Merges the inputs under each key, and writes each merge to a folder, by the digits of its key.
 fn merge_by_key<'a, R: Host>(
     rt: &R,
     files: &[&'a str],
@@ -239,7 +230,6 @@ fn merge_by_key<'a, R: Host>(
     Ok(())
 }
 
-// Merges the inputs under one key, and writes the merge to a folder.
 fn write_under<'a, R: Host>(
     rt: &R,
     files: &[&'a str],
@@ -267,7 +257,7 @@ fn write_under<'a, R: Host>(
     }
 }
 
-/// The union of the inputs, with an expiry if one is wanted, in the version of the target.
+/// The union of the inputs in the target's version, with the expiry if any.
 pub fn merge_with_expiry<'a, R: Eprint + AllocGlobal>(
     rt: &R,
     files: &[&'a str],
@@ -290,8 +280,8 @@ pub fn merge_with_expiry<'a, R: Eprint + AllocGlobal>(
     }
 }
 
-// The union of the inputs in the version of a target. A record that no shard may have, and records
-// that differ, are a failure, even if there is no union, or reported.
+// Records that differ, or that no shard may have, are a failure even if there is no union, or
+// reported.
 fn unite_inputs<'a, R: Eprint + AllocGlobal>(
     rt: &R,
     files: &[&'a str],
@@ -311,7 +301,6 @@ fn unite_inputs<'a, R: Eprint + AllocGlobal>(
     }
 }
 
-// The union of inputs that hold well-formed shards and agree.
 fn unite_agreeing<'a>(
     alloc: Global,
     files: &[&'a str],
@@ -334,8 +323,7 @@ fn unite_agreeing<'a>(
     }
 }
 
-// The union of inputs, with a report of a record that no shard may have and of records that differ.
-// Inputs with neither are read once for all of this.
+// Inputs with nothing to report are read once.
 fn unite_leniently<'a, R: Eprint + AllocGlobal>(
     rt: &R,
     files: &[&'a str],
@@ -364,7 +352,6 @@ fn unite_leniently<'a, R: Eprint + AllocGlobal>(
     }
 }
 
-// The union of inputs in which this was found, with a report of it.
 fn unite_and_report<'a, R: Eprint + AllocGlobal>(
     rt: &R,
     files: &[&'a str],
@@ -394,7 +381,7 @@ fn unite_and_report<'a, R: Eprint + AllocGlobal>(
     }
 }
 
-/// Reports a record that no shard may have, and records that differ, if a merge has met some.
+/// Reports a record that no shard may have, and records that differ, if any.
 pub fn report_findings<R: Eprint>(
     rt: &R,
     malformed: &Option<Failure<'_>>,
@@ -416,14 +403,12 @@ pub fn report_size<R: Eprint>(rt: &R, file: &str, bytes: u64) {
     let _ = rt.eprintln(format_args!("{file}: {bytes} bytes"));
 }
 
-// Says of a record that no shard may have what it means for a merge.
 fn report_malformed<R: Eprint>(rt: &R, malformed: &Failure<'_>) {
     let _ = rt.eprintln(format_args!(
         "{malformed}; what the merge writes may depend on the order of the files"
     ));
 }
 
-// Says which of two records that differ a merge keeps.
 fn report_choice<R: Eprint>(rt: &R, disagreement: &Failure<'_>) {
     let _ = rt.eprintln(format_args!(
         "{disagreement}; of xorbs the first is kept, of files the one with more parts, else the first with all parts"

@@ -1,8 +1,5 @@
-//! Merging shards of which only parts are in memory at once.
-//!
-//! A round reads the next records of each shard, as many as there is room for. Those up to the
-//! least of their last hashes are the next part of the merge. Rows of the tables wait in a second
-//! file.
+//! Merging shards with only parts in memory: each round reads the next records of each, and merges
+//! those up to the least of their last hashes. Rows of tables wait in a second file.
 
 ghost use Rattle.std.specs.Prelude.{◌≡◌, map, IfOk};
 
@@ -37,8 +34,7 @@ use xet_core_structures::merklehash::HMACKey;
 /// The least memory for a merge, in bytes.
 const LEAST_MEMORY: u64 = 1 << 20;
 
-/// Writes the merge of the shards in some files to a target, in about so many bytes of memory. With
-/// `by_key` it writes a merge of those under each key to the folder at the target's path.
+/// As a merge in memory, but in about `memory` bytes, or 1 MiB if that is more.
 pub fn merge_in_rounds<'a, R: Host>(
     rt: &R,
     files: &[&'a str],
@@ -61,7 +57,6 @@ pub fn merge_in_rounds<'a, R: Host>(
     Ok(())
 }
 
-// Writes the merge of the shards under one key to a folder.
 fn write_under<'a, R: Host>(
     rt: &R,
     shards: &[ShardFile<'a>],
@@ -89,7 +84,6 @@ fn keys_of(alloc: Global, shards: &[ShardFile<'_>]) -> Result<Vec<HMACKey>, Allo
     Ok(keys)
 }
 
-// Reads header and footer of each file.
 fn open_all<'a, R: Host>(
     rt: &R,
     files: &[&'a str],
@@ -128,7 +122,6 @@ fn open_all<'a, R: Host>(
     }
 }
 
-// Writes the merge of shards to a path: to a new file beside it, which is renamed over it.
 fn write_merge<'a, R: Host>(
     rt: &R,
     shards: &[ShardFile<'a>],
@@ -167,7 +160,6 @@ fn write_merge<'a, R: Host>(
     done
 }
 
-// Writes the merge of shards to a new file, and waits until the device has it.
 fn fill<'a, R: Host>(
     rt: &R,
     shards: &[ShardFile<'a>],
@@ -190,7 +182,7 @@ fn fill<'a, R: Host>(
     }
 }
 
-// A new file in the folder of a target, whose name is removed at once, so that nothing is left of it.
+// Its name is removed at once, so that nothing is left of it.
 fn unlinked_file<R: Files + RandomSource + AllocGlobal>(
     rt: &R,
     target: &str,

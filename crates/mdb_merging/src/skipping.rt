@@ -1,4 +1,4 @@
-//! Files that a merge leaves out, since their shards can't be read.
+//! Files that a merge leaves out.
 
 use mdb_base::failure::{Failure, Subject};
 use mdb_base::host::Host;
@@ -14,9 +14,9 @@ use std::fs;
 use std::rt::Files;
 use xet_core_structures::record_reader::FormatVersion;
 
-/// The files that can be merged, each by itself. The others are reported. One file is in memory at
-/// a time. What is no regular file can be read only once, so it is not tried. It fails only if memory
-/// is lacking.
+/// The files that can be merged, each by itself; others are reported. What is no regular file can
+/// be read only once, so it is not tried. One file is in memory at a time. Fails only with
+/// `OutOfMemory`.
 pub fn without_unreadable<'a, R: Host>(
     rt: &R,
     files: &[&'a str],
@@ -38,7 +38,7 @@ pub fn without_unreadable<'a, R: Host>(
     Ok(readable)
 }
 
-// Why a file can't be merged by itself. `None` if it can, or is not tried.
+// `None` if it can be merged, or is not tried.
 fn failure_of_file<'a, R: Files + Input + AllocGlobal>(
     rt: &R,
     file: &'a str,

@@ -6,10 +6,10 @@ ghost use Rattle.mdb_overview.specs.Counts.{CountsOneMore};
 use std::alloc::{AllocError, Global};
 use std::collections::BTreeMap;
 
-/// Numbers, each with how often it occurs. A count that would pass the greatest number stays there.
+/// How often each number occurs; counts saturate.
 pub type Counts = BTreeMap<u64, u64>;
 
-/// Counts a number once more. It fails only if memory is lacking.
+/// Counts a number once more.
 pub fn count_one(counts: &mut Counts, number: u64) -> Result<(), AllocError>
     ensures { OnOk result (CountsOneMore number counts.old counts.new) }
 {
@@ -18,14 +18,14 @@ pub fn count_one(counts: &mut Counts, number: u64) -> Result<(), AllocError>
     Ok(())
 }
 
-/// Counts a number `more` times more, up to the greatest `u64`. It fails only if memory is lacking.
+/// Counts a number `more` times more.
 pub(crate) fn add_count(counts: &mut Counts, number: u64, more: u64) -> Result<(), AllocError> {
     let count = counts.get(&number).copied().unwrap_or(0);
     counts.insert(number, count.saturating_add(more))?;
     Ok(())
 }
 
-/// Numbers from `first` to `last`, and how often those of them that were counted occur together.
+/// The numbers from `first` to `last`, and their counts together.
 #[derive(Clone, Copy)]
 pub(crate) struct Span {
     pub(crate) first: u64,
@@ -33,7 +33,7 @@ pub(crate) struct Span {
     pub(crate) count: u64,
 }
 
-/// Numbers that were counted, in ascending order, in at most so many spans of about as many each.
+/// The counted numbers, ascending, in at most `most` spans of about as many each.
 pub(crate) fn spans_of(
     alloc: Global,
     counts: &Counts,

@@ -1,4 +1,4 @@
-//! Texts and names with the characters replaced that mean something in HTML.
+//! Texts and names escaped for HTML.
 
 ghost use Rattle.std.specs.Prelude.{◌≡◌, IfOk, string_bytes};
 ghost use Rattle.std.specs.List.{flat_map};
@@ -8,8 +8,7 @@ ghost use Rattle.mdb_overview.specs.Escapes.{escape};
 use mdb_records::shown::ShownText;
 use std::alloc::{AllocError, Global};
 
-/// A text with each character that means something in HTML replaced by what stands for it. It fails
-/// only if memory is lacking.
+/// A text with `<`, `>`, `&` and `"` escaped for HTML.
 pub fn escape_text(alloc: Global, text: &str) -> Result<String, AllocError>
     ensures { IfOk result (λ escaped. string_bytes escaped ≡ flat_map escape (chars text.now)) }
 {

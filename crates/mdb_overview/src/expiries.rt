@@ -15,22 +15,22 @@ const DAY: u64 = 86400;
 /// When some shards expire.
 #[derive(Drop)]
 pub struct Expiries {
-    /// The number of shards that expire on each day, by the days since the start of 1970.
+    /// How many expire on each day, by the days since 1970 began.
     pub by_day: Counts,
-    /// The number of those without an expiry.
+    /// How many have no expiry.
     pub without: u64,
-    /// The number of those whose expiry has come.
+    /// How many have expired.
     pub expired: u64,
 }
 
-/// The day in which a second is, both counted from the start of 1970.
+/// The day of a second, both since the start of 1970.
 pub fn day_of(seconds: u64) -> u64
     ensures { result ≡ seconds / 86400 }
 {
     seconds / DAY
 }
 
-/// Whether the expiry of a shard has come by a time, if one is given.
+/// Whether a shard has expired by a time, if one is given.
 pub fn has_expired(shard: &Brief<'_>, now: Option<u64>) -> bool
     ensures { result ≡ has_expired now shard.now }
 {
@@ -40,7 +40,7 @@ pub fn has_expired(shard: &Brief<'_>, now: Option<u64>) -> bool
     }
 }
 
-/// When some shards expire, and how many have by a time. It fails only if memory is lacking.
+/// When shards expire, and how many have by `now`, in seconds.
 pub fn expiries_of(
     alloc: Global,
     shards: &[Brief<'_>],

@@ -5,24 +5,22 @@ use crate::numbers::grouped_length;
 use crate::overview::{Overview, Unread};
 use std::alloc::{AllocError, Global};
 
-/// The most reasons that have a row each, and the most paths that are named of one.
+/// The most reasons with a row, and the most paths named of one.
 const MOST_REASONS: usize = 20;
 
 const MOST_PATHS: usize = 100;
 
-/// How many paths of a reason are shown before the list of the others is opened.
+/// The paths of a reason shown before its list is opened.
 const FIRST_PATHS: usize = 3;
 
-/// What could not be read for one reason.
 #[derive(Drop)]
 struct Group<'o> {
     reason: &'o str,
     paths: Vec<&'o str>,
 }
 
-/// Prints a table of what could not be read, the commonest reason first, if there is any. The
-/// failures have to be sorted: those of one reason follow one another. It fails only if memory is
-/// lacking.
+/// Prints what could not be read, if anything, the commonest reason first. The failures must be
+/// sorted by reason.
 pub(crate) fn print_failures(
     alloc: Global,
     page: &mut String,
@@ -53,7 +51,7 @@ pub(crate) fn print_failures(
     page.push_str("</tbody></table></figure>\n</section>\n")
 }
 
-// Failures by their reasons, which follow one another, the greatest group first.
+// The greatest group comes first.
 fn groups_of<'o>(alloc: Global, failures: &'o [Unread]) -> Result<Vec<Group<'o>>, AllocError> {
     let mut groups: Vec<Group<'o>> = Vec::new(alloc);
     for failure in failures {
@@ -74,7 +72,6 @@ fn new_group<'o>(alloc: Global, reason: &'o str, path: &'o str) -> Result<Group<
     Ok(Group { reason, paths })
 }
 
-// Prints a row: the first paths, and the others in a list that the reader can open.
 fn print_group(alloc: Global, page: &mut String, group: &Group<'_>) -> Result<(), AllocError> {
     let paths = group.paths.as_slice();
     let reason = escape_text(alloc, group.reason)?;

@@ -1,4 +1,4 @@
-//! An overview of some shards, and its page: one HTML file with plots, which needs nothing else.
+//! An overview of shards, and its page: one HTML file that needs nothing else.
 #![tactic(auto)]
 
 pub mod counts;

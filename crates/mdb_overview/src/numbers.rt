@@ -2,11 +2,11 @@
 
 use std::fmt;
 
-/// A number, if it is known, with a comma before each three digits.
+/// A number, if known, with a comma before each three digits.
 #[derive(Clone, Copy)]
 pub(crate) struct GroupedNumber(pub(crate) Option<u64>);
 
-/// What the digits between two commas count, the greatest first.
+/// What the digits between two commas count.
 const UNITS: &[u64] = &[
     1_000_000_000_000_000_000,
     1_000_000_000_000_000,
@@ -36,7 +36,6 @@ impl fmt::Display for GroupedNumber {
     }
 }
 
-/// The same of the length of a list.
 pub(crate) fn grouped_length<T>(list: &[T]) -> GroupedNumber {
     GroupedNumber(Some(list.len() as u64))
 }

@@ -1,4 +1,4 @@
-//! The overview: totals, sizes and lists of several shards.
+//! The overview of several shards.
 
 ghost use Rattle.std.specs.Prelude.{◌≡◌, [], OnOk, OnErr};
 ghost use Rattle.std.specs.List.Sorted.{IsPermutation};
@@ -12,9 +12,9 @@ use std::fmt::Display;
 /// Some shards, what failed, and the chunks that they share.
 #[derive(Drop)]
 pub struct Overview<'a> {
-    /// The words that named the shards, and the list of others.
+    /// The words and the list that named the shards.
     pub sources: Vec<&'a str>,
-    /// The time, in seconds, by which shards have expired, if it is known.
+    /// The time by which shards have expired, in seconds, if known.
     pub now: Option<u64>,
     pub shards: Vec<Brief<'a>>,
     /// What could not be read.
@@ -44,8 +44,7 @@ impl<'a> Overview<'a> {
         }
     }
 
-    /// Adds what could not be read, and why. It fails only if memory is lacking, and then nothing was
-    /// added.
+    /// Adds what could not be read, and why. A failure adds nothing.
     pub fn add_failure<P: Display, T: Display>(
         &mut self,
         alloc: Global,
@@ -60,8 +59,8 @@ impl<'a> Overview<'a> {
         Ok(())
     }
 
-    /// Puts the greatest shards first, and leaves those of one size in their order. It fails only if
-    /// memory is lacking, and then nothing was moved.
+    /// Puts the greatest shards first, and leaves those of one size in their order. A failure moves
+    /// nothing.
     pub fn sort(&mut self) -> Result<(), AllocError>
         ensures permutation { IsPermutation self.old.shards.items self.new.shards.items }
         ensures sorted { OnOk result (DescendBySize self.new.shards.items) }

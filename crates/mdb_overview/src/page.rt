@@ -14,9 +14,8 @@ use std::alloc::{AllocError, Global};
 /// The most sources that are named.
 const MOST_SOURCES: usize = 8;
 
-/// The page of an overview, as HTML with all that it needs. The shards are shown in their order,
-/// those after the first 200 together; the failures, which have to be sorted, by reason. It fails
-/// only if memory is lacking.
+/// The page of an overview, as HTML that needs nothing else. Shards after the first 200 are shown
+/// together; the failures must be sorted.
 pub fn page_of(alloc: Global, overview: &Overview<'_>) -> Result<String, AllocError> {
     let mut page = String::from_str(alloc, HEAD)?;
     let title = title_of(alloc, overview)?;
@@ -33,7 +32,6 @@ pub fn page_of(alloc: Global, overview: &Overview<'_>) -> Result<String, AllocEr
     Ok(page)
 }
 
-// What the page is about, in HTML.
 fn title_of(alloc: Global, overview: &Overview<'_>) -> Result<String, AllocError> {
     let mut title = String::from_str(alloc, "Shards of ")?;
     for (before, source) in overview.sources.iter().take(MOST_SOURCES).enumerate() {
@@ -103,7 +101,7 @@ fn print_number(page: &mut String, name: &str, number: Option<u64>) -> Result<()
     )
 }
 
-// Prints a size in its unit and, where that is not the byte, in bytes too.
+// In its unit and, if that is not the byte, in bytes.
 fn print_size(alloc: Global, page: &mut String, name: &str, bytes: u64) -> Result<(), AllocError> {
     let size = format!(in alloc; "{}", Size::new(bytes, true))?;
     write!(page, "<div><dt>{name}</dt><dd>{size}")?;

@@ -4,8 +4,8 @@ use crate::numbers::GroupedNumber;
 use mdb_records::size::Size;
 use std::alloc::{AllocError, Global};
 
-/// Widths and heights, in pixels of the plot: of all, of the names, of a row, of the column heads, and
-/// of the room for a number behind its bar.
+/// In pixels: the widths of all and of names, the heights of a row and of column heads, and the
+/// width for a number.
 const WIDTH: u64 = 960;
 
 const LABELS: u64 = 250;
@@ -25,7 +25,6 @@ pub(crate) struct Column {
 }
 
 impl Column {
-    // A number of the column, as text.
     fn shown(&self, alloc: Global, value: Option<u64>) -> Result<String, AllocError> {
         match value {
             Some(bytes) if self.is_size => format!(in alloc; "{}", Size::new(bytes, true)),
@@ -39,7 +38,7 @@ impl Column {
 pub(crate) struct PlotRow {
     /// Its name, in HTML.
     pub(crate) label: String,
-    /// Its number in each column, if it is known.
+    /// Its number in each column, if known.
     pub(crate) values: [Option<u64>; 2],
     /// Whether its bars are pale.
     pub(crate) pale: bool,
@@ -51,7 +50,7 @@ impl PlotRow {
     }
 }
 
-/// Prints a plot with a bar for each row in one or two columns. What it is about is HTML.
+/// Prints a plot with a bar for each row in one or two columns; `about` is HTML.
 pub(crate) fn print_plot(
     alloc: Global,
     page: &mut String,
@@ -85,19 +84,16 @@ pub(crate) fn print_plot(
     page.push_str("</svg></figure>\n</section>\n")
 }
 
-// The width of each of so many columns.
 fn width_of(columns: usize) -> u64 {
     (WIDTH - LABELS).checked_div(columns as u64).unwrap_or(0)
 }
 
-// Where one of so many columns begins.
 fn start_of(column: usize, columns: usize) -> u64 {
     width_of(columns)
         .saturating_mul(column as u64)
         .saturating_add(LABELS)
 }
 
-// Prints a row at a height. Its title says all that it shows.
 fn print_row(
     alloc: Global,
     page: &mut String,
@@ -157,7 +153,6 @@ fn print_bar(
     write!(page, "<text x=\"{behind}\" y=\"{base}\">{shown}</text>")
 }
 
-// The greatest number of a column.
 fn greatest_value(rows: &[PlotRow], column: usize) -> u64 {
     let mut greatest = 0;
     for row in rows {
@@ -166,7 +161,7 @@ fn greatest_value(rows: &[PlotRow], column: usize) -> u64 {
     greatest
 }
 
-// The part of a width that a number has of the greatest one, and a pixel at least if it is not 0.
+// In proportion to the greatest number, and at least a pixel if not 0.
 fn share(value: u64, greatest: u64, width: u64) -> u64 {
     let part = u128::from(value)
         .saturating_mul(u128::from(width))

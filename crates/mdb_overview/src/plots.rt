@@ -9,7 +9,7 @@ use crate::sizes::{classes_in, label_of, sizes_of};
 use mdb_records::moment::Moment;
 use std::alloc::{AllocError, Global};
 
-/// The most spans of days and of numbers that have a row each.
+/// The most rows of spans of days and of numbers.
 const MOST_DAYS: usize = 40;
 
 const MOST_NUMBERS: usize = 16;
@@ -19,7 +19,7 @@ const SHARDS: Column = Column {
     is_size: false,
 };
 
-/// Prints a plot of how many shards have which size, also where none has.
+/// Plots how many shards have which size, also where none has.
 pub(crate) fn print_sizes(
     alloc: Global,
     page: &mut String,
@@ -58,7 +58,7 @@ pub(crate) fn print_sizes(
     )
 }
 
-/// Prints a plot of how many chunks' hashes are in how many shards.
+/// Plots how many chunk hashes are in how many shards.
 pub(crate) fn print_sharing(
     alloc: Global,
     page: &mut String,
@@ -89,7 +89,7 @@ pub(crate) fn print_sharing(
     )
 }
 
-/// Prints a plot of how many shards expire on each day.
+/// Plots how many shards expire on each day.
 pub(crate) fn print_expiries(
     alloc: Global,
     page: &mut String,
@@ -151,7 +151,7 @@ fn days_label(alloc: Global, span: &Span) -> Result<String, AllocError> {
     format!(in alloc; "{first} to {last}")
 }
 
-// The date of a day. Of its seconds one past the first is taken, since 0 has no date.
+// The second after its first is taken, since 0 has no date.
 fn date_of(alloc: Global, day: u64) -> Result<String, AllocError> {
     let moment = Moment::of_seconds(alloc, day.saturating_mul(86400).saturating_add(1))?;
     let date = match &moment.utc {

@@ -10,8 +10,7 @@ use std::alloc::{AllocError, Global};
 use std::collections::{BTreeMap, HashMap, HashSet};
 use xet_core_structures::merklehash::MerkleHash;
 
-/// The hashes of the chunks of some shards, each with the number of shards that have it; one that
-/// would pass the greatest number stays there.
+/// Chunk hashes, each with how many shards have it; these numbers saturate.
 #[derive(Drop)]
 pub struct ChunkHashes {
     pub shards: HashMap<MerkleHash, u64>,
@@ -27,8 +26,8 @@ impl ChunkHashes {
         }
     }
 
-    /// Adds a shard by the hashes of its chunks, in any order, in which one may stand again. It fails
-    /// only if memory is lacking, and then some of them may have been added.
+    /// Adds a shard's chunk hashes, in any order, in which one may stand again. A failure may have
+    /// added some.
     pub fn add_shard(&mut self, alloc: Global, hashes: &[MerkleHash]) -> Result<(), AllocError>
         ensures { OnOk result ((shards : List (List DataHash)) → CountShards shards self.old
             → CountShards (shards ++ hashes.now ∷ []) self.new) }
@@ -40,7 +39,6 @@ impl ChunkHashes {
         Ok(())
     }
 
-    // Counts one more shard for a hash that was not seen in it.
     fn add_once(
         &mut self,
         seen: &mut HashSet<MerkleHash>,
@@ -55,8 +53,7 @@ impl ChunkHashes {
         Ok(())
     }
 
-    /// Counts the hashes by the numbers of shards that have them. It fails only if memory is lacking,
-    /// and then some may have been counted.
+    /// Counts the hashes by how many shards have them. A failure may have counted some.
     pub fn count(&self, sharing: &mut Sharing) -> Result<(), AllocError>
         ensures { OnOk result (CountsHashes self.now sharing.old sharing.new) }
     {
@@ -67,15 +64,14 @@ impl ChunkHashes {
     }
 }
 
-/// How many chunks' hashes are in how many shards. A number that would pass the greatest one stays
-/// there.
+/// How many chunk hashes are in how many shards; numbers saturate.
 #[derive(Drop)]
 pub struct Sharing {
     /// The number of hashes.
     pub hashes: u64,
-    /// The number of hashes that are in more than one shard.
+    /// How many hashes are in more than one shard.
     pub shared: u64,
-    /// The number of hashes that are in each number of shards.
+    /// How many hashes are in each number of shards.
     pub by_shards: Counts,
 }
 
@@ -93,7 +89,6 @@ impl Sharing {
         }
     }
 
-    // Counts a hash that so many shards have.
     fn add(&mut self, shards: u64) -> Result<(), AllocError>
         ensures { OnOk result (CountsHash shards self.old self.new) }
     {

@@ -5,18 +5,17 @@ use mdb_report::brief::Brief;
 use std::alloc::{AllocError, Global};
 use std::collections::BTreeMap;
 
-/// The units in which classes are named, each 1024 of the one before.
+/// Units, each 1024 of the one before.
 const UNITS: &[&str] = &["B", "KiB", "MiB", "GiB", "TiB", "PiB", "EiB"];
 
-/// For each class, the number of shards in it, and how many bytes they have together. A number that
-/// would pass the greatest `u64` stays there.
+/// The shards of each class and their bytes together, which saturate.
 #[derive(Drop)]
 pub(crate) struct SizeClasses {
     pub(crate) shards: Counts,
     pub(crate) bytes: Counts,
 }
 
-/// The sizes of some shards. It fails only if memory is lacking.
+/// The sizes of some shards.
 pub(crate) fn sizes_of(alloc: Global, shards: &[Brief<'_>]) -> Result<SizeClasses, AllocError> {
     let mut sizes = SizeClasses {
         shards: BTreeMap::new(alloc),
@@ -30,13 +29,12 @@ pub(crate) fn sizes_of(alloc: Global, shards: &[Brief<'_>]) -> Result<SizeClasse
     Ok(sizes)
 }
 
-/// The class of a size in bytes: the number of its binary digits. A size of class n is below 2 to
-/// the n, and not below half of it.
+/// The class of a size in bytes: the number of its binary digits.
 pub(crate) fn class_of(bytes: u64) -> u64 {
     u64::from(u64::BITS.saturating_sub(bytes.leading_zeros()))
 }
 
-/// The least and the greatest class of which there are shards; `None` if there are no shards.
+/// The least and the greatest class; `None` without shards.
 pub(crate) fn classes_in(shards: &[Brief<'_>]) -> Option<(u64, u64)> {
     let mut range: Option<(u64, u64)> = None;
     for shard in shards {
@@ -49,7 +47,7 @@ pub(crate) fn classes_in(shards: &[Brief<'_>]) -> Option<(u64, u64)> {
     range
 }
 
-/// The sizes of a class, as `64 KiB to 128 KiB`. It fails only if memory is lacking.
+/// The sizes of a class, as `64 KiB to 128 KiB`.
 pub(crate) fn label_of(alloc: Global, class: u64) -> Result<String, AllocError> {
     match class.checked_sub(1) {
         Some(below) => {

@@ -8,14 +8,14 @@ use mdb_records::size::Size;
 use mdb_report::brief::{Brief, Total};
 use std::alloc::{AllocError, Global};
 
-/// The most shards that have a row each.
+/// The most shards with a row each.
 const MOST_ROWS: usize = 200;
 
 const HEADS: &str = "<section>\n<h2>Shards</h2>\n<figure><table><thead><tr><th>Shard</th>\
     <th>Version</th><th>Bytes</th><th>Files</th><th>Xorbs</th><th>Chunks</th><th>Stored</th>\
     <th>Materialized</th><th>Expires</th><th>Key</th></tr></thead><tbody>\n";
 
-/// Prints a table with a row for each of the first shards, one for the others and one for all.
+/// Prints a row for each of the first shards, one for the others and one for all.
 pub(crate) fn print_table(
     alloc: Global,
     page: &mut String,
@@ -60,7 +60,6 @@ fn print_shard(
     write!(page, "<td title=\"{key}\">{first}..</td></tr>\n")
 }
 
-// Prints the day of an expiry, whose title has the second.
 fn print_expiry(page: &mut String, shard: &Brief<'_>, now: Option<u64>) -> Result<(), AllocError> {
     let Some(utc) = &shard.expires.utc else {
         return write!(page, "<td>{}</td>", shard.expires);
@@ -76,7 +75,6 @@ fn print_expiry(page: &mut String, shard: &Brief<'_>, now: Option<u64>) -> Resul
     }
 }
 
-// Prints numbers of records and, in the units that they reach, sizes, whose titles have the bytes.
 fn print_numbers(page: &mut String, total: &Total) -> Result<(), AllocError> {
     print_size(page, total.bytes)?;
     for number in [total.files, total.xorbs, total.chunks] {

@@ -1,4 +1,4 @@
-//! Flags of records: their hexadecimal digits, and a letter for each part that they say is there.
+//! Flags of records, in digits and letters.
 
 use std::fmt;
 use xet_records::file_structs::{
@@ -6,12 +6,12 @@ use xet_records::file_structs::{
 };
 use xet_records::xorb_structs::MDB_CHUNK_WITH_GLOBAL_DEDUP_FLAG;
 
-/// The flags of a file, with `v` if it has verification rows, `s` if it has a SHA-256, and `a` if
-/// it has an auxiliary row, each `-` if not.
+/// A file's flags, with `v` for verification rows, `s` for a SHA-256 and `a` for an auxiliary row,
+/// each `-` if there is none.
 #[derive(Clone, Copy)]
 pub struct FileFlags(pub u32);
 
-/// The flags of a chunk, with `g` if they mark it for the global index, and `-` if not.
+/// A chunk's flags, with `g` if they mark it for the global index, else `-`.
 #[derive(Clone, Copy)]
 pub struct ChunkFlags(pub u32);
 

@@ -1,4 +1,4 @@
-//! Hashes as their 64 hexadecimal digits, in text and in JSON.
+//! Hashes in digits.
 
 ghost use Rattle.std.specs.Prelude.{Some};
 ghost use Rattle.xet_base.specs.Hex.{hash_hex};
@@ -8,7 +8,7 @@ use std::alloc::Global;
 use std::fmt;
 use xet_base::merklehash::MerkleHash;
 
-/// A hash that is written as its 64 digits, in text and in JSON.
+/// A hash, as its 64 hexadecimal digits in text and in JSON.
 #[derive(Clone, Copy)]
 pub struct Hex(pub MerkleHash);
 

@@ -1,5 +1,5 @@
-//! What the program `mdb` prints of a record, a hash, a time or a size, as text and as lines of
-//! JSON, and records that such lines spell.
+//! What `mdb` prints of records, hashes, times and sizes, as text and as JSON, and records read
+//! from JSON.
 #![tactic(auto)]
 
 pub mod flags;

@@ -1,4 +1,4 @@
-//! Printing a value as text or as JSON, with the name of the shard that it is of.
+//! Printing a value as text or as JSON, with its shard's name.
 
 ghost use Rattle.std.specs.Prelude.{◌≡◌};
 ghost use Rattle.mdb_records.specs.declared.line.Origin.{Origin};
@@ -15,7 +15,7 @@ use std::io::Write;
 pub enum Style {
     /// As text, with sizes in bytes.
     Text,
-    /// As text, with sizes in units, as `1.5 KiB`.
+    /// As text, with sizes as `1.5 KiB`.
     Human,
     /// As one JSON value a line.
     Json,
@@ -26,11 +26,11 @@ pub enum Style {
 pub enum Origin<'a> {
     /// The value says it itself.
     Said,
-    /// None of the shards that were asked has it, or all have.
+    /// No shard has it, or all have.
     NoShard,
     /// The only shard, with this name.
     Only(&'a str),
-    /// One of some shards, whose name stands before each line of text.
+    /// One of several, whose name stands before each line of text.
     OneOf(&'a str),
 }
 
@@ -42,7 +42,7 @@ pub struct Layout<'a> {
 }
 
 impl<'a> Layout<'a> {
-    /// A style, for values that say themselves of which shard they are.
+    /// A style, for values that say their shard.
     pub fn plain(style: Style) -> Layout<'a>
         ensures style { result.style ≡ style }
         ensures origin { result.origin ≡ Origin.Said }
@@ -64,14 +64,14 @@ impl<'a> Layout<'a> {
         }
     }
 
-    /// Whether what is printed is of one of some shards, so that what it lacks another may have.
+    /// Whether it is of one of several shards, so that another may have what it lacks.
     pub fn is_of_one(&self) -> bool {
         matches!(self.origin, Origin::OneOf(_))
     }
 }
 
-/// Prints a value and a line's end. Each style prints the same value: `Human` by its alternate
-/// form, `{:#}`. It fails if the output does, or if memory for JSON is lacking.
+/// Prints a value as a line: `Human` by `{:#}`, except with a shard's name before each line. Fails
+/// if the output does, or if memory is lacking for JSON or for such lines.
 pub fn print<T: Display + Serialize, W: Write>(
     alloc: Global,
     value: &T,
@@ -96,7 +96,6 @@ pub fn print<T: Display + Serialize, W: Write>(
     }
 }
 
-// Prints the lines of a value, the shard's name before each.
 fn print_lines<T: Display, W: Write>(
     alloc: Global,
     value: &T,
@@ -116,7 +115,7 @@ fn print_json<T: Serialize, W: Write>(alloc: Global, value: &T, output: &mut W) 
     writeln!(output, "{json}")
 }
 
-/// A value as JSON. It fails only if memory is lacking.
+/// A value as JSON. Fails only with `OutOfMemory`.
 pub fn json_of<T: Serialize>(alloc: Global, value: &T) -> io::Result<String> {
     match serde_json::to_string(alloc, value) {
         Ok(json) => Ok(json),
@@ -124,7 +123,6 @@ pub fn json_of<T: Serialize>(alloc: Global, value: &T) -> io::Result<String> {
     }
 }
 
-// A value with the name of the shard that has it.
 #[derive(Drop, Serialize)]
 struct OfShard<'a, T> {
     shard: Option<&'a str>,

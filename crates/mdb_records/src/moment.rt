@@ -9,12 +9,10 @@ use std::alloc::{AllocError, Global};
 use std::fmt;
 use std::rt::Clock;
 
-/// A timestamp of a footer: seconds since 1970, and the date in UTC that they are.
+/// A footer's timestamp: seconds since 1970, and their date in UTC.
 ///
-/// 0 and the greatest number have no date, since they stand for none, and neither have seconds past
-/// the year 9999.
-///
-/// In JSON a timestamp that stands for none is `null`.
+/// 0 and the greatest number stand for none, have no date and are `null` in JSON. Seconds past the
+/// year 9999 have no date.
 #[derive(Drop)]
 pub struct Moment {
     pub seconds: u64,
@@ -35,16 +33,16 @@ impl Moment {
     }
 }
 
-/// The first second of the last day of the year 9999, and the first one after it.
+/// The first second of 9999-12-31, and the first after it.
 const LAST_DAY: u64 = 253402214400;
 
 const AFTER_LAST_DAY: u64 = 253402300800;
 
-/// The first second that is no instant of the calendar, which keeps the 26 hours in which the year
-/// 10000 has begun somewhere on Earth.
+/// The first second that is no `Timestamp`, which ends before the year 10000 begins anywhere on
+/// Earth.
 const LAST_HOURS: u64 = LAST_DAY - 7199;
 
-// The date of a second in the last 26 hours of the year 9999, else none.
+// The date of one of the last 26 hours of 9999, else none.
 fn last_hours(alloc: Global, seconds: u64) -> Result<Option<String>, AllocError>
     ensures { seconds ≡ 0 → IfOk result IsNone }
 {
@@ -58,7 +56,7 @@ fn last_hours(alloc: Global, seconds: u64) -> Result<Option<String>, AllocError>
     Ok(Some(format!(in alloc; "9999-12-{day}T{hour:02}:{minute:02}:{second:02}Z")?))
 }
 
-// The instant so many seconds after the start of 1970, if a calendar has it; none for 0.
+// `None` for 0, or if the calendar lacks it.
 fn instant_of(seconds: u64) -> Option<Timestamp>
     ensures value { IfSome result (λ t. t.nanosecond ≡ pos seconds *ℤ pos 1_000_000_000) }
     ensures none { seconds ≡ 0 → IsNone result }
@@ -70,14 +68,14 @@ fn instant_of(seconds: u64) -> Option<Timestamp>
     Timestamp::from_second(seconds).ok()
 }
 
-/// The seconds since the start of 1970 that the clock shows, if it can be read.
+/// The clock's seconds since 1970, if it can be read.
 pub fn seconds_now<R: Clock>(rt: &R) -> Option<u64> {
     let now = Timestamp::now(rt).ok()?;
     u64::try_from(now.as_second()).ok()
 }
 
-/// Parses a time: seconds since 1970 in digits, with an optional plus, or a date and time of RFC
-/// 3339, without its fraction of a second. `None` if the text is neither, or is before 1970.
+/// Parses seconds since 1970, with an optional plus, or a date and time of RFC 3339, without its
+/// fraction of a second. `None` if the text is neither, or is before 1970.
 pub fn seconds_of(text: &str) -> Option<u64>
     ensures { IsNumeral 10 (without_leading_plus text.now)
         → digits_value 10 (without_leading_plus text.now) < 2 ^ 64
@@ -107,7 +105,6 @@ impl Serialize for Moment {
     }
 }
 
-// A timestamp that stands for a date, in JSON.
 #[derive(Clone, Copy, Serialize)]
 struct Date<'a> {
     seconds: u64,

@@ -1,4 +1,4 @@
-//! Reading a record from the line of JSON that prints it whole.
+//! Reading a record from its line of JSON.
 
 ghost use Rattle.std.specs.Prelude.{◌≡◌, true, IfOk, IfErr, OnOk, IsUtf8, MatchResult, map};
 ghost use Rattle.xet_records.specs.FileRecord.{FitsItsHeader};
@@ -31,9 +31,9 @@ pub enum LineFault {
     OutOfMemory,
     /// It is no JSON, from this column on.
     Syntax(usize),
-    /// A member is missing or has another kind of value; at this column that is known.
+    /// A member is missing or of another kind; at this column that is known.
     Member(usize),
-    /// It is neither a file nor a xorb.
+    /// It is neither a file nor a xorb, or both.
     NoRecord,
     /// It is a record without its rows.
     NoRows,
@@ -95,7 +95,6 @@ impl fmt::Display for LineFault {
     }
 }
 
-// Which record a line has.
 #[derive(Drop, Deserialize)]
 struct Kind {
     #[serde(default)]
@@ -104,8 +103,7 @@ struct Kind {
     xorb: Option<Hex>,
 }
 
-/// The record of a line that has it as JSON, with its rows. The line is UTF-8, and the record has the
-/// rows that its header announces.
+/// The record in a line of JSON with its rows, which are those that its header announces.
 pub fn record_of(alloc: Global, line: &[u8]) -> Result<Record, LineFault>
     ensures text { OnOk result (IsUtf8 line.now) }
     ensures whole { IfOk result IsWhole }
@@ -124,10 +122,10 @@ pub fn record_of(alloc: Global, line: &[u8]) -> Result<Record, LineFault>
     }
 }
 
-/// The file of which a report with rows is.
+/// The file of a report.
 ///
-/// `NoRows` exactly if it has none, `Mismatch` exactly if no file that fits its header has this
-/// report, and `OutOfMemory` if memory is lacking.
+/// `NoRows` exactly if it has no rows; `Mismatch` exactly if no file that fits its header has this
+/// report; `OutOfMemory` if memory is lacking.
 pub fn file_of(alloc: Global, report: &FileReport) -> Result<MDBFileInfo, LineFault>
     ensures report { IfOk result (λ file. ReportsFile file true report.now) }
     ensures fits { IfOk result FitsItsHeader }
@@ -144,7 +142,6 @@ pub fn file_of(alloc: Global, report: &FileReport) -> Result<MDBFileInfo, LineFa
     }
 }
 
-// A file with what a report says, and with these rows.
 fn made_of(alloc: Global, report: &FileReport, rows: &FileRows) -> Result<MDBFileInfo, AllocError>
     ensures header { IfOk result (λ file. (file.metadata.file_hash ≡ report.now.file.0)
         × (file.metadata.file_flags ≡ report.now.flags)
@@ -184,7 +181,6 @@ fn segments_of(
     Ok(made)
 }
 
-// The verification rows with these hashes.
 fn verification_of(alloc: Global, hashes: &[Hex]) -> Result<Rows<FileVerificationEntry>, AllocError>
     ensures { IfOk result (λ made. map (λ row. record { 0 = row.hash }) made ≡ hashes.now) }
 {
@@ -195,10 +191,10 @@ fn verification_of(alloc: Global, hashes: &[Hex]) -> Result<Rows<FileVerificatio
     Ok(made)
 }
 
-/// The xorb of which a report with rows is.
+/// The xorb of a report.
 ///
-/// `NoRows` exactly if it has none, `Mismatch` exactly if no xorb that has its chunks has this report,
-/// and `OutOfMemory` if memory is lacking.
+/// `NoRows` exactly if it has no rows; `Mismatch` exactly if no xorb that has its chunks has this
+/// report; `OutOfMemory` if memory is lacking.
 pub fn xorb_of(alloc: Global, report: &XorbReport) -> Result<MDBXorbInfo, LineFault>
     ensures report { IfOk result (λ xorb. ReportsXorb xorb true report.now) }
     ensures whole { IfOk result HasItsChunks }

@@ -1,4 +1,4 @@
-//! What is printed of the records of a shard: files, xorbs and chunks.
+//! What is printed of files, xorbs and chunks.
 
 ghost use Rattle.std.specs.Prelude.{◌≡◌, All, IfOk, MatchResult, map};
 ghost use Rattle.xet_records.specs.FileRecord.{FitsItsHeader};
@@ -18,13 +18,13 @@ pub struct FileReport {
     pub file: Hex,
     pub flags: u32,
     pub segments: u32,
-    /// The bytes of the segments together.
+    /// The segments' bytes together.
     pub bytes: u64,
     #[serde(default, skip_serializing_if = "Option::is_none")]
     pub rows: Option<FileRows>,
 }
 
-/// The rows of a file after its header.
+/// A file's rows after its header.
 #[derive(Drop, Serialize, Deserialize)]
 pub struct FileRows {
     pub segments: Vec<SegmentReport>,
@@ -33,7 +33,7 @@ pub struct FileRows {
     pub aux: Option<Hex>,
 }
 
-/// A segment: the chunks from `start` up to `end`, which is excluded, of a xorb.
+/// A segment: the chunks `start..end` of a xorb.
 #[derive(Drop, Serialize, Deserialize)]
 pub struct SegmentReport {
     pub xorb: Hex,
@@ -44,8 +44,7 @@ pub struct SegmentReport {
 }
 
 impl FileReport {
-    /// The report of a file, with its rows or without. Requires that the record's parts fit its
-    /// header.
+    /// The report of a file that fits its header, with its rows or without.
     pub fn of_file(
         alloc: Global,
         file: &MDBFileInfo,
@@ -172,9 +171,9 @@ pub struct XorbReport {
     pub xorb: Hex,
     pub flags: u32,
     pub chunks: u32,
-    /// The bytes of the xorb, unpacked.
+    /// Its bytes, unpacked.
     pub bytes: u32,
-    /// The bytes of the xorb, as it is stored.
+    /// Its bytes, as stored.
     pub bytes_on_disk: u32,
     #[serde(default, skip_serializing_if = "Option::is_none")]
     pub rows: Option<Vec<ChunkRow>>,
@@ -185,12 +184,12 @@ pub struct XorbReport {
 pub struct ChunkRow {
     pub chunk: Hex,
     pub flags: u32,
-    /// The offset of the chunk in its xorb's unpacked bytes.
+    /// The offset in the xorb's unpacked bytes.
     pub start: u32,
     pub bytes: u32,
 }
 
-/// A chunk of a xorb, with the xorb and its index there.
+/// A chunk, with its xorb and its index there.
 #[derive(Clone, Copy, Serialize)]
 pub struct ChunkReport {
     pub chunk: Hex,
@@ -206,7 +205,7 @@ pub struct ChunkReport {
 pub struct ChunkRest {
     pub flags: u32,
     pub start: u32,
-    /// Whether the global index keeps the chunk for its flags or its hash.
+    /// Whether the global index keeps it for its flags or its hash.
     pub eligible: bool,
 }
 
@@ -259,7 +258,7 @@ impl ChunkRow {
 }
 
 impl ChunkReport {
-    /// The report of the chunk at an index of a xorb, whole or without what is known besides.
+    /// The report of a xorb's chunk, with the rest if `whole`.
     pub fn of_chunk(
         xorb: &MDBXorbInfo,
         index: u64,

@@ -2,8 +2,7 @@
 
 use std::fmt;
 
-/// A text, such as a file's name, that is printed with each control character as `\u{..}`, so that
-/// none acts on a terminal.
+/// A text that is printed with each control character as `\u{..}`, so that none acts on a terminal.
 #[derive(Clone, Copy)]
 pub struct ShownText<'a>(pub &'a str);
 

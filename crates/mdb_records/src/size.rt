@@ -1,10 +1,10 @@
-//! Sizes in bytes: reading one from a word, as `64M`, and printing one for people, as `1.5 KiB`.
+//! Reading sizes, as `64M`, and printing them, as `1.5 KiB`.
 
 ghost use Rattle.std.specs.Prelude.{◌≡◌};
 
 use std::fmt;
 
-/// The units in which sizes are printed, the greatest first, and how many bytes they have.
+/// The units and their bytes, the greatest first.
 const UNITS: &[(u64, &str)] = &[
     (1 << 60, "EiB"),
     (1 << 50, "PiB"),
@@ -14,8 +14,8 @@ const UNITS: &[(u64, &str)] = &[
     (1 << 10, "KiB"),
 ];
 
-/// A number of bytes. It is printed in digits or, for people, in the greatest unit of which it has at
-/// least one, rounded to a tenth.
+/// A number of bytes, printed in digits or, for people, in the greatest unit that it reaches,
+/// rounded to a tenth.
 #[derive(Clone, Copy)]
 pub struct Size {
     pub bytes: u64,
@@ -39,7 +39,7 @@ impl fmt::Display for Size {
             return write!(f, "{bytes}");
         }
         for (unit, name) in UNITS {
-            // What is less by a twentieth of the unit before would be rounded to 1024.0 of that.
+            // What is this close below would be rounded to 1024.0 of the unit before.
             if bytes.saturating_add(*unit / 20480) >= *unit {
                 let tenths = tenths_of(bytes, *unit);
                 let (whole, tenth) = (tenths / 10, tenths % 10);
@@ -50,7 +50,6 @@ impl fmt::Display for Size {
     }
 }
 
-// How many tenths of a unit a number of bytes has, to the nearest.
 fn tenths_of(bytes: u64, unit: u64) -> u128 {
     u128::from(bytes)
         .saturating_mul(10)
@@ -59,8 +58,8 @@ fn tenths_of(bytes: u64, unit: u64) -> u128 {
         .unwrap_or(0)
 }
 
-/// The number of bytes in a text of digits, which a K, M, G or T may follow: 1024 bytes, and then
-/// each 1024 of the unit before. `None` for another text, or if there are too many for `u64`.
+/// The bytes in a text of digits, which a K, M, G or T in either case may follow, for powers of
+/// 1024. `None` for another text, or for too many for `u64`.
 pub fn parse_size(text: &str) -> Option<u64> {
     let Some(last) = text.as_bytes().last() else {
         return None;
@@ -79,7 +78,6 @@ pub fn parse_size(text: &str) -> Option<u64> {
     number_of(digits)?.checked_mul(unit)
 }
 
-// The number with these decimal digits.
 fn number_of(digits: &[u8]) -> Option<u64> {
     if digits.is_empty() {
         return None;

@@ -1,4 +1,4 @@
-//! A shard in one line, and some shards together.
+//! A shard in one line, and totals.
 
 ghost use Rattle.std.specs.Prelude.{◌≡◌, ◌⊎◌, ◌-◌, length, IfOk, MatchResult};
 ghost use Rattle.xet_core_structures.specs.declared.error.CoreError.{CoreError};
@@ -21,33 +21,31 @@ use xet_core_structures::error::Result;
 use xet_core_structures::rows::ROW_SIZE;
 use xet_core_structures::shard_format::MDBShardInfo;
 
-/// What a shard's header and footer say, without where the parts are, but for whether they ascend.
+/// What a shard's header and footer say, but for where its parts are.
 ///
-/// Records are counted by the rows of tables. A count is not known of a table without rows, as in a
-/// minimal shard, whose section has room for records.
+/// Records are counted by the rows of tables. A count is unknown if the table has no rows and its
+/// section has room for records.
 #[derive(Drop, Serialize)]
 pub struct Brief<'a> {
-    /// The name of the shard's file.
+    /// The file's name.
     pub shard: &'a str,
     pub version: u64,
     pub bytes: u64,
-    /// Whether the offsets of the footer ascend within the file.
+    /// Whether the footer's offsets ascend within the file.
     pub ascends: bool,
     pub key: Option<Hex>,
     pub files: Option<u64>,
     pub xorbs: Option<u64>,
     pub chunks: Option<u64>,
     pub expires: Moment,
-    /// The bytes of the xorbs, unpacked.
+    /// The xorbs' bytes, unpacked.
     pub stored_bytes: u64,
-    /// The bytes of the files.
+    /// The files' bytes.
     pub materialized_bytes: u64,
 }
 
 impl<'a> Brief<'a> {
-    /// What is said of the shard with these bytes.
-    ///
-    /// The errors are those of [`load_bytes`], and `OutOfMemory`.
+    /// The brief of the shard in these bytes. Fails as [`load_bytes`], or with `OutOfMemory`.
     pub fn of_bytes(alloc: Global, file: &'a str, bytes: &[u8]) -> Result<Brief<'a>>
         ensures { MatchResult result
             (λ brief. (info : Info) × HasHeaderAndFooter bytes.now info
@@ -58,8 +56,7 @@ impl<'a> Brief<'a> {
         Ok(Brief::of_info(alloc, file, &info, bytes.len() as u64)?)
     }
 
-    /// What is said of a shard of so many bytes that has this header and footer. It fails only if
-    /// memory is lacking.
+    /// The brief of a shard of so many bytes with this header and footer.
     pub fn of_info(
         alloc: Global,
         file: &'a str,
@@ -88,8 +85,7 @@ impl<'a> Brief<'a> {
     }
 }
 
-// The number of rows of a table, unless it has none and its section, between two offsets, has room
-// for a row beside its bookend and so many others.
+// `None` if the table has no rows, and its section room for one beside its bookend and `others`.
 fn count_of(rows: u64, start: u64, end: u64, others: u64) -> Option<u64>
     ensures { IsCount rows (end - start) others result }
 {
@@ -102,8 +98,7 @@ fn count_of(rows: u64, start: u64, end: u64, others: u64) -> Option<u64>
     }
 }
 
-/// Sums over some shards; one that would pass the greatest number stays there. A sum is not known
-/// if one of its counts is not.
+/// Sums over shards, which saturate; a sum is unknown if one of its counts is.
 #[derive(Clone, Copy, Serialize)]
 pub struct Total {
     pub shards: u64,
@@ -143,7 +138,6 @@ impl Total {
     }
 }
 
-// The sum of two counts, if both are known.
 fn sum_of(one: Option<u64>, other: Option<u64>) -> Option<u64>
     ensures { result ≡ sum_if_known one other }
 {
@@ -153,7 +147,6 @@ fn sum_of(one: Option<u64>, other: Option<u64>) -> Option<u64>
     }
 }
 
-// Numbers of records.
 #[derive(Clone, Copy)]
 struct Counts {
     files: Option<u64>,

@@ -1,12 +1,11 @@
-//! A source that counts its seeks and the bytes read as it runs.
+//! A source that counts its seeks and the bytes read.
 
 ghost use Rattle.std.specs.Prelude.{◌≡◌, min, ◌^◌, ◌-◌};
 
 use std::io;
 use xet_core_structures::source::ShardSource;
 
-/// A source with counts of its seeks and of the bytes read from it, as the program runs; a count
-/// that would pass the greatest number stays there.
+/// A source with counts of its seeks and of the bytes read from it, which saturate.
 #[derive(Drop)]
 pub struct CountingSource<S: ShardSource> {
     source: S,
@@ -17,7 +16,7 @@ pub struct CountingSource<S: ShardSource> {
 }
 
 impl<S: ShardSource> CountingSource<S> {
-    /// A source whose counts are 0. Requires one that was not read yet.
+    /// A source whose counts are 0. It must not have been sought or read.
     pub fn new(source: S) -> CountingSource<S>
         requires seeks { (S.meaning source).seeks ≡ 0 }
         requires read { (S.meaning source).read ≡ 0 }
@@ -30,7 +29,7 @@ impl<S: ShardSource> CountingSource<S> {
         }
     }
 
-    /// The source that is counted.
+    /// The counted source.
     pub fn inner(&self) -> &S
         ensures { result.now ≡ self.now.source }
     {

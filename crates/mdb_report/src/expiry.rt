@@ -1,10 +1,9 @@
-//! Expiries of shards: what the numbers of their footers say, and whether they have come.
+//! Expiries of shards.
 
 ghost use Rattle.std.specs.Prelude.{◌≡◌};
 ghost use Rattle.mdb_report.specs.ExpiryReport.{expiry_in, has_come};
 
-/// The expiry that a footer's number says, in seconds since the start of 1970. 0 and the greatest
-/// number stand for none.
+/// The expiry in a footer, in seconds since 1970; `None` for 0 and `u64::MAX`.
 pub fn expiry_of(seconds: u64) -> Option<u64>
     ensures { result ≡ expiry_in seconds }
 {
@@ -15,7 +14,7 @@ pub fn expiry_of(seconds: u64) -> Option<u64>
     }
 }
 
-/// Whether an expiry has come by a time, both in seconds since the start of 1970.
+/// Whether an expiry has come by `now`, both in seconds since 1970.
 pub fn has_come(expiry: Option<u64>, now: u64) -> bool
     ensures { result ≡ has_come expiry now }
 {

@@ -22,41 +22,40 @@ use xet_core_structures::merklehash::MerkleHash;
 /// Why a command failed.
 #[derive(Drop)]
 pub enum Fault {
-    /// A file or a stream can't be read or written.
+    /// Reading or writing failed.
     Device(io::Error),
     OutOfMemory,
-    /// There is too little memory for a merge at once; `--memory` makes it in parts.
+    /// Memory is too little for a merge without `--memory`.
     NoRoomAtOnce,
-    /// The bytes of a shard are not those that the library would write.
+    /// A shard's bytes are not as the library writes them.
     Bytes(Finding),
-    /// So many files share this first word of a hash that the lookup gives up.
+    /// Too many files share this first word of a hash.
     Collision(u64),
-    /// The shards that are to be combined are under different keys.
+    /// The shards have different keys.
     KeysDiffer,
-    /// The shards that are to be combined have files that can't be, or too many rows.
+    /// The shards have files that can't be combined, or too many rows.
     NoUnion,
-    /// Two shards that are to be merged have records with this hash that do not agree, the first of
-    /// so many hashes.
+    /// Records differ under so many hashes, of which this is the first.
     Disagree(usize, RecordHash),
     /// A shard has a record with this hash that no shard may have.
     Malformed(RecordHash),
-    /// The shard has a key and can't be exported under another.
+    /// The shard has a key already.
     HasKey,
     /// The expiry is past the last timestamp.
     LateExpiry,
-    /// Verification rows are asked for that a file does not have.
+    /// A file lacks the verification rows that are asked for.
     NoVerification,
-    /// A file has an auxiliary row, which the version that is asked for does not have.
+    /// A file has an auxiliary row, which the version lacks.
     HasAuxRow,
-    /// The shard has records, but not the table by which they are looked up.
+    /// The shard has records, but not this table for lookups.
     NoTable(Table),
-    /// No xorb of the shard has this hash.
+    /// No xorb has this hash.
     NoXorb(MerkleHash),
-    /// No file and no xorb of the shard has this hash.
+    /// No file and no xorb has this hash.
     NoRecord(MerkleHash),
-    /// This line of a list of hashes is not the digits of one.
+    /// This line of a list is no hash.
     NoHash(u64),
-    /// A lookup still lacks pages of the file after all the rounds in which they are read.
+    /// A lookup lacks pages after all rounds of reading.
     TooManyRounds,
     /// There is nothing to merge.
     NoFiles,
@@ -64,31 +63,31 @@ pub enum Fault {
     NoShards,
     /// Neither a folder nor one in it has a shard.
     NoShardsWithin,
-    /// A word is no UTF-8, so that no file can be opened by it.
+    /// A word is not UTF-8, so it opens no file.
     NoText,
-    /// A word has more bytes than are read.
+    /// A word is too long.
     LongWord,
     /// Standard input is named again.
     InputTwice,
-    /// Bytes are to be written to a terminal.
+    /// The output is a terminal.
     Terminal,
-    /// A merge with `--memory` or `--to`, or `gc`, is to read what is no regular file.
+    /// An input of `--memory`, `--to`, `gc` or `report` is no regular file.
     NoParts,
-    /// A merge with `--memory` is to be written to what is no regular file.
+    /// The target of `--memory` is no regular file.
     NoPlace,
-    /// The file is not what it was when it was first read.
+    /// The file changed since it was first read.
     Changed,
-    /// An input is not removed, since it is not what was read.
+    /// An input stays, since it is not what was read.
     StaysChanged,
-    /// An input is not removed, since it is no regular file, as a link to one.
+    /// An input stays, since it is no regular file, as a link.
     StaysAsLink,
-    /// In a folder the name that a shard has by the hash of its bytes has other bytes.
+    /// A folder's file with this hash in its name has other bytes.
     OtherBytes(MerkleHash),
     /// This line of a list of records is no record.
     NoLine(u64, LineFault),
-    /// The record of this line is one that no shard may have.
+    /// This line has a record that no shard may have.
     NoRecordOfShard(u64),
-    /// Anything else that a call of the library reports.
+    /// Any other error of the library.
     Other(CoreError),
 }
 
@@ -144,7 +143,6 @@ impl fmt::Display for Fault {
 }
 
 impl Fault {
-    // The text of a fault that has no values.
     fn text(&self) -> &'static str {
         match self {
             Fault::OutOfMemory => "out of memory",
@@ -178,7 +176,6 @@ impl Fault {
     }
 }
 
-/// A hash, and whose it is.
 #[derive(Clone, Copy, Drop)]
 struct NamedHash(RecordHash);
 
@@ -213,8 +210,8 @@ impl<T: Drop> From<AllocFailed<T>> for Fault {
     }
 }
 
-/// The fault behind an error of a call on the bytes of one shard: what a check of these bytes finds
-/// first, beside what calls pass over, if the error does not say it.
+/// The fault behind a call's error on a shard's bytes: `OutOfMemory` or `Collision` as the error
+/// says, else the first finding of a check that may be its cause, else `Other`.
 pub fn fault_of(alloc: Global, bytes: &[u8], error: CoreError) -> Fault
     ensures is { IsFaultOf bytes.now error result }
     ensures memory { error ≡ CoreError.OutOfMemory → result ≡ Fault.OutOfMemory }
@@ -232,7 +229,7 @@ pub fn fault_of(alloc: Global, bytes: &[u8], error: CoreError) -> Fault
     }
 }
 
-/// The fault behind an error of reading a section, one record after another.
+/// The fault behind an error of reading a section's records.
 pub fn section_fault(section: Section, error: CoreError) -> Fault
     ensures memory { error ≡ CoreError.OutOfMemory → result ≡ Fault.OutOfMemory }
 {
@@ -247,8 +244,7 @@ pub fn section_fault(section: Section, error: CoreError) -> Fault
     }
 }
 
-/// The same for a call that refuses records which no shard may have: the first of these, if nothing
-/// else may be the cause.
+/// As [`fault_of`], but in place of `Other` the first record that no shard may have, if any.
 pub fn fault_of_record(alloc: Global, bytes: &[u8], error: CoreError) -> Fault
     ensures { IsFaultOfRecord bytes.now error result }
 {
@@ -272,7 +268,6 @@ fn first_malformed(alloc: Global, bytes: &[u8]) -> Result<Option<Finding>, Fault
     }
 }
 
-// The first finding that is a record which no shard may have.
 fn malformed_in(findings: &[Finding]) -> Option<Finding>
     ensures { IfSome result (Contains findings.now) }
 {
@@ -294,7 +289,6 @@ fn first_finding(alloc: Global, bytes: &[u8]) -> Result<Option<Finding>, Fault>
     }
 }
 
-// The first finding that may be the cause of an error.
 fn cause_in(findings: &[Finding]) -> Option<Finding>
     ensures { MatchOption result (All (λ f. ¬ MayBeCause f) findings.now)
         (λ f. Contains findings.now f × MayBeCause f) }
@@ -307,8 +301,7 @@ fn cause_in(findings: &[Finding]) -> Option<Finding>
     cause.copied()
 }
 
-// Whether a finding may be the cause of an error. Calls pass over records that no shard may have, and
-// over the order of rows.
+// Calls pass over records that no shard may have, and over the order of rows.
 fn may_be_cause(finding: &Finding) -> bool
     ensures { IsTrue result ↔ MayBeCause finding.now }
 {
@@ -318,8 +311,8 @@ fn may_be_cause(finding: &Finding) -> bool
     }
 }
 
-/// The first finding for which no union and no difference is made of a shard's bytes: their
-/// sections can't be read, or their hashes do not ascend. `None` if there is no such finding.
+/// The first finding that prevents unions and differences, or `None`: the sections can't be read,
+/// or hashes do not ascend.
 pub fn first_blocking_finding(alloc: Global, bytes: &[u8]) -> Result<Option<Finding>, Fault>
     ensures { MatchResult result
         (λ found. MatchOption found ((f : Finding) → ¬ IsBlocking bytes.now f)
@@ -332,7 +325,6 @@ pub fn first_blocking_finding(alloc: Global, bytes: &[u8]) -> Result<Option<Find
     }
 }
 
-// The first finding that keeps a shard from being read.
 fn blocking_finding(findings: &[Finding]) -> Option<Finding>
     ensures { MatchOption result (All (λ f. ¬ KeepsFrom f) findings.now)
         (λ f. Contains findings.now f × KeepsFrom f) }
@@ -345,8 +337,7 @@ fn blocking_finding(findings: &[Finding]) -> Option<Finding>
     blocking.copied()
 }
 
-// Whether a finding keeps a shard from being read. Other parts or another size do not, nor does what
-// calls pass over.
+// Other parts, another size and what calls pass over do not.
 fn keeps_from(finding: &Finding) -> bool
     ensures { IsTrue result ↔ KeepsFrom finding.now }
 {
@@ -357,8 +348,8 @@ fn keeps_from(finding: &Finding) -> bool
     }
 }
 
-/// Whether the footer of a shard's bytes, by which a union or a difference finds the sections, is
-/// not the one that the records give.
+/// Whether the footer, by which unions and differences find sections, is not the one that the
+/// records give.
 pub fn has_wrong_footer(alloc: Global, bytes: &[u8]) -> Result<bool, Fault>
     ensures { MatchResult result
         (λ wrong. IsTrue wrong ↔ IsFinding bytes.now (Finding.Differs Part.Footer))
@@ -374,8 +365,8 @@ pub fn has_wrong_footer(alloc: Global, bytes: &[u8]) -> Result<bool, Fault>
     }
 }
 
-/// Why an export failed. If its arguments were refused: the shard has a key; else the expiry is too
-/// late; else the version lacks the auxiliary row of a file.
+/// Why an export failed. For refused arguments: `HasKey`, else `LateExpiry`, else `HasAuxRow`; else
+/// as [`fault_of`].
 pub fn export_fault(alloc: Global, bytes: &[u8], export: &Export, error: CoreError) -> Fault
     ensures { IsExportFault export.entry.now bytes.now error result }
 {
@@ -385,7 +376,6 @@ pub fn export_fault(alloc: Global, bytes: &[u8], export: &Export, error: CoreErr
     }
 }
 
-// The fault of a shard that is not exported with the arguments that were given.
 fn export_argument_fault(alloc: Global, bytes: &[u8], export: &Export) -> Fault
     ensures { IsExportFault export.entry.now bytes.now CoreError.InvalidArguments result }
 {
@@ -393,13 +383,13 @@ fn export_argument_fault(alloc: Global, bytes: &[u8], export: &Export) -> Fault
         Ok(info) if info.chunk_hashes_protected() => Fault::HasKey,
         Ok(_) if u64::MAX - export.now < export.valid_seconds => Fault::LateExpiry,
         Ok(_) => Fault::HasAuxRow,
-        // They were loaded before, so only memory is lacking.
+        // They were loaded before.
         Err(_) => Fault::OutOfMemory,
     }
 }
 
-/// The fault behind an error of a minimal shard: of one that is refused for its arguments, the
-/// auxiliary row of a file, which the version does not have.
+/// Why a minimal shard failed: `NoVerification` if rows to keep are lacking, `HasAuxRow` for
+/// refused arguments, else as [`fault_of`].
 pub fn minimal_fault(alloc: Global, bytes: &[u8], kept: KeptParts, error: CoreError) -> Fault
     ensures { IsMinimalFault kept bytes.now error result }
 {
@@ -412,7 +402,6 @@ pub fn minimal_fault(alloc: Global, bytes: &[u8], kept: KeptParts, error: CoreEr
     }
 }
 
-// Whether the error of a minimal shard is that of a file without verification rows.
 fn lacks_verification(error: &CoreError) -> bool
     ensures { IsTrue result ↔ IsIoOther error.now }
 {

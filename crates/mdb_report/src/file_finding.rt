@@ -22,16 +22,16 @@ use xet_core_structures::utils::parse_shard_filename;
 /// What a check finds wrong with a file.
 #[derive(Clone, Copy)]
 pub enum FileFinding {
-    /// The bytes are not those that the library would write.
+    /// The bytes are not as the library writes them.
     Bytes(Finding),
     /// The name is not 64 hexadecimal digits and `.mdb`.
     Name,
-    /// The name has another hash than the bytes, which have this one.
+    /// The name has another hash than this one of the bytes.
     Hash(MerkleHash),
 }
 
 impl FileFinding {
-    /// Whether it is a note, and no fault of the file: nothing is lost.
+    /// Whether it is only a note: nothing is lost.
     pub fn is_note(&self) -> bool
         ensures { IsTrue result ↔ IsFileNote self.now }
     {
@@ -42,20 +42,20 @@ impl FileFinding {
     }
 }
 
-/// A finding, and the file that has it.
+/// A finding and its file.
 #[derive(Clone, Copy, Serialize)]
 pub struct FindingReport<'a> {
-    /// The name of the shard's file.
+    /// The file's name.
     pub shard: &'a str,
     pub code: &'static str,
-    /// Where in the file what is found starts, if its footer could be read.
+    /// Where in the file it starts, if the footer says that.
     pub offset: Option<u64>,
     #[serde(rename = "problem")]
     pub finding: FileFinding,
 }
 
 impl<'a> FindingReport<'a> {
-    /// The report of a finding of a file, whose header and footer these are, if they could be read.
+    /// The report of a finding; `info` is the file's header and footer, if read.
     pub fn of_finding(
         file: &'a str,
         info: Option<&MDBShardInfo>,
@@ -73,7 +73,6 @@ impl<'a> FindingReport<'a> {
     }
 }
 
-// The word for a kind of finding.
 fn code_of(finding: FileFinding) -> &'static str {
     match finding {
         FileFinding::Name => "name",
@@ -100,8 +99,7 @@ fn code_of(finding: FileFinding) -> &'static str {
     }
 }
 
-// The offset of the part that the finding is about. `None` for a name or a size, or if no footer is
-// read.
+// `None` for a name or a size, or without a footer.
 fn offset_of(info: Option<&MDBShardInfo>, finding: FileFinding) -> Option<u64> {
     match (info, finding) {
         (Some(info), FileFinding::Bytes(finding)) => start_of(info, finding),
@@ -109,7 +107,7 @@ fn offset_of(info: Option<&MDBShardInfo>, finding: FileFinding) -> Option<u64> {
     }
 }
 
-/// Where the part of a shard starts that a finding is about, as the footer has it.
+/// The offset, by the footer, of the part that a finding is about, if it is about one.
 pub fn start_of(info: &MDBShardInfo, finding: Finding) -> Option<u64>
     ensures { result ≡ start_in info.now finding }
 {
@@ -134,8 +132,7 @@ pub fn start_of(info: &MDBShardInfo, finding: Finding) -> Option<u64>
     }
 }
 
-/// The findings of a file with this name and these bytes: those of its bytes, in the order of
-/// [`check_bytes`], and then that of its name.
+/// The findings of a file: those of [`check_bytes`], in its order, then that of its name.
 ///
 /// The only error is `OutOfMemory`.
 pub fn findings_of_file(alloc: Global, name: &str, bytes: &[u8]) -> Result<Vec<FileFinding>>
@@ -157,9 +154,7 @@ pub fn findings_of_file(alloc: Global, name: &str, bytes: &[u8]) -> Result<Vec<F
     Ok(findings)
 }
 
-/// The findings of bytes, whatever the name of their file is: those that [`check_bytes`] finds.
-///
-/// The only error is `OutOfMemory`.
+/// As [`findings_of_file`], but of the bytes alone.
 pub fn findings_of_bytes(alloc: Global, bytes: &[u8]) -> Result<Vec<FileFinding>>
     ensures whole { IfOk result (λ findings. (findings.items ≡ []) ↔ IsWhole bytes.now) }
     ensures intact { IfOk result
@@ -171,10 +166,8 @@ pub fn findings_of_bytes(alloc: Global, bytes: &[u8]) -> Result<Vec<FileFinding>
     Ok(file_findings(alloc, findings.as_slice())?)
 }
 
-/// The findings of a file with this name and these bytes, as [`findings_of_file`] has them, and
-/// then that of its name if it has another hash than the bytes have under a key.
-///
-/// The only error is `OutOfMemory`.
+/// As [`findings_of_file`], then that of a shard's name with another hash than the bytes have under
+/// `key`.
 pub fn findings_under_key(
     alloc: Global,
     name: &str,
@@ -196,10 +189,8 @@ pub fn findings_under_key(
     Ok(findings)
 }
 
-/// The findings that a check of a file at a path is to find: those of its bytes, and, with `named` or
-/// a key, that of its name. With a key the name has to have the hash of the bytes under it.
-///
-/// The only error is `OutOfMemory`.
+/// The findings of the file at a path: with a key as [`findings_under_key`], else if `named` as
+/// [`findings_of_file`], else as [`findings_of_bytes`].
 pub fn findings_to_report(
     alloc: Global,
     path: &str,
@@ -219,7 +210,7 @@ pub fn findings_to_report(
     }
 }
 
-// The hash that bytes have under a key, if a name is that of a shard with another one.
+// The bytes' hash, if the name is a shard's with another one.
 fn other_hash(name: &str, key: HMACKey, bytes: &[u8]) -> Option<MerkleHash>
     ensures { MatchOption result (IsShardName name.now → NamesShard name.now (keyed_hash key bytes.now))
         (λ hash. (hash ≡ keyed_hash key bytes.now) × IsShardName name.now
@@ -242,7 +233,7 @@ fn file_findings(
         .collect(alloc)
 }
 
-/// What a path has after its last slash, or all of it if it has none.
+/// What follows a path's last slash, or all of it without one.
 pub fn file_name(path: &str) -> &str
     ensures { IsFileName path.now result.now }
 {

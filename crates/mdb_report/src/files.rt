@@ -1,4 +1,4 @@
-//! The files of a shard's bytes, and what is printed of them.
+//! What is printed of a shard's files.
 
 ghost use Rattle.std.specs.Prelude.{All, IfOk, MatchResult};
 ghost use Rattle.xet_core_structures.specs.FileRecord.{FitsItsHeader};
@@ -11,10 +11,9 @@ use xet_core_structures::file_structs::MDBFileInfo;
 use xet_core_structures::shard_format::MDBShardInfo;
 use xet_core_structures::source::MemorySource;
 
-/// The reports of the files in the bytes of a shard, in order.
+/// The reports of a shard's files, in order.
 ///
-/// The errors are those of [`MDBShardInfo::load_from_reader`] and of
-/// [`MDBShardInfo::read_all_file_info_sections`].
+/// Fails as [`MDBShardInfo::load_from_reader`] or [`MDBShardInfo::read_all_file_info_sections`].
 pub fn file_reports(
     alloc: Global,
     bytes: &[u8],
@@ -31,7 +30,6 @@ pub fn file_reports(
     Ok(reports)
 }
 
-// The files of a shard, each of which fits its header.
 pub(crate) fn read_files(alloc: Global, bytes: &[u8]) -> Result<Vec<MDBFileInfo>, CoreError>
     ensures read { MatchResult result (λ files. HoldsFiles bytes.now files.items)
         (FilesNotRead bytes.now) }

@@ -26,17 +26,17 @@ use xet_core_structures::xorb_structs::MDBXorbInfo;
 #[derive(Clone, Copy)]
 pub struct GarbageInWords(pub GarbageFinding);
 
-/// A finding, and the shard that has its record.
+/// A finding and its shard.
 #[derive(Clone, Copy, Serialize)]
 pub struct GarbageReport<'a> {
-    /// The name of the shard's file; `None` if it is not known.
+    /// The name of the shard's file, if known.
     pub shard: Option<&'a str>,
     pub code: &'static str,
     pub xorb: Hex,
     /// The file whose segment is found.
     #[serde(skip_serializing_if = "Option::is_none")]
     pub file: Option<Hex>,
-    /// Which of the file's segments it is, counted from 0.
+    /// The segment's index in the file, from 0.
     #[serde(skip_serializing_if = "Option::is_none")]
     pub segment: Option<usize>,
     #[serde(rename = "problem")]
@@ -44,7 +44,7 @@ pub struct GarbageReport<'a> {
 }
 
 impl<'a> GarbageReport<'a> {
-    /// The report of a finding in a shard, if one is known.
+    /// The report of a finding in a shard, if known.
     pub fn of_finding(shard: Option<&'a str>, finding: GarbageFinding) -> GarbageReport<'a>
         ensures shard { result.shard ≡ shard.entry }
         ensures finding { result.finding.0 ≡ finding }
@@ -61,7 +61,6 @@ impl<'a> GarbageReport<'a> {
     }
 }
 
-// The word for a kind of finding.
 fn code_of(misfit: Misfit) -> &'static str {
     match misfit {
         Misfit::Unnamed => "xorb_unnamed",
@@ -73,7 +72,6 @@ fn code_of(misfit: Misfit) -> &'static str {
     }
 }
 
-// The segment that a misfit is about, if it is about one.
 fn segment_of(misfit: Misfit) -> Option<Segment> {
     match misfit {
         Misfit::Lacking(segment) | Misfit::Outside(segment, _) | Misfit::Bytes(segment, _) => {
@@ -83,8 +81,8 @@ fn segment_of(misfit: Misfit) -> Option<Segment> {
     }
 }
 
-/// Prints what does not fit together in the records of the shard in a file, from its bytes, and
-/// answers whether that is nothing. If they cannot be read, nothing is printed.
+/// Prints what does not fit together in a shard, and answers whether that is nothing; `false`, with
+/// nothing printed, if the shard can't be read.
 pub(crate) fn print_garbage<W: Write>(
     alloc: Global,
     file: &str,
@@ -118,7 +116,7 @@ fn print_findings<W: Write>(
     Ok(())
 }
 
-/// Prints a finding, with the name of a shard that has its record, if one is known.
+/// Prints a finding, with its shard's name if known.
 pub fn print_finding<W: Write>(
     alloc: Global,
     shard: Option<&str>,
@@ -130,8 +128,7 @@ pub fn print_finding<W: Write>(
     print(alloc, &report, Layout::plain(style), output)
 }
 
-/// What does not fit together in the records of a shard, from its bytes, in ascending order of the
-/// hashes of xorbs.
+/// What does not fit together in a shard, in ascending order of xorb hashes.
 ///
 /// The errors are those of loading the shard and of reading its sections.
 pub fn garbage_in(alloc: Global, bytes: &[u8]) -> Result<Vec<GarbageFinding>, CoreError>
@@ -143,7 +140,6 @@ pub fn garbage_in(alloc: Global, bytes: &[u8]) -> Result<Vec<GarbageFinding>, Co
     Ok(find_garbage(alloc, files.as_slice(), xorbs.as_slice())?)
 }
 
-// The xorbs of a shard, each of which has its chunks.
 fn read_xorbs(alloc: Global, bytes: &[u8]) -> Result<Vec<MDBXorbInfo>, CoreError>
     ensures read { MatchResult result (λ xorbs. HoldsXorbs bytes.now xorbs.items)
         (XorbsNotRead bytes.now) }
@@ -209,7 +205,6 @@ impl fmt::Display for GarbageInWords {
     }
 }
 
-// A segment by its place in its file.
 #[derive(Clone, Copy)]
 struct SegmentName(Segment);
 

@@ -1,4 +1,4 @@
-//! What a shard can be asked, and printing its answers.
+//! What a shard is asked, and printing its answers.
 
 ghost use Rattle.std.specs.Prelude.{◌≡◌, ◌≢◌, ◌↔◌, [], All, is_some, IfOk, IsOk, IsTrue};
 ghost use Rattle.mdb_report.specs.FileFindings.{IsFileNote};
@@ -33,13 +33,13 @@ use xet_core_structures::xorb_structs::MDBXorbInfo;
 /// What a shard is asked.
 #[derive(Drop)]
 pub enum Inquiry {
-    /// What its header and its footer say.
+    /// What its header and footer say.
     Summary,
-    /// The same in a line, without where the parts are.
+    /// The same in a line, without its parts.
     Brief,
     /// The findings of a check.
     Check(Checks),
-    /// The name that its bytes have by their hash under a key.
+    /// The name by its hash under a key.
     Name {
         key: HMACKey,
     },
@@ -51,11 +51,11 @@ pub enum Inquiry {
     Xorbs {
         long: bool,
     },
-    /// The chunks of its xorbs, with all that is known of them or without.
+    /// Its chunks, with all that is known or without.
     Chunks {
         long: bool,
     },
-    /// The files with these hashes, with what each lookup costs or without.
+    /// The files with these hashes, with each lookup's costs or without.
     Find {
         hashes: Vec<MerkleHash>,
         costs: bool,
@@ -72,12 +72,12 @@ pub enum Inquiry {
     Eligible,
 }
 
-/// What a check looks at, beside whether a shard is as the library would write it.
+/// What a check looks at beside the bytes.
 #[derive(Clone, Copy)]
 pub struct Checks {
     /// Whether the file has the name of a shard.
     pub named: bool,
-    /// Whether it has the name that its bytes have under this key.
+    /// Whether its name has the bytes' hash under this key.
     pub key: Option<HMACKey>,
     /// Whether its records fit together.
     pub deep: bool,
@@ -86,7 +86,7 @@ pub struct Checks {
 }
 
 impl Inquiry {
-    /// Whether it looks something up, so that there may be nothing to be found.
+    /// Whether it is a lookup, which may find nothing.
     pub fn looks_up(&self) -> bool
         ensures { IsTrue result ↔ LooksUp self.now }
     {
@@ -101,9 +101,9 @@ impl Inquiry {
 #[derive(Clone, Copy)]
 pub enum Answer {
     Printed,
-    /// A check found something, or the offsets of a footer do not ascend.
+    /// A check found something, or a footer's offsets do not ascend.
     HasFindings,
-    /// A lookup found none of what it looked for.
+    /// A lookup found nothing.
     FoundNothing,
 }
 
@@ -118,9 +118,9 @@ pub enum InquiryFault {
     Section(Section, CoreError),
     /// The file could not be read.
     Input(io::Error),
-    /// A call still lacks pages of the file after all the rounds in which they are read.
+    /// A call lacks pages after all rounds of reading.
     TooManyRounds,
-    /// The shard has records, but not the table by which they are looked up.
+    /// The shard has records, but not this table for lookups.
     NoTable(Table),
     /// The output failed.
     Output(io::Error),
@@ -144,11 +144,10 @@ impl From<io::Error> for InquiryFault {
     }
 }
 
-/// Prints the answer of the shard in a file, from its bytes, in the order of the shard: a value for
-/// each record, each lookup or each finding, or for the whole shard. What is found is added to a
-/// tally.
+/// Prints the answer of a shard's bytes, in its order: a value for each record, lookup or finding,
+/// or for the whole shard. Adds what is found to the tally.
 ///
-/// With the name of a shard, lookups that find nothing are printed only with their costs.
+/// With shards' names, lookups that find nothing are printed only with their costs.
 pub fn print_answer<W: Write>(
     alloc: Global,
     inquiry: &Inquiry,
@@ -203,8 +202,8 @@ pub fn print_answer<W: Write>(
     Ok(Answer::Printed)
 }
 
-/// Prints the end of the answers: the total of `info --brief`, and of a lookup in several shards
-/// the hashes that none of them has.
+/// Prints what follows all answers: the total of `info --brief`, or what lookups found in none of
+/// several shards.
 pub fn print_end<W: Write>(
     alloc: Global,
     inquiry: &Inquiry,
@@ -239,7 +238,6 @@ pub fn print_end<W: Write>(
     }
 }
 
-// Prints what header and footer say.
 fn summarize<W: Write>(
     alloc: Global,
     file: &str,
@@ -254,7 +252,6 @@ fn summarize<W: Write>(
     print_summary(alloc, &summary, style, output)
 }
 
-// Prints a summary, and answers whether its parts ascend.
 pub(crate) fn print_summary<W: Write>(
     alloc: Global,
     summary: &Summary<'_>,
@@ -272,7 +269,6 @@ pub(crate) fn print_summary<W: Write>(
     }
 }
 
-// Prints what header and footer say in a line, and adds it to a tally.
 fn brief_of<W: Write>(
     alloc: Global,
     file: &str,
@@ -288,7 +284,7 @@ fn brief_of<W: Write>(
     print_brief(alloc, &brief, style, tally, output)
 }
 
-// Prints a brief report, adds it to a tally, and answers whether its parts ascend.
+// Prints a brief report and adds it to the tally.
 pub(crate) fn print_brief<W: Write>(
     alloc: Global,
     brief: &Brief<'_>,
@@ -308,7 +304,6 @@ pub(crate) fn print_brief<W: Write>(
     }
 }
 
-// Prints the findings of a file at a path, those of its name too if they are asked for.
 fn check<W: Write>(
     alloc: Global,
     file: &str,
@@ -334,7 +329,6 @@ fn check<W: Write>(
     }
 }
 
-// Prints what does not fit together if that is asked for, and answers whether that is nothing.
 fn fits_if<W: Write>(
     alloc: Global,
     deep: bool,
@@ -352,7 +346,6 @@ fn fits_if<W: Write>(
     }
 }
 
-// Whether there is no finding, or, if the check is not strict, none but notes.
 fn are_accepted(findings: &[FileFinding], strict: bool) -> bool
     ensures notes { IsTrue result → All IsFileNote findings.now }
     ensures none { IsTrue result → IsTrue strict → findings.now ≡ [] }
@@ -400,8 +393,7 @@ fn find<W: Write>(
     }
 }
 
-// Prints what a lookup found, and answers whether it found something. If it has found nothing, it
-// is printed without the name of a shard, or with its costs.
+// A report of nothing is printed only with costs, or without shards' names.
 pub(crate) fn print_lookup<W: Write>(
     alloc: Global,
     report: &FoundReport,
@@ -421,7 +413,6 @@ pub(crate) fn print_lookup<W: Write>(
     Ok(found)
 }
 
-// Looks for a run of chunks.
 fn query<W: Write>(
     alloc: Global,
     bytes: &[u8],
@@ -439,7 +430,7 @@ fn query<W: Write>(
     print_run(alloc, &report, layout, tally, output)
 }
 
-// Prints what a query found; if that is nothing, only without the name of a shard.
+// A report of nothing is printed only without shards' names.
 pub(crate) fn print_run<W: Write>(
     alloc: Global,
     report: &RunReport,
@@ -473,7 +464,6 @@ fn print_files<W: Write>(
     Ok(())
 }
 
-// Prints the xorbs of a shard, or their chunks.
 fn print_xorbs<W: Write>(
     alloc: Global,
     inquiry: &Inquiry,
@@ -490,7 +480,6 @@ fn print_xorbs<W: Write>(
     Ok(())
 }
 
-// Prints a xorb, or its chunks, as the inquiry asks.
 pub(crate) fn print_xorb<W: Write>(
     alloc: Global,
     inquiry: &Inquiry,

@@ -1,5 +1,4 @@
-//! What the program `mdb` says of shards: values with names, which print as text and as JSON, and
-//! faults in words.
+//! What `mdb` says of shards: values that print as text and as JSON, and faults in words.
 #![tactic(auto)]
 
 pub mod brief;

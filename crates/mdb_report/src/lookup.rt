@@ -23,14 +23,14 @@ use xet_core_structures::source::{MemorySource, ShardSource};
 /// What a lookup of a file found.
 #[derive(Drop, Serialize)]
 pub struct FoundReport {
-    /// The hash that was looked up.
+    /// The hash looked up.
     pub hash: Hex,
     pub found: Option<FileReport>,
     #[serde(skip_serializing_if = "Option::is_none")]
     pub costs: Option<Costs>,
 }
 
-/// The seeks of a lookup and the bytes that it read, those of header and footer not counted.
+/// A lookup's seeks and bytes read, without those of header and footer.
 #[derive(Clone, Copy, Serialize)]
 pub struct Costs {
     pub seeks: u64,
@@ -51,9 +51,9 @@ impl FoundReport {
         }
     }
 
-    /// Looks up a file in the bytes of a shard.
+    /// Looks up a file in a shard's bytes.
     ///
-    /// The errors are those of [`MDBShardInfo::load_from_reader`] and
+    /// Fails as [`MDBShardInfo::load_from_reader`] or
     /// [`MDBShardInfo::get_file_reconstruction_info`].
     pub fn of_lookup(
         alloc: Global,
@@ -69,9 +69,9 @@ impl FoundReport {
         FoundReport::in_source(alloc, &info, &mut source, hash, with_costs)
     }
 
-    /// Looks up a file in a source of a shard that has this header and footer.
+    /// Looks up a file in a source of a shard with this header and footer.
     ///
-    /// The errors are those of [`MDBShardInfo::get_file_reconstruction_info`], and `OutOfMemory`.
+    /// Fails as [`MDBShardInfo::get_file_reconstruction_info`], or with `OutOfMemory`.
     pub fn in_source<S: ShardSource>(
         alloc: Global,
         info: &MDBShardInfo,
@@ -97,7 +97,6 @@ impl FoundReport {
     }
 }
 
-// Looks up a file in a source, and counts the seeks and the bytes read.
 fn find_in<S: ShardSource>(
     alloc: Global,
     info: &MDBShardInfo,
@@ -144,7 +143,7 @@ pub struct RunReport {
     pub run: Option<Run>,
 }
 
-/// So many of the queried chunks, from the first on, that a xorb has one after another.
+/// How many queried chunks, from the first on, a xorb has in a row.
 #[derive(Drop, Serialize)]
 pub struct Run {
     pub chunks: usize,
@@ -152,9 +151,7 @@ pub struct Run {
 }
 
 impl RunReport {
-    /// Looks for a run of these chunks in the bytes of a shard.
-    ///
-    /// The errors are those of [`query_chunks`].
+    /// Looks for a run of these chunks in a shard's bytes. Fails as [`query_chunks`].
     pub fn of_query(alloc: Global, bytes: &[u8], hashes: &[MerkleHash]) -> Result<RunReport>
         ensures { MatchResult result (ReportsQuery bytes.now hashes.now)
             (RefusesQuery bytes.now hashes.now) }
@@ -162,9 +159,9 @@ impl RunReport {
         Ok(RunReport::of_answer(query_chunks(alloc, bytes, hashes)?))
     }
 
-    /// Looks for a run of these chunks in a source of a shard that has this header and footer.
+    /// Looks for a run of these chunks in a source of a shard with this header and footer.
     ///
-    /// The errors are those of [`MDBShardInfo::chunk_hash_dedup_query`].
+    /// Fails as [`MDBShardInfo::chunk_hash_dedup_query`].
     pub fn in_source<S: ShardSource>(
         alloc: Global,
         info: &MDBShardInfo,
@@ -180,7 +177,6 @@ impl RunReport {
         Ok(RunReport::of_answer(answer))
     }
 
-    // The report of what a query answers.
     fn of_answer(answer: Option<(usize, FileDataSequenceEntry)>) -> RunReport
         ensures { result.run ≡ option_map run_of answer }
     {

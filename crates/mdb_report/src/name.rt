@@ -1,4 +1,4 @@
-//! The name that a shard's file should have, by the hash of its bytes under a key.
+//! The name of a shard's file by its hash.
 
 use crate::inquiry::InquiryFault;
 use mdb_records::line::{Layout, print};
@@ -21,7 +21,7 @@ impl fmt::Display for NameReport<'_> {
     }
 }
 
-/// Prints the name that a file has by the hash of its bytes under a key.
+/// Prints a file's name by its hash under a key.
 pub(crate) fn print_name<W: Write>(
     alloc: Global,
     bytes: &[u8],

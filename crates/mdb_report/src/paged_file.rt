@@ -23,28 +23,26 @@ use xet_core_structures::error::CoreError;
 use xet_core_structures::merklehash::MerkleHash;
 use xet_core_structures::shard_format::MDBShardInfo;
 
-/// How often a lookup is begun again after it lacked a page: with what is read by then, no record
-/// is too long.
+/// How often a lookup is begun again: by then no record is too long.
 const ROUNDS: u32 = 512;
 
 /// The rounds in which one page is read.
 const SINGLE_ROUNDS: u32 = 16;
 
-/// The most pages that are read in a round, as a power of two.
+/// The most pages read in a round, as a power of two.
 const MOST_PAGES_LOG: u32 = 16;
 
 /// Why a call on the pages in memory has no answer.
 #[derive(Drop)]
 enum CallFault {
-    /// It lacks the page with this number.
+    /// It lacks this page.
     Lacks(usize),
-    /// It failed on the bytes that are there.
+    /// It failed on the bytes in memory.
     Failed(CoreError),
 }
 
-/// A file, and the pages of it that are in memory. Each call goes to them; where it lacks a page,
-/// the page is read and the call made again. So an answer is the same whatever bytes are in the
-/// rest of the file, which contracts call `unread`.
+/// A file and its pages in memory. A call that lacks a page is made again once it is read, so
+/// answers hold whatever the `unread` rest of the file is.
 #[derive(Drop)]
 pub struct PagedFile<F: Read + Seek + Drop> {
     file: F,
@@ -64,9 +62,8 @@ impl<F: Read + Seek + Drop> PagedFile<F> {
         })
     }
 
-    /// The header and the footer of the shard in the file. `InquiryFault::Ends` if the bytes have none,
-    /// `InquiryFault::Input` if the file is not read, `InquiryFault::TooManyRounds` if a page is still
-    /// lacking after all the rounds.
+    /// The shard's header and footer. `Ends` if the bytes have none; `Input` if the file can't be
+    /// read; `TooManyRounds` if a page is lacking after all rounds.
     pub fn load(&mut self, alloc: Global) -> Result<MDBShardInfo, InquiryFault>
         ghost unread: { ℕ → ℕ }
         ensures { MatchResult result (HasHeaderAndFooter (bytes_in unread self.new.pages))
@@ -82,10 +79,8 @@ impl<F: Read + Seek + Drop> PagedFile<F> {
         Err(InquiryFault::TooManyRounds)
     }
 
-    /// Looks up a file in the shard, which has this header and footer. It reports what was found only
-    /// where no read failed. `InquiryFault::Shard` with an error of the lookup, of the pages that are
-    /// in memory then; `InquiryFault::Input` if the file is not read, `InquiryFault::TooManyRounds` if
-    /// a page is still lacking after all the rounds.
+    /// Looks up a file in the shard with this header and footer. `Shard` if the lookup fails on the
+    /// pages in memory; `Input` and `TooManyRounds` as for `load`.
     pub fn find(
         &mut self,
         alloc: Global,
@@ -107,8 +102,7 @@ impl<F: Read + Seek + Drop> PagedFile<F> {
         Err(InquiryFault::TooManyRounds)
     }
 
-    /// Looks up a xorb in the shard, which has this header and footer. The errors are those of
-    /// `find`.
+    /// As `find`, but looks up a xorb.
     pub fn find_xorb(
         &mut self,
         alloc: Global,
@@ -131,8 +125,7 @@ impl<F: Read + Seek + Drop> PagedFile<F> {
         Err(InquiryFault::TooManyRounds)
     }
 
-    /// Looks for a run of chunks in the shard, which has this header and footer. The errors are
-    /// those of `find`.
+    /// As `find`, but looks for a run of chunks.
     pub fn query(
         &mut self,
         alloc: Global,
@@ -154,7 +147,7 @@ impl<F: Read + Seek + Drop> PagedFile<F> {
         Err(InquiryFault::TooManyRounds)
     }
 
-    /// The file from an offset on, to be read to its end. `InquiryFault::Input` if it cannot be sought.
+    /// The file from an offset on. `Input` if it cannot be sought.
     pub fn reader_at(self, offset: u64) -> Result<F, InquiryFault>
         ensures bytes { IfOk result (λ file. Keeps (F.stream_bytes self.file) (F.stream_bytes file)) }
         ensures moved { IfOk result (λ file. IfSome (F.stream_position self.file)
@@ -168,8 +161,7 @@ impl<F: Read + Seek + Drop> PagedFile<F> {
         }
     }
 
-    // Reads pages, from the one that a call lacked on: one in each of the first rounds, then twice
-    // as many in each round, so that a long record takes few rounds.
+    // Reads one page in each of the first rounds, then twice as many in each, for long records.
     fn read_from(&mut self, alloc: Global, first: usize, round: u32) -> Result<(), InquiryFault>
         ensures { IfErr result (λ fault. (e : DeviceError) × (fault ≡ InquiryFault.Input e)) }
     {
@@ -186,7 +178,7 @@ impl<F: Read + Seek + Drop> PagedFile<F> {
         Ok(())
     }
 
-    // Reads a page; nothing past the end.
+    // Reads nothing past the end.
     fn read_page(&mut self, alloc: Global, number: usize) -> io::Result<()> {
         let start = (number as u64).saturating_mul(PAGE_SIZE as u64);
         let left = self.pages.size().saturating_sub(start);
@@ -204,7 +196,6 @@ impl<F: Read + Seek + Drop> PagedFile<F> {
     }
 }
 
-// Header and footer, from the pages in memory.
 fn load_in_pages<U: Unread>(alloc: Global, pages: &Pages) -> Result<MDBShardInfo, CallFault>
     ensures { MatchResult result (HasHeaderAndFooter (bytes_in U.bytes pages.now))
         (IsCallFault (LoadRefusal (bytes_in U.bytes pages.now))) }
@@ -220,7 +211,6 @@ fn load_in_pages<U: Unread>(alloc: Global, pages: &Pages) -> Result<MDBShardInfo
     }
 }
 
-// Looks up a file in the pages in memory.
 fn find_in_pages<U: Unread>(
     alloc: Global,
     pages: &Pages,
@@ -242,7 +232,6 @@ fn find_in_pages<U: Unread>(
     }
 }
 
-// Looks for a run of chunks in the pages in memory.
 fn query_in_pages<U: Unread>(
     alloc: Global,
     pages: &Pages,

@@ -1,4 +1,4 @@
-//! Answering about a shard in a regular file, of which only the needed pages are read.
+//! Answers about a shard in a file of which only the needed pages are read.
 
 ghost use Rattle.std.specs.Prelude.{◌≡◌, ◌≢◌, IfOk, IfSome};
 ghost use Rattle.mdb_report.specs.InquiryAnswers.{IsCheck, LooksUp};
@@ -21,11 +21,12 @@ use xet_core_structures::merklehash::MerkleHash;
 use xet_core_structures::record_reader::FormatVersion;
 use xet_core_structures::shard_format::MDBShardInfo;
 
-/// Prints the answer of the shard in a file of so many bytes, as `print_answer` does. Lookups read
-/// the pages that they need, and records are printed as they are read, also those before one that
-/// cannot be read. `None`, with nothing printed, if all of the file is to be read: for a check, for
-/// the chunks of the global index, and for a lookup without the rows of its table. A section whose
-/// offset is past the end of the file ends there, before its bookend.
+/// As `print_answer`, but of a file of so many bytes: lookups read the pages that they need, and
+/// records are printed as they are read, also those before one that can't be.
+///
+/// `None`, with nothing printed, if all of the file is to be read: for a check, a name, the global
+/// index, or a lookup whose table has no rows. A section that starts past the file's end lacks its
+/// bookend.
 pub fn print_paged_answer<F: Read + Seek + Drop, W: Write>(
     alloc: Global,
     inquiry: &Inquiry,
@@ -131,7 +132,6 @@ fn find_xorbs<F: Read + Seek + Drop, W: Write>(
     }
 }
 
-// Prints the files of a section as they are read.
 fn list_files<F: Read + Drop, W: Write>(
     alloc: Global,
     file: F,
@@ -158,7 +158,6 @@ fn list_files<F: Read + Drop, W: Write>(
     Ok(())
 }
 
-// Prints the xorbs of a section, or their chunks, as they are read.
 fn list_xorbs<F: Read + Drop, W: Write>(
     alloc: Global,
     file: F,

@@ -11,20 +11,19 @@ use std::marker::{Brand, PhantomData};
 use xet_core_structures::count::Count;
 use xet_core_structures::source::ShardSource;
 
-/// The bytes of a file that are not in memory, for contracts alone. They may be any, so what is
-/// proved of an answer does not rest on them.
+/// The bytes of a file that are not in memory, for contracts alone; they may be any.
 pub trait Unread {
     /// The byte at each place.
     ghost bytes: { ℕ → ℕ };
 }
 
-// A placeholder: the contract of each call holds for any bytes in its place.
+// A placeholder, since contracts hold for any bytes.
 impl Unread for Brand {
     ghost bytes = { λ _. 0 };
 }
 
-/// A source of bytes of which some pages are in memory. A read elsewhere fails, and
-/// `missing_page` is then the number of the page that has to be read first.
+/// A source with some pages in memory. A read elsewhere fails, and `missing_page` is then the page
+/// to read first.
 #[derive(Drop)]
 pub struct PagedSource<'a, U: Unread> {
     pages: &'a Pages,
@@ -80,10 +79,8 @@ impl<'a, U: Unread> ShardSource for PagedSource<'a, U> {
             (⟦<PagedSource<'a, U> as ShardSource>⟧.meaning self.new) slice.new)
             (Fails (⟦<PagedSource<'a, U> as ShardSource>⟧.meaning self.old)
             (⟦<PagedSource<'a, U> as ShardSource>⟧.meaning self.new) 0) }
-        // bytes are given only from a page that is in memory
         ensures there { IfOk result
             (λ n. 0 < n → has_page self.old.pages.now (self.old.at / 16384) ≡ true) }
-        // a read fails only for a page that is not, which is then the missing one
         ensures lacks { IfErr result
             (λ _. has_page self.old.pages.now (self.old.at / 16384) ≡ false) }
         ensures missing { IfErr result (λ _. self.new.missing ≡ Some (self.old.at / 16384)) }

@@ -7,7 +7,7 @@ use std::alloc::{AllocError, Global};
 /// The bytes of a page.
 pub const PAGE_SIZE: usize = 16384;
 
-/// A page that is in memory.
+/// A page in memory.
 #[derive(Drop)]
 pub struct Page {
     bytes: Vec<u8>,
@@ -66,7 +66,7 @@ impl Pages {
 }
 
 impl Page {
-    /// A page of these bytes, or none if they are not as many as a page has.
+    /// A page of these bytes; `None` if they are not 16384.
     pub fn of_bytes(bytes: Vec<u8>) -> Option<Page>
         ensures { is_some result ≡ nat_eq (length bytes.items) 16384 }
     {
@@ -77,8 +77,7 @@ impl Page {
         }
     }
 
-    // Copies bytes from an offset on into a slice, as many as there are, but at most so many, and
-    // returns how many.
+    // Copies at most `most` bytes from an offset on, and returns how many.
     pub(crate) fn copy_from(&self, from: usize, most: u64, slice: &mut [u8]) -> usize
         requires { from < 16384 }
         ensures fits { result ≤ length slice.old }

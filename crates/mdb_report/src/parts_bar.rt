@@ -9,7 +9,7 @@ use std::alloc::{AllocError, Global};
 use std::fmt;
 use xet_core_structures::shard_format::MDBShardInfo;
 
-/// The bytes of a part: offsets from the start of the shard, the end excluded.
+/// The offsets of a part in its shard, the end excluded.
 #[derive(Clone, Copy, Serialize)]
 pub struct PartRange {
     pub start: u64,
@@ -23,7 +23,7 @@ impl fmt::Display for PartRange {
     }
 }
 
-/// The bytes of a table and its rows.
+/// A table's bytes and rows.
 #[derive(Clone, Copy, Serialize)]
 pub struct TablePart {
     pub start: u64,
@@ -38,7 +38,7 @@ impl fmt::Display for TablePart {
     }
 }
 
-/// The parts of a shard as its footer has them; each ends where the next one starts.
+/// A shard's parts by its footer; each ends where the next starts.
 #[derive(Clone, Copy, Serialize)]
 pub struct Parts {
     pub header: PartRange,
@@ -51,7 +51,7 @@ pub struct Parts {
 }
 
 impl Parts {
-    /// The parts of a shard of so many bytes that has this footer.
+    /// The parts of a shard of so many bytes with this footer.
     pub fn of_shard(info: &MDBShardInfo, bytes: u64) -> Parts
         ensures { ArePartsOf info.now bytes result }
     {
@@ -103,7 +103,6 @@ impl Parts {
             && self.chunk_table.end <= self.footer.end
     }
 
-    /// The letter of the part in which a byte is.
     fn letter_at(&self, offset: u64) -> char
         ensures letter { result ≡ letter_of self.now offset }
         ensures ascii { result < 128 }
@@ -128,8 +127,7 @@ const COLUMNS: u64 = 60;
 /// What the letters of a bar stand for.
 pub const LEGEND: &str = "H header  F files  X xorbs  T tables  E footer";
 
-/// A bar of the parts of a shard of so many bytes, 60 columns wide: column k has the letter of the
-/// part in which byte k * bytes / 60 is.
+/// A bar of a shard's parts: column k of 60 has the letter of the part with byte k * bytes / 60.
 pub fn bar_of(alloc: Global, parts: &Parts, bytes: u64) -> Result<String, AllocError>
     ensures { IfOk result (λ bar. string_bytes bar ≡ columns parts.now bytes 60) }
 {

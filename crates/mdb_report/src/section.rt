@@ -1,4 +1,4 @@
-//! A section that is read from a file, one record after another.
+//! A section that is read from a file, record by record.
 
 ghost use Rattle.std.specs.Prelude.{◌≡◌, IfOk, IfSome, MatchResult};
 ghost use Rattle.xet_core_structures.specs.FileRecord.{FitsItsHeader, file_records};
@@ -15,7 +15,7 @@ use xet_core_structures::record_reader::{FormatVersion, SectionRecord, read_reco
 use xet_core_structures::rows::ROW_LIMIT;
 use xet_core_structures::xorb_structs::MDBXorbInfo;
 
-/// A section of a shard, of which no more than a record is in memory.
+/// A section with at most one record in memory.
 #[derive(Drop)]
 pub struct SectionReader<R: Read + Drop> {
     reader: R,
@@ -25,7 +25,7 @@ pub struct SectionReader<R: Read + Drop> {
 }
 
 impl<R: Read + Drop> SectionReader<R> {
-    /// The section that a reader has next, in a version of the format.
+    /// The section that comes next in a reader.
     pub fn new(reader: R, version: FormatVersion) -> SectionReader<R>
         ensures reader { result.reader ≡ reader }
         ensures version { result.version ≡ version }
@@ -38,11 +38,10 @@ impl<R: Read + Drop> SectionReader<R> {
         }
     }
 
-    /// The next file of a file section, or `None` at its bookend.
+    /// The next file, or `None` at the bookend.
     ///
-    /// `UnexpectedEof` if the reader ends before, `InvalidShard` if the version does not have the
-    /// file's header or the rows pass 4294967295. May fail with `OutOfMemory`. Any other error is
-    /// the reader's.
+    /// `UnexpectedEof` if the reader ends before; `InvalidShard` if the version lacks the file's
+    /// header or the rows pass 4294967295; `OutOfMemory`; else the reader's error.
     pub fn next_file(&mut self, alloc: Global) -> Result<Option<MDBFileInfo>>
         ensures read { MatchResult result
             (ReadsNext file_records R.remaining self.old.version self.old.rows_left self.old.reader
@@ -55,8 +54,7 @@ impl<R: Read + Drop> SectionReader<R> {
         self.next::<MDBFileInfo>(alloc)
     }
 
-    /// The next xorb of a xorb section, or `None` at its bookend. The errors are those of
-    /// `next_file`.
+    /// The next xorb, or `None` at the bookend. Fails as `next_file`.
     pub fn next_xorb(&mut self, alloc: Global) -> Result<Option<MDBXorbInfo>>
         ensures read { MatchResult result
             (ReadsNext xorb_records R.remaining self.old.version self.old.rows_left self.old.reader
@@ -69,7 +67,6 @@ impl<R: Read + Drop> SectionReader<R> {
         self.next::<MDBXorbInfo>(alloc)
     }
 
-    // The next record, or `None` at the bookend.
     fn next<T: SectionRecord>(&mut self, alloc: Global) -> Result<Option<T>>
         ensures read { MatchResult result
             (ReadsNext T.kind R.remaining self.old.version self.old.rows_left self.old.reader

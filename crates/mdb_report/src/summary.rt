@@ -1,4 +1,4 @@
-//! What a shard's header and footer say.
+//! The summary of a shard.
 
 ghost use Rattle.std.specs.Prelude.{◌≡◌, ◌⊎◌, length, IfOk, MatchResult};
 ghost use Rattle.xet_core_structures.specs.declared.error.CoreError.{CoreError};
@@ -22,29 +22,27 @@ use xet_core_structures::shard_format::MDBShardInfo;
 /// What a shard's header and footer say.
 #[derive(Drop, Serialize)]
 pub struct Summary<'a> {
-    /// The name of the shard's file.
+    /// The file's name.
     pub shard: &'a str,
     pub bytes: u64,
     pub version: u64,
-    /// Whether the offsets of the footer ascend within the file.
+    /// Whether the footer's offsets ascend within the file.
     pub ascends: bool,
     pub parts: Parts,
     pub key: Option<Hex>,
     pub created: Moment,
     pub expires: Moment,
-    /// The bytes of the xorbs, unpacked.
+    /// The xorbs' bytes, unpacked.
     pub stored_bytes: u64,
-    /// The bytes of the xorbs, as they are stored.
+    /// The xorbs' bytes, as stored.
     pub stored_bytes_on_disk: u64,
-    /// The bytes of the files.
+    /// The files' bytes.
     pub materialized_bytes: u64,
     pub bar: String,
 }
 
 impl<'a> Summary<'a> {
-    /// The summary of the shard with these bytes.
-    ///
-    /// The errors are those of [`load_bytes`], and `OutOfMemory`.
+    /// The summary of the shard in these bytes. Fails as [`load_bytes`], or with `OutOfMemory`.
     pub fn of_bytes(alloc: Global, file: &'a str, bytes: &[u8]) -> Result<Summary<'a>>
         ensures { MatchResult result
             (λ summary. (info : Info) × HasHeaderAndFooter bytes.now info
@@ -55,8 +53,7 @@ impl<'a> Summary<'a> {
         Ok(Summary::of_info(alloc, file, &info, bytes.len() as u64)?)
     }
 
-    /// The summary of a shard of so many bytes that has this header and footer. It fails only if
-    /// memory is lacking.
+    /// The summary of a shard of so many bytes with this header and footer.
     pub fn of_info(
         alloc: Global,
         file: &'a str,
@@ -84,7 +81,6 @@ impl<'a> Summary<'a> {
     }
 }
 
-// The key of the chunk hashes, if they have one.
 pub(crate) fn key_of(info: &MDBShardInfo) -> Option<Hex>
     ensures { result ≡ key_in info.now }
 {
@@ -125,7 +121,6 @@ impl fmt::Display for Summary<'_> {
     }
 }
 
-// A line for each part, behind another line.
 #[derive(Drop)]
 struct PartLines<'a>(&'a Parts);
 

@@ -1,4 +1,4 @@
-//! Whether a shard has the tables by which lookups find its records.
+//! Whether a shard has the tables for lookups.
 
 ghost use Rattle.std.specs.Prelude.{◌≡◌, true, false, All, IfOk, IfErr};
 ghost use Rattle.mdb_report.specs.FileReports.{FilesNotRead};
@@ -31,10 +31,9 @@ impl fmt::Display for Table {
     }
 }
 
-/// Whether the bytes of a shard have files, but no rows in the file table, by which they would be
-/// found.
+/// Whether a shard has files, but no rows in its file table.
 ///
-/// The errors are those of [`load_bytes`] and of reading the file section.
+/// Fails as [`load_bytes`], or as reading the file section.
 pub fn lacks_file_table(alloc: Global, bytes: &[u8]) -> Result<bool>
     ensures lacks { IfOk result (λ lacks. lacks ≡ true → LacksFileTable bytes.now) }
     ensures has { IfOk result (λ lacks. lacks ≡ false → HasFileTable bytes.now) }
@@ -48,10 +47,9 @@ pub fn lacks_file_table(alloc: Global, bytes: &[u8]) -> Result<bool>
     Ok(!files.is_empty())
 }
 
-/// Whether the bytes of a shard have chunks, but no rows in the chunk table, by which they would be
-/// found.
+/// Whether a shard has chunks, but no rows in its chunk table.
 ///
-/// The errors are those of [`load_bytes`] and of reading the xorb section.
+/// Fails as [`load_bytes`], or as reading the xorb section.
 pub fn lacks_chunk_table(alloc: Global, bytes: &[u8]) -> Result<bool>
     ensures lacks { IfOk result (λ lacks. lacks ≡ true → LacksChunkTable bytes.now) }
     ensures has { IfOk result (λ lacks. lacks ≡ false → HasChunkTable bytes.now) }
@@ -66,7 +64,6 @@ pub fn lacks_chunk_table(alloc: Global, bytes: &[u8]) -> Result<bool>
     Ok(any_has_chunks(xorbs.as_slice()))
 }
 
-// Whether one of these headers announces chunks.
 fn any_has_chunks(xorbs: &[(XorbChunkSequenceHeader, u64)]) -> bool
     ensures some { result ≡ true → HaveChunks xorbs.now }
     ensures none { result ≡ false → All HasNoChunks xorbs.now }

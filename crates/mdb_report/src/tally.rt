@@ -1,4 +1,4 @@
-//! Tallies: totals, and the hashes found so far, while a command goes through shards.
+//! Tallies of commands that go through shards.
 
 ghost use Rattle.std.specs.Prelude.{◌≡◌, ◌↔◌, [], ◌∷◌, ◌++◌, Contains, IsTrue, OnOk};
 
@@ -6,18 +6,18 @@ use crate::brief::Total;
 use std::alloc::{AllocError, Global};
 use xet_core_structures::merklehash::MerkleHash;
 
-/// What was found in the shards that were asked so far.
+/// What was found in the shards so far.
 #[derive(Drop)]
 pub struct Tally {
-    /// The sums over the shards that were asked for a line.
+    /// The sums over the shards printed in a line.
     pub total: Total,
-    /// The hashes of the files that were found.
+    /// The hashes of the files or xorbs found.
     pub found: Vec<MerkleHash>,
     /// Whether a run of chunks was found.
     pub has_run: bool,
-    /// The number of shards in which a check found something.
+    /// How many shards a check found something in.
     pub with_findings: u64,
-    /// The number of shards that could not be read.
+    /// How many shards could not be read.
     pub unreadable: u64,
 }
 
@@ -35,7 +35,7 @@ impl Tally {
         }
     }
 
-    /// Adds the hash of a file that was found. It fails only if memory is lacking.
+    /// Adds the hash of a file or xorb that was found.
     pub fn add_found(&mut self, hash: MerkleHash) -> Result<(), AllocError>
         ensures { OnOk result (self.new.found.items ≡ self.old.found.items ++ hash ∷ []) }
     {
@@ -43,7 +43,7 @@ impl Tally {
         Ok(())
     }
 
-    /// Whether the file with this hash was found.
+    /// Whether this hash was found.
     pub fn has_found(&self, hash: &MerkleHash) -> bool
         ensures { IsTrue result ↔ Contains self.now.found.items hash.now }
     {

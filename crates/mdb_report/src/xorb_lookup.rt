@@ -16,7 +16,7 @@ use xet_core_structures::xorb_structs::MDBXorbInfo;
 /// What a lookup of a xorb found.
 #[derive(Drop, Serialize)]
 pub struct FoundXorb {
-    /// The hash that was looked up.
+    /// The hash looked up.
     pub hash: Hex,
     pub found: Option<XorbReport>,
 }
@@ -33,9 +33,8 @@ impl FoundXorb {
         }
     }
 
-    /// Looks up a xorb in the bytes of a shard.
-    ///
-    /// The errors are those of [`MDBShardInfo::load_from_reader`] and of `in_source`.
+    /// Looks up a xorb in a shard's bytes. Fails as [`MDBShardInfo::load_from_reader`] or
+    /// `in_source`.
     pub fn of_lookup(alloc: Global, bytes: &[u8], hash: MerkleHash) -> Result<FoundXorb>
         ensures { IfOk result (λ report. report.hash.0 ≡ hash) }
     {
@@ -44,10 +43,9 @@ impl FoundXorb {
         FoundXorb::in_source(alloc, &info, &mut source, hash)
     }
 
-    /// Looks up a xorb in a source of a shard that has this header and footer.
+    /// Looks up a xorb in a source of a shard with this header and footer.
     ///
-    /// The errors are those of [`MDBShardInfo::get_xorb_info_index_by_hash`] and
-    /// [`MDBShardInfo::read_xorb_info`].
+    /// Fails as [`MDBShardInfo::get_xorb_info_index_by_hash`] or [`MDBShardInfo::read_xorb_info`].
     pub fn in_source<S: ShardSource>(
         alloc: Global,
         info: &MDBShardInfo,
@@ -67,7 +65,6 @@ impl FoundXorb {
     }
 }
 
-// The xorb with a hash, among the rows of the xorb table that have its first word.
 fn find_xorb<S: ShardSource>(
     alloc: Global,
     info: &MDBShardInfo,
@@ -87,9 +84,9 @@ fn find_xorb<S: ShardSource>(
     Ok(None)
 }
 
-/// Whether the bytes of a shard have xorbs, but no xorb table, so that lookups would miss them.
+/// Whether a shard has xorbs, but no rows in its xorb table.
 ///
-/// The errors are those of [`MDBShardInfo::load_from_reader`] and of reading the xorb section.
+/// Fails as [`MDBShardInfo::load_from_reader`], or as reading the xorb section.
 pub fn lacks_xorb_table(alloc: Global, bytes: &[u8]) -> Result<bool> {
     let mut source = MemorySource::new(bytes);
     let info = MDBShardInfo::load_from_reader(alloc, &mut source)?;

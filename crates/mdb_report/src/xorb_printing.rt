@@ -1,4 +1,4 @@
-//! Looking xorbs up in a shard, and printing what is found.
+//! Looking up xorbs, and printing what is found.
 
 ghost use Rattle.std.specs.Prelude.{◌≡◌, ◌≢◌, IfOk, is_some};
 
@@ -12,7 +12,7 @@ use std::io;
 use std::io::Write;
 use xet_core_structures::merklehash::MerkleHash;
 
-/// Looks xorbs up in the bytes of a shard.
+/// Looks up xorbs in a shard's bytes.
 pub(crate) fn find_xorbs<W: Write>(
     alloc: Global,
     bytes: &[u8],
@@ -38,8 +38,7 @@ pub(crate) fn find_xorbs<W: Write>(
     }
 }
 
-/// Prints what a lookup found, and answers whether it found something. If it has found nothing, it
-/// is printed only without the name of a shard.
+/// A report of nothing is printed only without shards' names.
 pub(crate) fn print_xorb_lookup<W: Write>(
     alloc: Global,
     report: &FoundXorb,
@@ -59,7 +58,7 @@ pub(crate) fn print_xorb_lookup<W: Write>(
     Ok(found)
 }
 
-/// Reports each hash under which no shard has a xorb.
+/// Reports the hashes that no xorb has.
 pub(crate) fn print_lacking<W: Write>(
     alloc: Global,
     hashes: &[MerkleHash],

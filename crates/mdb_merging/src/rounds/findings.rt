@@ -1,4 +1,4 @@
-//! What the rounds of a merge find: records that no shard may have, and records that do not agree.
+//! What the rounds of a merge find.
 
 ghost use Rattle.std.specs.Prelude.{◌≡◌, ◌<◌, ◌≤◌, ◌↔◌, None, IsTrue, MatchOption};
 
@@ -9,12 +9,12 @@ use placed_shards::selection::Selection;
 use std::alloc::Global;
 use xet_core_structures::error::Result;
 
-/// What was found in the rounds so far.
+/// Records found so far that no shard may have, or that differ.
 #[derive(Clone, Copy)]
 pub struct Findings {
-    /// A record that no shard may have, of the first shard that has one.
+    /// That of the first shard with one.
     malformed: Option<MalformedRecord>,
-    /// The first hash under which two shards have records that do not agree.
+    /// The first hash under which records differ.
     differing: Option<Disagreement>,
     /// How many such hashes there are.
     count: usize,
@@ -37,7 +37,7 @@ impl Findings {
         self.malformed.is_none() && self.differing.is_none()
     }
 
-    /// Adds what is found in the parts of the shards that a round merges.
+    /// Adds what is found in a round's parts.
     pub fn add(&mut self, alloc: Global, inputs: &[&[u8]]) -> Result<()> {
         if let Some(found) = find_malformed(alloc, inputs, &Selection::ALL)? {
             self.malformed = Some(first_of(self.malformed, found));
@@ -47,7 +47,7 @@ impl Findings {
         Ok(())
     }
 
-    /// Adds the records that do not agree in the parts of the shards that a round merges.
+    /// Adds the records that differ in a round's parts.
     pub fn add_disagreements(&mut self, found: &[Disagreement]) {
         self.count = self.count.saturating_add(found.len());
         if self.differing.is_none() {
@@ -55,7 +55,7 @@ impl Findings {
         }
     }
 
-    /// The first of the files that has a record which no shard may have, and the record.
+    /// The failure of the first file with a record that no shard may have, if any.
     pub fn malformed_failure<'a>(&self, files: &[&'a str]) -> Option<Failure<'a>> {
         match &self.malformed {
             Some(record) => Some(failure_on_malformed(files, record)),
@@ -63,7 +63,7 @@ impl Findings {
         }
     }
 
-    /// What differs in the records of the files.
+    /// The failure of files whose records differ, if any.
     pub fn disagreement_failure<'a>(&self, files: &[&'a str]) -> Option<Failure<'a>> {
         match &self.differing {
             Some(first) => Some(disagreement_under(files, first, self.count)),
@@ -72,7 +72,6 @@ impl Findings {
     }
 }
 
-// The record that was found earlier, unless the other is of a shard before its.
 fn first_of(earlier: Option<MalformedRecord>, found: MalformedRecord) -> MalformedRecord
     ensures { MatchOption earlier (result ≡ found)
         (λ e. (e.input ≤ found.input → result ≡ e) × (found.input < e.input → result ≡ found)) }

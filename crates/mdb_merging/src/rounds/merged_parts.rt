@@ -1,4 +1,4 @@
-//! The rounds of a merge: the next records of all shards, and their union.
+//! The rounds of a merge.
 
 ghost use Rattle.std.specs.Prelude.{map};
 ghost use Rattle.mdb_base.specs.Expiries.{shard_expiry, IsEarliest};
@@ -30,11 +30,10 @@ use std::rt::Files;
 use xet_core_structures::error::CoreError;
 use xet_core_structures::merklehash::MerkleHash;
 
-/// A round reads a quarter of the memory for a merge: the union, and the places of the records, take
-/// the rest.
+/// A round reads a quarter of the memory; the union and the places of records take the rest.
 const MEMORY_PARTS: u64 = 4;
 
-/// The least bytes of a shard that are read in a round.
+/// The least bytes of a shard read in a round.
 const LEAST_READ: u64 = 4096;
 
 /// A merge of which parts are written.
@@ -42,21 +41,20 @@ const LEAST_READ: u64 = 4096;
 struct Rounds<'a, F: Read + Write + Seek + Drop> {
     files: Vec<&'a str>,
     merge: Merge<'a>,
-    /// How many bytes of all shards are read in a round.
+    /// The bytes read in a round.
     room: u64,
-    /// The bytes of all sections.
     total_bytes: u64,
-    /// The bytes of the sections after the one that is merged.
+    /// The bytes of the sections after the merged one.
     later_bytes: u64,
     findings: Findings,
-    /// Whether the shards have one key. Without, only what differs is looked for.
+    /// Without, only what differs is looked for.
     has_one_key: bool,
-    /// Why the merge fails at its end, if nothing else makes it fail before.
+    /// Why the merge fails at its end, if not before.
     key_failure: Option<Failure<'a>>,
     assembly: Assembly<F>,
 }
 
-/// Writes the merge of shards in about so many bytes of memory, and returns its file.
+/// Writes the merge of shards in about `memory` bytes, and returns its file.
 pub fn merge_parts<'a, R: Host, F: Read + Write + Seek + Drop>(
     rt: &R,
     shards: &[ShardFile<'a>],
@@ -119,7 +117,6 @@ impl<'a, F: Read + Write + Seek + Drop> Rounds<'a, F> {
         }
     }
 
-    // Merges the next records of all shards.
     fn merge_round<R: Files + Input + Eprint + AllocGlobal>(
         &mut self,
         rt: &R,
@@ -140,7 +137,6 @@ impl<'a, F: Read + Write + Seek + Drop> Rounds<'a, F> {
         self.merge_inputs(rt, section, inputs.as_slice())
     }
 
-    // Merges the parts of all shards and writes their union, unless it is known that the merge fails.
     fn merge_inputs<R: Files + Input + AllocGlobal>(
         &mut self,
         rt: &R,
@@ -169,13 +165,12 @@ impl<'a, F: Read + Write + Seek + Drop> Rounds<'a, F> {
         }
     }
 
-    // Whether it is known that the merge fails, so that only what differs is looked for.
+    // Whether the merge is known to fail, so that only what differs is looked for.
     fn fails(&self) -> bool {
         let strict = matches!(self.merge.strictness, Strictness::Strict);
         !self.has_one_key || (strict && !self.findings.is_empty())
     }
 
-    // Adds what is found in the parts of all shards.
     fn add_findings<R: Files + Input + AllocGlobal>(
         &mut self,
         rt: &R,
@@ -187,8 +182,6 @@ impl<'a, F: Read + Write + Seek + Drop> Rounds<'a, F> {
         }
     }
 
-    // Merges parts of all shards in which something was found, and writes their union, unless that is
-    // a failure.
     fn merge_differing<R: Files + Input + AllocGlobal>(
         &mut self,
         rt: &R,
@@ -209,8 +202,7 @@ impl<'a, F: Read + Write + Seek + Drop> Rounds<'a, F> {
         }
     }
 
-    // What becomes of the merge if parts of all shards have no union. That the version lacks a file
-    // is a failure at the end, if nothing else makes the merge fail before.
+    // That the version lacks a file is a failure only at the end.
     fn merge_failure<R: Files + Input + AllocGlobal>(
         &mut self,
         rt: &R,
@@ -225,7 +217,6 @@ impl<'a, F: Read + Write + Seek + Drop> Rounds<'a, F> {
         Err(self.read_failure(rt, inputs, error))
     }
 
-    // Writes a part of the merge, unless it is known that the merge fails.
     fn write_part(&mut self, section: Section, mut part: Vec<u8>) -> Result<(), Failure<'a>> {
         if self.key_failure.is_some() {
             return Ok(());
@@ -236,8 +227,7 @@ impl<'a, F: Read + Write + Seek + Drop> Rounds<'a, F> {
         }
     }
 
-    // The failure of parts of the shards that can't be read or have no union: that of the first
-    // file that can't be read, or whose footer is wrong, else of the parts together.
+    // On the first file that can't be read, or with a wrong footer, else on the parts together.
     fn read_failure<R: Files + Input + AllocGlobal>(
         &self,
         rt: &R,
@@ -254,7 +244,6 @@ impl<'a, F: Read + Write + Seek + Drop> Rounds<'a, F> {
         }
     }
 
-    // The failure of a part that can't be written.
     fn write_failure(&self, error: CoreError) -> Failure<'a> {
         match error {
             CoreError::Io(error) => Failure::on_target(self.merge.target.path, Fault::from(error)),
@@ -263,7 +252,6 @@ impl<'a, F: Read + Write + Seek + Drop> Rounds<'a, F> {
         }
     }
 
-    // Writes the tables, after what was found is reported, or is a failure.
     fn finish<R: Eprint>(
         self,
         rt: &R,
@@ -284,7 +272,6 @@ impl<'a, F: Read + Write + Seek + Drop> Rounds<'a, F> {
         self.write_tables(shards, memory)
     }
 
-    // Writes the tables and the footer.
     fn write_tables(self, shards: &[ShardFile<'a>], memory: u64) -> Result<F, Failure<'a>> {
         let Rounds {
             files,
@@ -318,7 +305,6 @@ impl<'a, F: Read + Write + Seek + Drop> Rounds<'a, F> {
     }
 }
 
-// The earliest of the expiries of some shards.
 fn earliest_of(shards: &[ShardFile<'_>]) -> Option<u64>
     ensures { IsEarliest (map (λ s. shard_expiry s.info) shards.now) result }
 {
@@ -329,8 +315,7 @@ fn earliest_of(shards: &[ShardFile<'_>]) -> Option<u64>
     found
 }
 
-// The failure of shards under different keys, or `None` if they have one. Only a strict merge looks
-// for what differs before it fails.
+// Only a strict merge looks for what differs before it fails.
 fn other_key<'a, R: Files + Input + AllocGlobal>(
     rt: &R,
     files: &[&'a str],
@@ -390,8 +375,7 @@ fn all_ended(cursors: &[Cursor<'_>]) -> bool {
     true
 }
 
-// The next records of each shard, as shards, up to the least of the last hashes that are read. About
-// `room` bytes are read.
+// The next records of each shard up to the least of the last hashes read, in about `room` bytes.
 fn next_parts<'a, R: Files + AllocGlobal>(
     rt: &R,
     cursors: &mut [Cursor<'a>],
@@ -400,8 +384,8 @@ fn next_parts<'a, R: Files + AllocGlobal>(
     let mut blocks = Vec::new(rt.alloc());
     // Each shard's share of the room, so that all would end in the same round.
     let rounds = share_of(bytes_left(cursors), room).saturating_add(1);
-    // Records are not spread evenly: of many shards some share ends early, and would be the limit of
-    // all. So each is read up to one hash, in up to as much room again.
+    // Of many shards some share ends early and would limit all, so each is read up to one hash, in
+    // up to as much room again.
     let goal = goal_of(cursors, rounds);
     let mut extra = room;
     let mut limit = None;
@@ -423,7 +407,7 @@ fn next_parts<'a, R: Files + AllocGlobal>(
     Ok(parts)
 }
 
-// The hash up to which a round would read if the hashes were spread evenly over those to come.
+// The hash that a round would reach if hashes were spread evenly.
 fn goal_of(cursors: &[Cursor<'_>], rounds: u64) -> MerkleHash {
     let mut first: u64 = 0;
     for cursor in cursors {
@@ -435,7 +419,7 @@ fn goal_of(cursors: &[Cursor<'_>], rounds: u64) -> MerkleHash {
     MerkleHash::from([word, 0, 0, 0])
 }
 
-// The lesser of a hash and the last one of a block, unless no record comes after the block.
+// A block that ends its section sets no limit.
 fn lesser_limit(limit: Option<MerkleHash>, mark: &Mark) -> Option<MerkleHash> {
     if mark.ended {
         return limit;
