@@ -48,7 +48,7 @@ impl Counts {
         }
     }
 
-    /// Adds a footer's sums of bytes. `InvalidShard` exactly if one passes 64 bits.
+    /// The counts with a footer's sums of bytes. `InvalidShard` exactly if one passes 64 bits.
     pub fn with_sums(&self, alloc: Global, footer: &MDBShardFileFooter) -> Result<Counts>
         ensures { MatchResult result (AddsSums footer.now self.now)
             (λ e. IsInvalidShard e × (FitSums footer.now self.now → ⊥)) }

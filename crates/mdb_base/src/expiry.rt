@@ -75,7 +75,8 @@ pub fn new_expiry<'a>(
     }
 }
 
-/// The bytes of a written shard, with the expiry if any. Fails only with `OutOfMemory`.
+/// The bytes of a written shard, with the expiry if any. Fails with `OutOfMemory`, and for other
+/// bytes as [`load_bytes`].
 pub fn with_expiry_if_any(
     alloc: Global,
     bytes: Vec<u8>,

@@ -42,7 +42,7 @@ pub struct Progress {
 }
 
 impl Progress {
-    /// The progress of a new command, not shown without a terminal or if the clock can't be read.
+    /// The progress of a new command; not shown without a terminal, or if the clock can't be read.
     pub fn new<R: Clock>(rt: &R, terminal: bool) -> Progress {
         let last = if terminal {
             Instant::now(rt).ok()
@@ -66,7 +66,7 @@ impl Progress {
         }
     }
 
-    /// Shows a stage that may take long at once.
+    /// Shows a stage at once, as it may take long.
     pub fn show<R: Eprint>(&mut self, rt: &R, stage: Stage) {
         if self.last.is_some() {
             let _ = rt.eprint(format_args!("\r\u{1b}[K{stage}"));

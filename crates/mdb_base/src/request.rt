@@ -61,7 +61,7 @@ pub enum Sort {
     Expiry,
 }
 
-/// How misfits in shards are found and printed.
+/// How what does not fit together in shards is found and printed.
 #[derive(Clone, Copy)]
 pub struct Collection {
     pub style: Style,
@@ -140,7 +140,7 @@ pub enum MakeCommand<'a> {
     /// The list has more xorbs to keep.
     Subset(&'a str, Subset, Option<HashList<'a>>, NewExpiry),
     Drop(Removal<'a>),
-    /// Of the records in a file, one a line, with an expiry in seconds or none.
+    /// The records in a file, one a line, with an expiry in seconds or none.
     Records(&'a str, Option<u64>),
 }
 
@@ -161,7 +161,7 @@ pub enum NewExpiry {
     Unset,
     /// This time, in seconds.
     At(u64),
-    /// The earliest of the inputs.
+    /// The earliest of the inputs' expiries.
     Earliest,
 }
 
@@ -202,7 +202,7 @@ impl Merge<'_> {
 /// How shards are merged in groups.
 #[derive(Clone, Copy)]
 pub struct Compaction {
-    /// The most bytes of a group together.
+    /// The most bytes of a group's shards together.
     pub max_size: u64,
     /// The key of the hashes by which merges are named.
     pub hash_key: HMACKey,

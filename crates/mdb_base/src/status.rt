@@ -45,7 +45,7 @@ impl Status {
         }
     }
 
-    /// The number of the process's exit.
+    /// The exit status as a number.
     pub fn number(self) -> u8
         ensures { result ≡ number_of self }
     {

@@ -5,13 +5,13 @@ use std::alloc::{AllocError, Global};
 use std::env::FillError;
 use std::rt::Env;
 
-/// The most bytes of a word that are read; Linux passes at most 131071.
+/// The most bytes of a word; Linux passes at most 131071.
 const LONGEST: usize = 1 << 17;
 
 /// A command line, whose first word is the program's name.
 #[derive(Drop)]
 pub struct Words {
-    /// The words; one that is not UTF-8 is escaped by [`escape_word`].
+    /// The words; those that are not UTF-8 as [`escape_word`] gives them.
     pub texts: Vec<String>,
     /// Those that are not UTF-8, by which no file can be opened.
     pub unreadable: Vec<String>,

@@ -12,7 +12,7 @@ use std::{fs, io};
 use xet_core_structures::error::CoreError;
 use xet_core_structures::shard_format::{self, MDBShardFileHeader};
 
-/// The path of standard input where a file is read, and of standard output where one is written.
+/// The path that stands for standard input or output.
 pub const STANDARD_STREAM: &str = "-";
 
 const HEADER_SIZE: usize = shard_format::HEADER_SIZE as usize;

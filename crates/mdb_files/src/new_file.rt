@@ -12,7 +12,7 @@ use xet_core_structures::utils::parse_shard_filename;
 /// The ending of a new file's name.
 const ENDING: &str = ".new";
 
-/// The digits before it.
+/// The digits before the ending.
 const DIGITS: usize = 16;
 
 /// How many names are tried.

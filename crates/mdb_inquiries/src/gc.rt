@@ -1,6 +1,6 @@
-//! Finding what does not fit together in shards, with a part of their records in memory: all files,
-//! then all xorbs are read for one range of xorb hashes after another. A range with too much ends
-//! earlier.
+//! Finding what does not fit together in shards, with a part of their records in memory: for one
+//! range of xorb hashes after another, all files and then all xorbs are read. A range with too much
+//! ends earlier. Then shards are read again, to name the first that has each finding.
 
 use crate::inputs::Inputs;
 use crate::origins::Origins;
@@ -121,7 +121,8 @@ pub fn open_all<'a, R: Files + AllocGlobal>(
     Ok(opened)
 }
 
-// Also returns the end of the range that was looked at, if it has one.
+// What does not fit together about hashes from one on, and where the range ends that was looked at,
+// if it does.
 fn garbage_from<'a, R: Files + Clock + Eprint + AllocGlobal>(
     rt: &R,
     shards: &[ShardFile<'a>],
@@ -176,7 +177,7 @@ fn path_of<'a>(shards: &[ShardFile<'a>], number: Option<usize>) -> Option<&'a st
     Some(shards.get(number?)?.path)
 }
 
-// Reads shards until each finding's first one is known.
+// Reads shards until the first with its record is known of each finding.
 fn origins_of<'a, 'f, R: Files + Clock + Eprint + AllocGlobal>(
     rt: &R,
     shards: &[ShardFile<'a>],
@@ -233,7 +234,7 @@ impl TakesXorbs for LimitedGarbage {
     }
 }
 
-// Until at most `most` are left, or all name one xorb. Returns how many are left.
+// Gives segments up until at most `most` are left, or all name one xorb. Returns how many are left.
 fn halve_segments(segments: &mut Segments, most: usize) -> usize {
     for _ in 0..HALVINGS {
         let before = segments.items.len();
@@ -262,7 +263,7 @@ fn halve_garbage(garbage: &mut Garbage, most: usize) -> usize {
     garbage.len()
 }
 
-// Where too much could not be given up, twice as much is waited for, so that not each record tries
+// Where more than `most` are left, twice as many are waited for, so that not each record tries
 // again.
 fn limit_after(most: usize, left: usize) -> usize {
     if left <= most {

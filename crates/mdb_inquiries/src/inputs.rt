@@ -260,7 +260,7 @@ impl Found {
     }
 }
 
-// Links to folders may lead in a circle.
+// Links are not followed, as they may lead in a circle.
 fn is_folder_itself<R: Files>(rt: &R, path: &str) -> bool {
     match fs::symlink_metadata(rt, path) {
         Ok(there) => there.is_dir(),

@@ -97,7 +97,7 @@ fn report_checked<R: Eprint>(
     let _ = rt.eprintln("");
 }
 
-// As an error, the status with which the run ends at once.
+// The status after which totals are printed, or, as an error, the run ends at once.
 fn inspect_all<R: Host, W: Write>(
     rt: &R,
     inputs: &Inputs,
@@ -111,6 +111,7 @@ fn inspect_all<R: Host, W: Write>(
         true => Status::Failed,
         false => Status::Done,
     };
+    // Whether all lookups so far found nothing.
     let mut nothing = !inputs.failed && inquiry.looks_up();
     for (asked, file) in inputs.paths.iter().enumerate() {
         let all = inputs.paths.len();
@@ -217,7 +218,7 @@ fn contents_for<'a, R: Files + Input + AllocGlobal>(
     }
 }
 
-// What is no shard has no name by its hash.
+// What is no shard has no name by its hash, and its bytes are not hashed.
 fn inspect_contents<'a, W: Write>(
     alloc: Global,
     file: &'a str,

@@ -41,7 +41,7 @@ struct Xorbs {
     hashes: Vec<MerkleHash>,
 }
 
-/// The hashes whose first words leave `rest` by `parts`.
+/// The hashes whose first words are `rest` modulo `parts`.
 #[derive(Clone, Copy)]
 struct HashPart {
     rest: u64,
@@ -158,7 +158,8 @@ fn parts_of(opened: &[BriefShard<'_>], memory: u64) -> u64 {
         .saturating_add(1)
 }
 
-// Counts the hashes of the first part, and returns the shards that could be read.
+// Reads all records, counts the hashes of the first part, and returns the shards that could be
+// read.
 fn read_all<'a, R: Files + Clock + Eprint + AllocGlobal>(
     rt: &R,
     opened: Vec<BriefShard<'a>>,
@@ -189,7 +190,8 @@ fn read_all<'a, R: Files + Clock + Eprint + AllocGlobal>(
     Ok(files)
 }
 
-// Counts xorbs and chunks, and files if the table does not say; returns the part's hashes.
+// Counts xorbs, chunks and, if the table does not say how many there are, files; returns the part's
+// hashes.
 fn read_records<'a, R: Files + AllocGlobal>(
     rt: &R,
     file: &ShardFile<'a>,

@@ -108,6 +108,7 @@ fn add_to_group<'a>(
     Ok(())
 }
 
+// Adds what was read to the inputs, if they are to be removed.
 fn write_group<'a, R: Host>(
     rt: &R,
     files: &[&'a str],
@@ -150,6 +151,7 @@ fn note_inputs<'a>(
     Ok(())
 }
 
+// Writes a shard to a folder, by the hash of its bytes, and prints its path.
 fn put_by_hash<'a, R: Host>(
     rt: &R,
     folder: &'a str,

@@ -57,6 +57,7 @@ pub fn remove_inputs<'a, R: Files + Eprint + AllocGlobal>(
     }
 }
 
+// Removes an input, unless it is a result; else says why it stays.
 fn remove_input<R: Files + AllocGlobal>(
     rt: &R,
     input: &ReadInput<'_>,

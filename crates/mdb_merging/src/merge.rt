@@ -39,9 +39,9 @@ use std::fs;
 use std::rt::Files;
 use xet_core_structures::merklehash::HMACKey;
 
-/// Writes the merge of shards to the target: with `by_key` one for each key, in a folder there, by
-/// the key's digits; with `memory` in about so many bytes. Shows progress if standard error is a
-/// terminal. `Partial` if files that can't be read were left out, else `Done`.
+/// Writes the merge of shards to the target: with `by_key` one for each key, in the folder at its
+/// path, by the key's digits; with `memory` in about so many bytes. Shows progress if standard
+/// error is a terminal. `Partial` if files that can't be read were left out, else `Done`.
 pub fn merge_files<'a, R: Host>(
     rt: &R,
     files: &[&'a str],
@@ -139,6 +139,7 @@ fn size_of_files<R: Files>(rt: &R, files: &[&str]) -> u64 {
     size
 }
 
+// The bytes that are read of some regular files.
 fn size_of_shards<R: Files + AllocGlobal>(rt: &R, files: &[&str]) -> u64 {
     let mut size = 0u64;
     for file in files {
@@ -147,7 +148,7 @@ fn size_of_shards<R: Files + AllocGlobal>(rt: &R, files: &[&str]) -> u64 {
     size
 }
 
-// Of what is read; 0 if it is no regular file.
+// The bytes that are read of a regular file; 0 of anything else.
 fn size_at<R: Files + AllocGlobal>(rt: &R, path: &str) -> u64 {
     match open_sized(rt, path) {
         Ok(Some((_, size))) => match read_ends(rt, path) {
@@ -280,7 +281,7 @@ pub fn merge_with_expiry<'a, R: Eprint + AllocGlobal>(
     }
 }
 
-// Records that differ, or that no shard may have, are a failure even if there is no union, or
+// Records that differ, or that no shard may have, are a failure, even if there is no union, or are
 // reported.
 fn unite_inputs<'a, R: Eprint + AllocGlobal>(
     rt: &R,

@@ -34,7 +34,8 @@ use xet_core_structures::merklehash::HMACKey;
 /// The least memory for a merge, in bytes.
 const LEAST_MEMORY: u64 = 1 << 20;
 
-/// As a merge in memory, but in about `memory` bytes, or 1 MiB if that is more.
+/// Writes the merge of shards to the target in about `memory` bytes, but at least 1 MiB; with
+/// `by_key` one for each key, in the folder at its path.
 pub fn merge_in_rounds<'a, R: Host>(
     rt: &R,
     files: &[&'a str],
@@ -122,6 +123,7 @@ fn open_all<'a, R: Host>(
     }
 }
 
+// The merge is written to a new file beside the path, which is renamed over it.
 fn write_merge<'a, R: Host>(
     rt: &R,
     shards: &[ShardFile<'a>],

@@ -94,6 +94,7 @@ fn start_of(column: usize, columns: usize) -> u64 {
         .saturating_add(LABELS)
 }
 
+// Its title says all that the row shows.
 fn print_row(
     alloc: Global,
     page: &mut String,

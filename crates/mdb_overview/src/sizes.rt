@@ -29,7 +29,7 @@ pub(crate) fn sizes_of(alloc: Global, shards: &[Brief<'_>]) -> Result<SizeClasse
     Ok(sizes)
 }
 
-/// The class of a size in bytes: the number of its binary digits.
+/// The class of a size in bytes: the number of its binary digits, and 0 for 0.
 pub(crate) fn class_of(bytes: u64) -> u64 {
     u64::from(u64::BITS.saturating_sub(bytes.leading_zeros()))
 }

@@ -75,6 +75,7 @@ fn print_expiry(page: &mut String, shard: &Brief<'_>, now: Option<u64>) -> Resul
     }
 }
 
+// Sizes are printed in the units that they reach, with the bytes as title.
 fn print_numbers(page: &mut String, total: &Total) -> Result<(), AllocError> {
     print_size(page, total.bytes)?;
     for number in [total.files, total.xorbs, total.chunks] {

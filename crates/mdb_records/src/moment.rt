@@ -33,7 +33,7 @@ impl Moment {
     }
 }
 
-/// The first second of 9999-12-31, and the first after it.
+/// The first second of 9999-12-31, and the first of the day after it.
 const LAST_DAY: u64 = 253402214400;
 
 const AFTER_LAST_DAY: u64 = 253402300800;

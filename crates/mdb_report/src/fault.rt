@@ -211,7 +211,7 @@ impl<T: Drop> From<AllocFailed<T>> for Fault {
 }
 
 /// The fault behind a call's error on a shard's bytes: `OutOfMemory` or `Collision` as the error
-/// says, else the first finding of a check that may be its cause, else `Other`.
+/// says, else the first finding of a check that may be the cause, else `Other`.
 pub fn fault_of(alloc: Global, bytes: &[u8], error: CoreError) -> Fault
     ensures is { IsFaultOf bytes.now error result }
     ensures memory { error ≡ CoreError.OutOfMemory → result ≡ Fault.OutOfMemory }

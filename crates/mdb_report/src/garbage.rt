@@ -82,7 +82,7 @@ fn segment_of(misfit: Misfit) -> Option<Segment> {
 }
 
 /// Prints what does not fit together in a shard, and answers whether that is nothing; `false`, with
-/// nothing printed, if the shard can't be read.
+/// nothing printed, if the shard can't be read, unless memory is lacking.
 pub(crate) fn print_garbage<W: Write>(
     alloc: Global,
     file: &str,

@@ -9,10 +9,10 @@ use placed_shards::selection::Selection;
 use std::alloc::Global;
 use xet_core_structures::error::Result;
 
-/// Records found so far that no shard may have, or that differ.
+/// What was found so far.
 #[derive(Clone, Copy)]
 pub struct Findings {
-    /// That of the first shard with one.
+    /// A record that no shard may have, of the first shard that has one.
     malformed: Option<MalformedRecord>,
     /// The first hash under which records differ.
     differing: Option<Disagreement>,

@@ -137,6 +137,7 @@ impl<'a, F: Read + Write + Seek + Drop> Rounds<'a, F> {
         self.merge_inputs(rt, section, inputs.as_slice())
     }
 
+    // Writes the union of the parts of all shards, unless the merge is known to fail.
     fn merge_inputs<R: Files + Input + AllocGlobal>(
         &mut self,
         rt: &R,
@@ -182,6 +183,7 @@ impl<'a, F: Read + Write + Seek + Drop> Rounds<'a, F> {
         }
     }
 
+    // The same for parts in which something was found.
     fn merge_differing<R: Files + Input + AllocGlobal>(
         &mut self,
         rt: &R,
@@ -202,7 +204,7 @@ impl<'a, F: Read + Write + Seek + Drop> Rounds<'a, F> {
         }
     }
 
-    // That the version lacks a file is a failure only at the end.
+    // That the version lacks a file is a failure at the end, unless something fails before.
     fn merge_failure<R: Files + Input + AllocGlobal>(
         &mut self,
         rt: &R,
@@ -227,7 +229,8 @@ impl<'a, F: Read + Write + Seek + Drop> Rounds<'a, F> {
         }
     }
 
-    // On the first file that can't be read, or with a wrong footer, else on the parts together.
+    // The failure of the first file that can't be read, or whose footer is wrong, else of the parts
+    // together.
     fn read_failure<R: Files + Input + AllocGlobal>(
         &self,
         rt: &R,
@@ -315,7 +318,8 @@ fn earliest_of(shards: &[ShardFile<'_>]) -> Option<u64>
     found
 }
 
-// Only a strict merge looks for what differs before it fails.
+// The failure of shards under different keys. Only a strict merge looks for what differs before it
+// fails.
 fn other_key<'a, R: Files + Input + AllocGlobal>(
     rt: &R,
     files: &[&'a str],
