@@ -1,6 +1,6 @@
 """The manual page of mdb, and what shells need to complete its words, from its help.
 
-The help comes from the table of commands (crates/mdb_command_line/src/command_table.rt), so nothing is written twice.
+The help comes from the commands' rows (crates/mdb_command_line/src/commands), so nothing is written twice.
 """
 import os
 import re

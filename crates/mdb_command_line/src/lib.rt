@@ -1,12 +1,14 @@
 //! The command line of `mdb`: its commands and their arguments, with their help.
 #![tactic(auto)]
 
-mod command_table;
-mod help;
+mod arguments;
+mod commands;
 pub mod id;
+mod row;
 
 use clap::{Arg, ArgAction, Command, value_parser};
-use command_table::{Argument, Row, SORTS, Takes, VERSIONS, inquiries, makings};
+use commands::{inquiries, makings};
+use row::{Argument, Row, SORTS, Takes, VERSIONS};
 use std::alloc::{AllocError, Global};
 
 /// The version of the program.
