@@ -1,15 +1,16 @@
 -- What a lookup of a file in a shard's bytes returns, and why it is refused.
-use Rattle.std.specs.Prelude.{◌≡◌, ◌⊎◌, ◌<◌, ◌≤◌, ℕ, List, length, Option}
+use Rattle.std.specs.Prelude.{◌≡◌, ◌⊎◌, ◌<◌, ◌≤◌, ℕ, List, length, Any, IfSome, Option}
 use Rattle.std.specs.FinMap.{values}
 use Rattle.xet_core_structures.specs.declared.error.CoreError.{CoreError}
 use Rattle.xet_core_structures.specs.declared.error.CoreError.TheVariants.{OutOfMemory, TruncatedHashCollision}
 use Rattle.xet_core_structures.specs.declared.file_structs.MDBFileInfo.{MDBFileInfo}
 use Rattle.xet_core_structures.specs.declared.merklehash.DataHash.{DataHash}
 use Rattle.xet_core_structures.specs.TwoShards.ByteResults.{LoadRefusal}
-use Rattle.xet_core_structures.specs.Lookup.{FindsRecord, FindRecordFails, file_table, with_first_word}
-use Rattle.xet_core_structures.specs.FileRecord.{file_records}
+use Rattle.xet_core_structures.specs.Lookup.{FindsRecord, FindRecordFails, FoundInShard, file_table, with_first_word}
+use Rattle.xet_core_structures.specs.FileRecord.{file_records, FitsItsHeader}
 use Rattle.xet_core_structures.specs.SectionReading.{files_of}
 use Rattle.xet_core_structures.specs.Shard.{Shard}
+use Rattle.xet_core_structures.specs.WrittenShard.{IsBytesOf}
 use Rattle.shard_bytes.specs.Outcomes.{HasOutcome}
 
 -- a record that is found is in these bytes, has the hash and is at a row of the file table with the
@@ -37,3 +38,19 @@ NotFoundInShard s hash e =
     × (length (with_first_word file_records hash.word0 (values s.files)) < 8))
     ⊎ ((e ≡ TruncatedHashCollision hash.word0)
     × (8 ≤ length (with_first_word file_records hash.word0 (values s.files))))
+
+-- what a lookup of a file finds, in any bytes and in those of a shard
+pub record AnswersLookup (bytes : List ℕ) (hash : DataHash) (found : Option MDBFileInfo) : Type 0 where
+  pub any_bytes : FindsFile bytes hash found
+  pub fits : IfSome found FitsItsHeader
+  pub hash_is : IfSome found (λ file. file.metadata.file_hash ≡ hash)
+  pub written : (s : Shard) → IsBytesOf s bytes → FoundInShard s hash found
+
+-- why a lookup of a file is refused, in any bytes and in those of a shard
+pub record RefusesLookup (bytes : List ℕ) (hash : DataHash) (e : CoreError) : Type 0 where
+  pub any_bytes : RefusesFile bytes hash e
+  pub written : (s : Shard) → IsBytesOf s bytes → NotFoundInShard s hash e
+
+-- an allocation failed, or the lookup of one of these files is refused
+abbrev pub RefusesLookups : List ℕ → List DataHash → CoreError → Type 0
+RefusesLookups bytes hashes e = (e ≡ OutOfMemory) ⊎ Any (λ hash. RefusesLookup bytes hash e) hashes

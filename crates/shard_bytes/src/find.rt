@@ -1,11 +1,12 @@
-//! Looking up a file.
+//! Looking up files.
 
 ghost use Rattle.std.specs.Prelude.{◌≡◌, ◌⊎◌, ◌<◌, ◌≤◌, ◌^◌, ℕ, Option, length, IfOk, IfSome, MatchResult};
+ghost use Rattle.std.specs.List.{AllZip};
 ghost use Rattle.xet_core_structures.specs.FileRecord.{FitsItsHeader};
 ghost use Rattle.xet_core_structures.specs.Shard.{Shard};
 ghost use Rattle.xet_core_structures.specs.Lookup.{FoundInShard};
 ghost use Rattle.xet_core_structures.specs.WrittenShard.{IsBytesOf};
-ghost use Rattle.shard_bytes.specs.Finding.{FindsFile, RefusesFile, NotFoundInShard};
+ghost use Rattle.shard_bytes.specs.Finding.{FindsFile, RefusesFile, NotFoundInShard, AnswersLookup, RefusesLookups};
 
 use std::alloc::Global;
 use xet_core_structures::error::{CoreError, Result};
@@ -30,4 +31,23 @@ pub fn find_file(alloc: Global, bytes: &[u8], hash: &MerkleHash) -> Result<Optio
     let mut source = MemorySource::new(bytes);
     let info = MDBShardInfo::load_from_reader(alloc, &mut source)?;
     info.get_file_reconstruction_info(alloc, &mut source, hash)
+}
+
+/// What [`find_file`] finds of each of these hashes, in their order.
+///
+/// Fails as [`find_file`] does of one of them, or with `OutOfMemory`.
+pub fn find_files(
+    alloc: Global,
+    bytes: &[u8],
+    hashes: &[MerkleHash],
+) -> Result<Vec<Option<MDBFileInfo>>>
+    ensures { MatchResult result
+        (λ found. AllZip (AnswersLookup bytes.now) hashes.now found.items)
+        (RefusesLookups bytes.now hashes.now) }
+{
+    let mut found = Vec::with_capacity(alloc, hashes.len())?;
+    for hash in hashes {
+        found.push(find_file(alloc, bytes, hash)?)?;
+    }
+    Ok(found)
 }
