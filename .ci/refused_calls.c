@@ -8,7 +8,7 @@
 #include <string.h>
 
 /* The first calls write no count, and the last four do not allocate. */
-enum { ROOM = 1 << 20, COUNTING = 5, ALLOCATING = 30, CALLS = ALLOCATING + 4 };
+enum { ROOM = 1 << 20, COUNTING = 5, ALLOCATING = 31, CALLS = ALLOCATING + 4 };
 
 void *__real_malloc(size_t size);
 void *__real_realloc(void *block, size_t size);
@@ -92,6 +92,7 @@ static uint32_t call(int number, size_t *count) {
     const xet_subset_options subset = {.now = 9};
     const xet_merge_options strict = {.strict = true}, by_tables = {.by_tables = true};
     const xet_hash file = {{100, 1, 0, 0}}, chunks[2] = {{{21, 1, 0, 0}}, {{22, 1, 0, 0}}}, xorb = {{10, 1, 0, 0}};
+    const xet_hash twice_and_none[3] = {file, file, {{99, 1, 0, 0}}};
     const xet_bytes both[2] = {{first, first_length}, {second, second_length}};
     const xet_bytes twice[2] = {{first, first_length}, {first, first_length}};
     size_t differing = 0;
@@ -171,6 +172,13 @@ static uint32_t call(int number, size_t *count) {
         return xet_shard_name(&file, out.bytes, ROOM, count);
     case 29:
         return xet_concatenate_span(both, 1, 100, out.bytes, first_length - 100, count);
+    case 30: {
+        xet_counts found;
+        uint32_t error = xet_find_files(first, first_length, twice_and_none, 3, out.lists.files, 100,
+                                        out.lists.segments, 1000, &found);
+        *count = found.files + found.segments;
+        return error;
+    }
     case ALLOCATING:
         return xet_hash_from_hex((const uint8_t *)name, 64, out.hashes);
     case ALLOCATING + 1:

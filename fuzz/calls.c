@@ -318,6 +318,62 @@ static uint32_t call_find_file(const struct input *input, void *out, size_t capa
     return error;
 }
 
+/* What a lookup of each file finds: no error, or that of the first that has one. */
+static uint32_t first_refusal(const struct input *input, const xet_hash *hashes, size_t count) {
+    xet_file file;
+    xet_file_segment none;
+    for (size_t at = 0; at < count; at++) {
+        uint32_t error = xet_find_file(SHARD(0), &hashes[at], &file, &none, 0);
+        if (error != XET_OK && error != XET_SHORT)
+            return error;
+    }
+    return XET_OK;
+}
+
+/* A file of a list is as a lookup of it alone shows it. */
+static void check_listed(const struct input *input, const xet_hash *hash, const xet_listed_file *listed,
+                         const xet_file_segment *segments) {
+    static const xet_listed_file none = {.hash = {UINT64_MAX, UINT64_MAX, UINT64_MAX, UINT64_MAX}};
+    size_t size = listed->segments * sizeof *segments;
+    xet_file file;
+    xet_file_segment *own = malloc(size + 1);
+    require(own && xet_find_file(SHARD(0), hash, &file, own, listed->segments) == XET_OK, "a file has more segments");
+    require(file.segments == listed->segments && !memcmp(own, segments, size), "a file has other segments");
+    free(own);
+    if (!file.found) {
+        require(!memcmp(listed, &none, sizeof none), "a file that is not there has something");
+        return;
+    }
+    require(!memcmp(listed->hash, hash, sizeof *hash) && listed->flags == file.flags, "a file has another hash");
+    require(!memcmp(listed->sha256, file.sha256, 32) && !memcmp(listed->aux_hash, file.aux_hash, 32),
+            "a file has other rows");
+}
+
+/* Looks up the file twice, and between them one with the same first word. */
+static uint32_t call_find_files(const struct input *input, void *out, size_t capacity, size_t *written) {
+    const xet_hash hashes[] = {input->file, {{input->file.words[0], 0, 0, 0}}, input->file};
+    struct block files = new_struct(input, 3 * sizeof(xet_listed_file));
+    struct block counted = new_struct(input, sizeof(xet_counts));
+    void *there = files.bytes, *counts = counted.bytes;
+    uint32_t error = xet_find_files(SHARD(0), hashes, 3, there, 3, out, capacity, counts);
+    xet_counts found;
+    memcpy(&found, counted.bytes, sizeof found);
+    bool is_refused = error != XET_OK && error != XET_SHORT;
+    require((is_refused ? error : XET_OK) == first_refusal(input, hashes, 3), "one file has another result");
+    require(found.files == (is_refused ? 0 : 3) && !found.xorbs && !found.chunks, "the counts are others");
+    require(error == XET_OK || is_filled(&files, 0), "an error touches a file");
+    const xet_listed_file *listed = there;
+    const xet_file_segment *segments = out;
+    for (size_t at = 0; error == XET_OK && at < 3; at++) {
+        check_listed(input, &hashes[at], &listed[at], segments);
+        segments += listed[at].segments;
+    }
+    *written = found.segments;
+    free_block(&files);
+    free_block(&counted);
+    return error;
+}
+
 /* Room for the records of a shard. */
 struct lists {
     struct block files, segments, xorbs, chunks;
@@ -439,6 +495,7 @@ static const struct filling fillings[] = {
     {"xet_find_places", sizeof(xet_chunk_place), BIT(XET_OK) | BIT(XET_INVALID_ARGUMENTS), call_find_places, NO_SHARD},
     {"xet_check", sizeof(xet_finding), BIT(XET_OK), call_check, NO_SHARD},
     {"xet_find_file", sizeof(xet_file_segment), OF_FINDING, call_find_file, NO_SHARD},
+    {"xet_find_files", sizeof(xet_file_segment), OF_FINDING, call_find_files, NO_SHARD},
     {"xet_hash_to_hex", 1, BIT(XET_OK), call_hash_to_hex, NO_SHARD},
     {"xet_shard_name", 1, BIT(XET_OK), call_shard_name, NO_SHARD},
 };

@@ -183,7 +183,7 @@ def check_refusals(room, flags, shard):
     printed, why = ran(program, *names)
     counts = [int(it) for it in re.findall(r": (\d+) refusals", printed)]
     # The last four do not allocate.
-    if why or [it > 0 for it in counts] != [True] * 30 + [False] * 4:
+    if why or [it > 0 for it in counts] != [True] * 31 + [False] * 4:
         return why or f"refused_calls prints {printed}"
     print(f"bindings: {sum(counts)} refused allocations in {len(counts)} calls")
     return None

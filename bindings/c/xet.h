@@ -581,6 +581,17 @@ uint32_t xet_records(const uint8_t *shard, size_t length, xet_listed_file *files
                      xet_file_segment *segments, size_t segment_capacity, xet_listed_xorb *xorbs, size_t xorb_capacity,
                      xet_chunk *chunks, size_t chunk_capacity, xet_counts *counts);
 
+/* Looks up `count` files as xet_find_file does each, and writes to the fronts of two lists a file for each hash, in
+ * their order, and the segments of all. A file that is not found has a hash of all ones, which no file of a shard has,
+ * and zeros else. `counts` says how many files, which is `count`, and segments there are; it has no xorbs or chunks.
+ * With XET_SHORT a list has too little room, and both stay as they are. With any other error the counts are 0.
+ *
+ * The errors are those of xet_find_file, of one of the hashes: if one lookup fails, none is shown. Without a hash
+ * nothing is read. */
+uint32_t xet_find_files(const uint8_t *shard, size_t length, const xet_hash *hashes, size_t count,
+                        xet_listed_file *files, size_t file_capacity, xet_file_segment *segments,
+                        size_t segment_capacity, xet_counts *counts);
+
 /* Writes the shard that has these files and xorbs, with all tables and without a key. The records may be in any order.
  * Of two files, or two xorbs, with one hash the later one counts. Reserved words of files are zeros; the hashes of
  * parts that a file's flags do not name are not read. `expiry` is in seconds, and UINT64_MAX means none.

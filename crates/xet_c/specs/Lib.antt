@@ -1,5 +1,6 @@
 pub mod Agreeing
 pub mod Arguments
+pub mod ListedFiles
 pub mod ListedRecords
 pub mod NumberedVersions
 pub mod Output

@@ -52,7 +52,8 @@ pub extern "C" fn xet_records(
     show_records(alloc, &found, files, segments, xorbs, chunks, counts)
 }
 
-fn show_records(
+/// Puts records to the fronts of four lists, as [`xet_records`] says.
+pub fn show_records(
     alloc: Global,
     found: &Result<Records>,
     files: &mut [XetListedFile],
