@@ -106,6 +106,10 @@ def test_each_method_is_its_function():
                 assert list(getattr(shard, name)()) == list(getattr(xet_shards, name)(content))
             if numpy:
                 assert xet_shards.from_table(shard.table()) == xet_shards.from_table(xet_shards.table(content))
+                texts = [hash_text("7"), hash_text("100")]
+                answers = [shard.find_files(texts), xet_shards.find_files(content, texts)]
+                for name in ("found", "files", "segments"):
+                    assert numpy.array_equal(*(getattr(it, name) for it in answers))
 
 
 def test_parameters_are_those_of_the_functions():

@@ -1,4 +1,4 @@
-"""Tests of tables of all records, as arrays of numpy.
+"""Tests of tables of records, as arrays of numpy.
 
 Runs with pytest, or as a program, which ends with the line 'N passed, M failed'.
 """
@@ -14,7 +14,7 @@ sys.path.insert(0, os.path.dirname(os.path.realpath(__file__)))
 
 import scripts  # noqa: E402
 import xet_shards  # noqa: E402
-from scripts import Shard  # noqa: E402
+from scripts import Shard, hash_text  # noqa: E402
 from test_vectors import main, needs_numpy, numpy, raises, records_shard, refused, shard_of  # noqa: E402
 
 
@@ -115,6 +115,61 @@ def test_hash_columns():
     for missing, part in (("hash", {"chunks": others}), ("hash", {"chunks": starts}), ("flags", {"files": hashes})):
         error = raises(KeyError, xet_shards.from_table, dataclasses.replace(table, **part))
         assert f"there is no column {missing}" in str(error)
+
+
+def given_in_all_ways(texts):
+    """Returns hashes in each way that `find_files` takes them."""
+    words = numpy.array([scripts.words_of(it) for it in texts], "u8")
+    column = words.view("V32").reshape(-1)
+    odd = numpy.frombuffer(bytes(1) + words.tobytes(), "u8", offset=1).reshape(-1, 4)
+    by_text = texts, tuple(texts), iter(texts), numpy.array(texts), numpy.array(texts, object)
+    by_words = words, words[::-1].copy()[::-1], numpy.asfortranarray(words), words.astype(">u8"), odd
+    return *by_text, *by_words, column, column.view("S32"), odd.view("V32").reshape(-1)
+
+
+def test_files_in_one_call():
+    needs_numpy()
+    shard, zeros = records_shard().written(), "0" * 64
+    wanted = [hash_text(it) for it in ("100", "99", "102", "100", "101")]
+    for hashes in given_in_all_ways(wanted):
+        found = xet_shards.find_files(shard, hashes)
+        assert found.found.tolist() == [True, False, True, True, True]
+        assert xet_shards.hash_texts(found.files) == [wanted[0], "f" * 64, *wanted[2:]]
+        assert xet_shards.hash_texts(found.files, "sha256") == [zeros, zeros, hash_text("9364"), zeros, zeros]
+        assert xet_shards.hash_texts(found.files, "aux_hash") == [zeros, zeros, hash_text("777"), zeros, zeros]
+        assert found.files["flags"].tolist() == [0, 0, 7 << 29, 0, 0]
+        assert found.files["segments"].tolist() == [70, 0, 2, 70, 0]
+        assert found.segments["bytes"].tolist() == [9] * 70 + [5, 7] + [9] * 70
+        verification = xet_shards.hash_texts(found.segments, "verification")
+        assert verification == [zeros] * 70 + [hash_text("365"), hash_text("366")] + [zeros] * 70
+
+
+def test_files_that_are_not_there():
+    needs_numpy()
+    shard = records_shard().written()
+    for hashes in ([], numpy.zeros((0, 4), "u8"), numpy.array([], "V32")):
+        # Nothing is read.
+        for content in (shard, b""):
+            found = xet_shards.find_files(content, hashes)
+            assert len(found.found) == len(found.files) == len(found.segments) == 0
+    # That of a file that is not there has the hash that is asked for.
+    assert xet_shards.find_files(shard, ["f" * 64]).found.tolist() == [False]
+    # Without a table of files.
+    assert xet_shards.find_files(xet_shards.minimal(shard, 9), [hash_text("100")] * 9).found.tolist() == [False] * 9
+    sharing = [f"{5:016x}{it:016x}{0:032x}" for it in range(8)]
+    for count in (7, 8):
+        shared = shard_of("file 100", *(f"file {it} 200:0:1:1" for it in sharing[:count]))
+        assert xet_shards.find_files(shared, [hash_text("100")]).found.all()
+        if count == 7:
+            assert xet_shards.find_files(shared, sharing).found.tolist() == [True] * 7 + [False]
+        else:
+            refused("TruncatedHashCollision", xet_shards.find_files, shared, [hash_text("100"), sharing[0]])
+    refused("Io", xet_shards.find_files, shard[:199], [hash_text("100")])
+    words = numpy.zeros((2, 4), "u8")
+    of_other_types = words.astype("i8"), words.astype("u4"), words.astype("f8"), words.view("V16").reshape(-1)
+    others = words[:, :3], words[0], words[None], *of_other_types
+    for hashes in (hash_text("100"), [hash_text("100")[1:]], ["x" * 64], *others):
+        raises(ValueError, xet_shards.find_files, shard, hashes)
 
 
 def packed_hashes(table):

@@ -35,17 +35,17 @@ from ._merging import (  # noqa: E402
 from ._records import (  # noqa: E402
     Chunk, File, ListedFile, Segment, Xorb, file_at, file_in, files, write, xorb_at, xorb_in, xorbs,
 )
-from ._tables import Table, from_table, hash_column, hash_texts, table  # noqa: E402
+from ._tables import FoundFiles, Table, find_files, from_table, hash_column, hash_texts, table  # noqa: E402
 from .index import Index  # noqa: E402
 from .shard import Shard, open as open  # noqa: E402
 
 # Without `open`: `from xet_shards import *` leaves that of Python as it is.
 __all__ = [
-    "Buffer", "Chunk", "Disagreement", "DisagreementError", "File", "Finding", "Index", "Info", "ListedFile",
-    "MalformedError", "MalformedRecord", "NO_EXPIRY", "NO_KEY", "Run", "Segment", "Shard", "Table", "WritableBuffer",
-    "XetError", "Xorb", "check", "chunk_rows", "complete", "concatenate", "concatenate_into", "convert", "difference",
-    "eligible", "export", "file_at", "file_in", "files", "find_disagreements", "find_file", "find_malformed",
-    "find_places", "find_rows", "from_table", "hash_bytes", "hash_column", "hash_of_name", "hash_texts", "hmac", "load",
-    "merge", "merge_into", "merge_room", "minimal", "query_at", "query_chunks", "shard_name", "subset", "table",
-    "union", "write", "xorb_at", "xorb_in", "xorbs",
+    "Buffer", "Chunk", "Disagreement", "DisagreementError", "File", "Finding", "FoundFiles", "Index", "Info",
+    "ListedFile", "MalformedError", "MalformedRecord", "NO_EXPIRY", "NO_KEY", "Run", "Segment", "Shard", "Table",
+    "WritableBuffer", "XetError", "Xorb", "check", "chunk_rows", "complete", "concatenate", "concatenate_into",
+    "convert", "difference", "eligible", "export", "file_at", "file_in", "files", "find_disagreements", "find_file",
+    "find_files", "find_malformed", "find_places", "find_rows", "from_table", "hash_bytes", "hash_column",
+    "hash_of_name", "hash_texts", "hmac", "load", "merge", "merge_into", "merge_room", "minimal", "query_at",
+    "query_chunks", "shard_name", "subset", "table", "union", "write", "xorb_at", "xorb_in", "xorbs",
 ]

@@ -16,8 +16,9 @@ _LIST = [POINTER(_ShardBytes), c_size_t]
 _HASHES = [POINTER(_Hash), c_size_t]
 _OUT = [POINTER(c_char), c_size_t, POINTER(c_size_t)]
 _TEXT = [c_char_p, c_size_t]
+_ITEMS = [c_void_p, c_size_t]
 # Files, segments, xorbs and chunks.
-_LISTS = [c_void_p, c_size_t] * 4
+_LISTS = _ITEMS * 4
 _CALLS = {
     "xet_load": [*_SHARD, POINTER(_Info)],
     "xet_merge": [*_LIST, POINTER(_MergeOptions), c_uint64, *_OUT, POINTER(c_size_t), POINTER(_Disagreement)],
@@ -43,6 +44,8 @@ _CALLS = {
     "xet_file_in": [*_SHARD, c_uint64, POINTER(_Place), POINTER(_File), POINTER(_FileSegment), c_size_t],
     "xet_xorb_in": [*_SHARD, POINTER(_Place), POINTER(_Xorb), POINTER(_Chunk), c_size_t],
     "xet_records": [*_SHARD, *_LISTS, POINTER(_Counts)],
+    # Hashes, files and segments.
+    "xet_find_files": [*_SHARD, *_ITEMS * 3, POINTER(_Counts)],
     "xet_write": [*_LISTS, c_uint64, c_uint64, *_OUT],
     "xet_check": [*_SHARD, POINTER(_Finding), c_size_t, POINTER(c_size_t)],
     "xet_version": [],

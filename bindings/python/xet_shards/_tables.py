@@ -1,4 +1,4 @@
-"""All records of a shard as arrays of numpy."""
+"""Records of a shard as arrays of numpy."""
 from __future__ import annotations
 
 import ctypes
@@ -6,13 +6,18 @@ import importlib
 import itertools
 from ctypes import byref
 from dataclasses import dataclass
-from typing import Any, Iterator, List, Optional, Sequence, Tuple
+from typing import Any, Callable, Iterator, List, Optional, Sequence, Tuple
 
+from ._arguments import _digits
 from ._calls import _library
 from ._errors import _SHORT, _check
+from ._lookups import _FEW_SEGMENTS
 from ._memory import Buffer, _Addresses
 from ._records import _written
 from ._structs import _ROW, _Chunk, _Counts, _FileSegment, _Info, _ListedFile, _ListedXorb
+
+# Each word of the hash of a file that is not found.
+_ALL_ONES = 2**64 - 1
 
 
 @dataclass(frozen=True)
@@ -75,23 +80,77 @@ def _types() -> Tuple[Any, ...]:
 
 def table(shard: Buffer) -> Table:
     """Returns all records of a shard, read in one call. It needs numpy."""
-    numpy = _numpy()
-    types, counts = _types(), _Counts()
-
-    def read(sizes: Sequence[int]) -> Tuple[int, List[Any]]:
-        arrays = [numpy.empty(size, it) for size, it in zip(sizes, types)]
-        return _library.xet_records(*data, *_addresses(arrays), byref(counts)), arrays
-
     with _Addresses(shard) as [data]:
-        number, arrays = read(_most_records(*data))
-        sizes = (counts.files, counts.segments, counts.xorbs, counts.chunks)
-        if number == _SHORT:
-            number, arrays = read(sizes)
+        return Table(*_filled_arrays(
+            _types(),
+            _most_records(*data),
+            lambda arrays, counts: _library.xet_records(*data, *arrays, counts),
+        ))
+
+
+@dataclass(frozen=True)
+class FoundFiles:
+    """Files of a shard that were looked up, as arrays of numpy.
+
+    - `found`: for each hash, whether the shard has the file
+    - `files`: a row for each hash, with the columns of `Table.files`. That of a file that is not found has a hash of
+      all ones, and zeros else
+    - `segments`: those of all these files, with the columns of `Table.segments`. The segments of the file at `i` end at
+      `numpy.cumsum(files["segments"])[i]`
+    """
+
+    found: Any
+    files: Any
+    segments: Any
+
+
+def find_files(shard: Buffer, hashes: Any) -> FoundFiles:
+    """Returns the files with these hashes, in their order, looked up in one call. It needs numpy.
+
+    The hashes are texts; or an array of their words, of type `uint64` with four columns; or a column of the bytes of
+    each, as `hash_column` returns. If one lookup fails, as `find_file` does, all do.
+    """
+    numpy = _numpy()
+    wanted = _words_of(hashes)
+    with _Addresses(shard) as [data]:
+        files, segments = _filled_arrays(
+            _types()[:2],
+            (len(wanted), _FEW_SEGMENTS * len(wanted)),
+            lambda arrays, counts: _library.xet_find_files(*data, *_addresses([wanted]), *arrays, counts),
+        )
+    is_missing = numpy.logical_and.reduce([files[f"hash{it}"] == _ALL_ONES for it in range(4)])
+    return FoundFiles(~is_missing, files, segments)
+
+
+def _words_of(hashes: Any) -> Any:
+    """Returns the words of hashes, as `find_files` takes them, a row for each hash."""
+    numpy = _numpy()
+    if not isinstance(hashes, numpy.ndarray) or hashes.dtype.kind in "OU":
+        return numpy.frombuffer(b"".join(map(_digits, hashes)), ">u8").astype("<u8").reshape(-1, 4)
+    words = _words_of_column("hash", hashes) if hashes.dtype.kind in "SV" else hashes
+    if (words.dtype.kind, words.dtype.itemsize, words.ndim, words.shape[-1:]) != ("u", 8, 2, (4,)):
+        raise ValueError(f"hashes are four columns of uint64, and not {hashes.dtype} of the shape {hashes.shape}")
+    # The library wants words at multiples of 8.
+    return numpy.require(words, "<u8", ["C", "A"])
+
+
+def _filled_arrays(types: Sequence[Any], room: Sequence[int], call: Callable[[List[int], Any], Any]) -> List[Any]:
+    """Returns arrays of these types with what a call writes into them. They are made anew once if it does not fit."""
+    numpy, counts = _numpy(), _Counts()
+
+    def filled(sizes: Sequence[int]) -> Tuple[int, List[Any]]:
+        arrays = [numpy.empty(size, it) for size, it in zip(sizes, types)]
+        return call(_addresses(arrays), byref(counts)), arrays
+
+    number, arrays = filled(room)
+    sizes = (counts.files, counts.segments, counts.xorbs, counts.chunks)
+    if number == _SHORT:
+        number, arrays = filled(sizes)
     _check(number)
     for array, size in zip(arrays, sizes):
         # The room behind the records, which nothing was written to, is given back.
         array.resize(size, refcheck=False)
-    return Table(*arrays)
+    return arrays
 
 
 def _most_records(address: int, length: int) -> Tuple[int, int, int, int]:

@@ -12,7 +12,7 @@ from ._forms import convert, eligible, export, minimal, subset
 from ._lookups import Info, Run, chunk_rows, find_file, find_rows, load, query_at, query_chunks
 from ._memory import _Mapped
 from ._records import File, ListedFile, Xorb, file_at, files, xorb_at, xorbs
-from ._tables import Table, table
+from ._tables import FoundFiles, Table, find_files, table
 from .ranges import _TABLE_ROW
 
 Path = Union[str, bytes, "os.PathLike[str]", "os.PathLike[bytes]"]
@@ -107,6 +107,10 @@ class Shard(_Mapped):
     def find_file(self, file_hash: str) -> Optional[File]:
         """Returns the file with this hash, or None, by the table of files."""
         return find_file(self.buffer, file_hash)
+
+    def find_files(self, hashes: Any) -> FoundFiles:
+        """Returns the files with these hashes, as arrays of numpy."""
+        return find_files(self.buffer, hashes)
 
     def find_xorb(self, xorb_hash: str) -> Optional[Xorb]:
         """Returns the xorb with this hash, or None, by the table of xorbs: without one, none is found.
