@@ -81,6 +81,9 @@ library! {
         shard: &[u8], files: &mut [ListedFile], segments: &mut [FileSegment], xorbs: &mut [ListedXorb],
         chunks: &mut [Chunk], counts: &mut Counts,
     ) -> u32;
+    fn xet_find_files(
+        shard: &[u8], hashes: &[Hash], files: &mut [ListedFile], segments: &mut [FileSegment], counts: &mut Counts,
+    ) -> u32;
     fn xet_write(
         files: &[ListedFile], segments: &[FileSegment], xorbs: &[ListedXorb], chunks: &[Chunk], expiry: u64,
         version: u64, out: &mut [u8], written: &mut usize,

@@ -43,7 +43,9 @@ pub use error::Error;
 pub use finding::{check, Finding, Part};
 pub use hash::Hash;
 pub use index::Index;
-pub use lookup::{chunk_rows, eligible, find_file, load, query_at, query_chunks, ChunkRow, File, Info, Run, Segment};
+pub use lookup::{
+    chunk_rows, eligible, find_file, find_files, load, query_at, query_chunks, ChunkRow, File, Info, Run, Segment,
+};
 pub use name::{hash_bytes, hash_of_name, hmac, shard_name};
 pub use parts::{file_in, find_places, find_rows, xorb_in, ChunkPlace};
 pub use records::{records, write_records, Records, WITH_AUX, WITH_SHA256, WITH_VERIFICATION};

@@ -2,7 +2,11 @@
 
 use crate::error::check;
 use crate::output::{filled, hashes_of, zeros, SHORT};
+use crate::records::{file_with, front};
 use crate::{calls, Hash, Result};
+
+/// The hash of a file of a list that is not found. No file of a shard has it.
+const NOT_FOUND: Hash = Hash([u64::MAX; 4]);
 
 /// What the header and the footer of a shard say. A table that is left out has 0 rows.
 #[derive(Clone, Copy, Debug, Default, PartialEq, Eq)]
@@ -136,6 +140,39 @@ pub fn find_file(shard: &[u8], hash: Hash) -> Result<Option<File>> {
     }
     check(number)?;
     Ok(file.found.then(|| file_of(&file, &segments[..file.segments])))
+}
+
+/// Looks up the files with these hashes in one call, each as [`find_file`] does. They come in the order of the hashes.
+///
+/// # Errors
+///
+/// Those of [`find_file`]: if one lookup fails, there are no files.
+///
+/// ```
+/// # fn main() -> Result<(), Box<dyn std::error::Error>> {
+/// let shard = std::fs::read("examples/a.mdb")?;
+/// let files = xet_shards::find_files(&shard, &[[101, 1, 0, 0].into(), [100, 1, 0, 0].into()])?;
+/// assert_eq!(files[0], None);
+/// assert_eq!(files[1].as_ref().map(|file| file.segments[0].bytes), Some(5));
+/// # Ok(())
+/// # }
+/// ```
+pub fn find_files(shard: &[u8], hashes: &[Hash]) -> Result<Vec<Option<File>>> {
+    let mut counts = calls::Counts::default();
+    // Most files have no more than eight segments.
+    let (mut files, mut segments) = (zeros(hashes.len())?, zeros(8 * hashes.len())?);
+    let mut number = calls::xet_find_files(shard, hashes, &mut files, &mut segments, &mut counts);
+    if number == SHORT {
+        segments = zeros(counts.segments)?;
+        number = calls::xet_find_files(shard, hashes, &mut files, &mut segments, &mut counts);
+    }
+    check(number)?;
+    let mut segments = &segments[..];
+    let found = files.iter().map(|it| {
+        let own = front(&mut segments, it.segments);
+        (it.hash != NOT_FOUND).then(|| file_with(it, own).file)
+    });
+    Ok(found.collect())
 }
 
 /// What a call shows of a file.

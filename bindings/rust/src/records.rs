@@ -91,14 +91,14 @@ pub fn records(shard: &[u8]) -> Result<Records> {
 }
 
 /// Takes so many items off the front.
-fn front<'a, T>(items: &mut &'a [T], count: u32) -> &'a [T] {
+pub(crate) fn front<'a, T>(items: &mut &'a [T], count: u32) -> &'a [T] {
     let (taken, rest) = items.split_at(count as usize);
     *items = rest;
     taken
 }
 
 /// The file of a list that has these segments.
-fn file_with(it: &calls::ListedFile, segments: &[calls::FileSegment]) -> ListedFile {
+pub(crate) fn file_with(it: &calls::ListedFile, segments: &[calls::FileSegment]) -> ListedFile {
     let file = calls::File {
         found: true,
         has_verification: it.flags & WITH_VERIFICATION != 0,

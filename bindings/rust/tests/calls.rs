@@ -102,6 +102,25 @@ fn more_segments_than_the_first_room() {
 }
 
 #[test]
+fn many_files_in_one_call() {
+    let segments: Vec<String> = (0..100).map(|it| format!("{}:{it}:{}:9", 200 + it, it + 1)).collect();
+    let shard = shard_of(&[&format!("file 100 {}", segments.join(" ")), "file 101 s=9364 200:0:5:5"]);
+    let wanted = ["101", "99", "100", "101"].map(hash);
+    let files = xet_shards::find_files(&shard, &wanted).expect("an answer");
+    assert_eq!(files.iter().map(Option::is_some).collect::<Vec<_>>(), [true, false, true, true]);
+    assert_eq!((&files[0], files[0].as_ref().and_then(|it| it.sha256)), (&files[3], Some(hash("9364"))));
+    let many = &files[2].as_ref().expect("a file").segments;
+    assert!(many.len() == 100 && many.iter().zip(0..).all(|(it, at)| it.xorb == Hash([200 + at, 1, 0, 0])));
+    // Of so many hashes the first room is enough.
+    let few = xet_shards::find_files(&shard, &[hash("101"); 50]).expect("an answer");
+    assert!(few.len() == 50 && few.iter().all(|it| *it == files[0]));
+    assert_eq!(xet_shards::find_files(&shard, &[Hash([u64::MAX; 4])]), Ok(vec![None]));
+    // Without a hash nothing is read.
+    assert_eq!(xet_shards::find_files(&[], &[]), Ok(vec![]));
+    assert_eq!(xet_shards::find_files(&shard[..199], &wanted), Err(Error::Io));
+}
+
+#[test]
 fn disagreements() {
     let one = shard_of(&["file 100 200:0:5:5", "xorb 10 21:5"]);
     let other = shard_of(&["file 100 s=7 200:0:5:5", "xorb 10 21:6"]);
