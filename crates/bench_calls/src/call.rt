@@ -1,6 +1,6 @@
 //! One call of an operation.
 
-ghost use Rattle.std.specs.Prelude.{◌≡◌, List, ℕ, IfOk};
+ghost use Rattle.std.specs.Prelude.{List, ℕ, IfOk};
 ghost use Rattle.xet_core_structures.specs.declared.record_reader.FormatVersion.TheVariants.{V3};
 ghost use Rattle.shard_bytes.specs.Combining.{CombinesTo};
 ghost use Rattle.shard_bytes.specs.Versions.{IsWrittenIn};

@@ -1,6 +1,6 @@
 //! The call that C and Rust make.
 
-ghost use Rattle.std.specs.Prelude.{◌≡◌, ◌⊎◌, List, ℕ, IfOk, IfSome};
+ghost use Rattle.std.specs.Prelude.{◌≡◌, ◌⊎◌, List, ℕ, IfOk};
 ghost use Rattle.bench_calls.specs.declared.operation.Operation.{Operation};
 ghost use Rattle.xet_core_structures.specs.declared.merklehash.DataHash.{DataHash};
 ghost use Rattle.std.specs.Fn.{iterate};

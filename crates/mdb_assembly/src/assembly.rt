@@ -1,7 +1,7 @@
 //! A shard written in parts: the rows of files, those of xorbs, then the tables, whose rows wait in
 //! another file.
 
-ghost use Rattle.std.specs.Prelude.{◌≡◌, ◌+◌, ◌-◌, ◌++◌, ◌<◌, ◌≤◌, ◌^◌, ℕ, List, All, length, map, flat_map, drop, slice_range, true, false, IfOk, IfErr, OnOk};
+ghost use Rattle.std.specs.Prelude.{◌≡◌, ◌+◌, ◌-◌, ◌<◌, ◌≤◌, ◌^◌, ℕ, List, All, length, map, flat_map, drop, slice_range, true, false, IfOk, IfErr, OnOk};
 ghost use Rattle.std.specs.Io.KnownBytes.{Appends};
 ghost use Rattle.xet_base.specs.Errors.{IsDeviceError};
 ghost use Rattle.xet_records.specs.XorbRow.{xorb_header_row};

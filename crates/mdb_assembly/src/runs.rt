@@ -1,6 +1,6 @@
 //! Merging sorted chunk tables of one file, with little in memory.
 
-ghost use Rattle.std.specs.Prelude.{◌≡◌, ◌+◌, ◌-◌, ◌≤◌, ◌^◌, ℕ, List, length, flat_map, slice_range, take, min, IfOk, IfSome, OnOk, MatchOption};
+ghost use Rattle.std.specs.Prelude.{◌≡◌, ◌+◌, ◌-◌, ◌≤◌, ◌^◌, List, length, flat_map, slice_range, take, min, IfOk, IfSome, OnOk, MatchOption};
 ghost use Rattle.std.specs.BinaryHeap.{heap_items, heap_len};
 ghost use Rattle.std.specs.Io.KnownBytes.{Appends};
 ghost use Rattle.xet_shards.specs.Write.Tables.{chunk_table_row_bytes};

@@ -1,6 +1,6 @@
 //! Removing the inputs of merges.
 
-ghost use Rattle.std.specs.Prelude.{◌≡◌, ◌↔◌, IsTrue};
+ghost use Rattle.std.specs.Prelude.{◌↔◌, IsTrue};
 ghost use Rattle.mdb_merging.specs.Removal.{MayRemove};
 
 use mdb_base::failure::Failure;

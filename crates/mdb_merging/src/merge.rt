@@ -1,6 +1,6 @@
 //! The command that merges shards.
 
-ghost use Rattle.std.specs.Prelude.{◌≡◌, List, ℕ, Option, zip, map, IfOk, MatchResult};
+ghost use Rattle.std.specs.Prelude.{List, ℕ, Option, zip, map, IfOk, MatchResult};
 ghost use Rattle.placed_shards.specs.MergedLists.{IsMergeOf};
 ghost use Rattle.placed_shards.specs.Selections.{all_records};
 ghost use Rattle.shard_bytes.specs.Versions.{IsWrittenIn};

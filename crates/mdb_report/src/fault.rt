@@ -1,10 +1,9 @@
 //! Why a command failed, in words.
 
-ghost use Rattle.std.specs.Prelude.{◌≡◌, ◌⊎◌, ◌↔◌, ℕ, All, Contains, IfSome, IsTrue, MatchOption, MatchResult};
-ghost use Rattle.xet_core_structures.specs.KeyedExport.{ExpiresTooLate};
+ghost use Rattle.std.specs.Prelude.{◌≡◌, ◌↔◌, ℕ, All, Contains, IfSome, IsTrue, MatchOption, MatchResult};
 ghost use Rattle.xet_core_structures.specs.View.{IsIoOther};
 ghost use Rattle.shard_bytes.specs.Checking.{IsFinding};
-ghost use Rattle.mdb_report.specs.Faults.{IsFaultOf, IsFaultOfRecord, MayBeCause, KeepsFrom, IsBlocking, IsUnderKey, IsUnderNoKey, IsExportFault, IsMinimalFault};
+ghost use Rattle.mdb_report.specs.Faults.{IsFaultOf, IsFaultOfRecord, MayBeCause, KeepsFrom, IsBlocking, IsExportFault, IsMinimalFault};
 
 use crate::file_finding::InWords;
 use crate::tables::Table;

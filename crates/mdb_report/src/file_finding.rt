@@ -3,7 +3,7 @@
 ghost use Rattle.std.specs.Prelude.{◌≡◌, ◌↔◌, [], map, All, Contains, IsTrue, IfOk, IfErr, MatchOption};
 ghost use Rattle.xet_core_structures.specs.Blake3.{keyed_hash};
 ghost use Rattle.xet_core_structures.specs.Names.{IsShardName, NamesShard};
-ghost use Rattle.shard_bytes.specs.Checking.{IsWhole, IsIntact, IsNote};
+ghost use Rattle.shard_bytes.specs.Checking.{IsWhole, IsIntact};
 ghost use Rattle.mdb_report.specs.declared.file_finding.FileFinding.{FileFinding};
 ghost use Rattle.xet_core_structures.specs.declared.shard_format.MDBShardInfo.{MDBShardInfo};
 ghost use Rattle.mdb_report.specs.FileFindings.{IsFileFinding, IsFileNote, IsFileName, AreFindings, start_in};

@@ -1,6 +1,6 @@
 //! What does not fit together in shards, in words.
 
-ghost use Rattle.std.specs.Prelude.{◌≡◌, ◌⊎◌, [], All, IfOk, IfErr, IsTrue, MatchResult};
+ghost use Rattle.std.specs.Prelude.{◌≡◌, ◌⊎◌, All, IfOk, IfErr, IsTrue, MatchResult};
 ghost use Rattle.xet_core_structures.specs.XorbRecord.{HasItsChunks};
 ghost use Rattle.mdb_report.specs.FileReports.{FilesNotRead};
 ghost use Rattle.mdb_report.specs.LookupTables.{XorbsNotRead};

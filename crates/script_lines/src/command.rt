@@ -1,11 +1,11 @@
 //! The commands of scripts, parsed from lines or their words.
 
-ghost use Rattle.std.specs.Prelude.{◌≡◌, ◌∷◌, Bool, List, ℕ, codes, if◌then◌else◌, ◌⊎◌, IfOk, IfErr, IfSome, OnErr, IsOkAnd, IsNone, IsErrOf, IsUtf8};
+ghost use Rattle.std.specs.Prelude.{◌≡◌, if◌then◌else◌, ◌⊎◌, IfOk, IfErr, IfSome, OnErr, IsOkAnd, IsNone, IsErrOf, IsUtf8};
 ghost use Rattle.shard_bytes.specs.declared.export.ExportParts.{ExportParts as AnyParts};
 ghost use Rattle.shard_bytes.specs.declared.minimal.KeptXorbs.{KeptXorbs as AnyKept};
 ghost use Rattle.xet_core_structures.specs.declared.file_structs.KeptParts.{KeptParts as AnyKeptParts};
 ghost use Rattle.script_lines.specs.Commands.{texts, write_verb, combine_verb, verb_of, parts_word, kept_word, SpellKept, AreArguments, AreCommand, BeginWithVerb, TakesRecord};
-ghost use Rattle.script_lines.specs.Words.{AreWordsOf, IsSkipped};
+ghost use Rattle.script_lines.specs.Words.{IsSkipped};
 ghost use Rattle.script_lines.specs.declared.command.Command.{Command as AnyCommand};
 
 use crate::files_and_xorbs::{parse_file, parse_xorb};

@@ -1,6 +1,6 @@
 //! Minimal shards, subsets of xorbs, and chunks of the global index.
 
-ghost use Rattle.std.specs.Prelude.{◌≡◌, ◌⊎◌, ◌↔◌, true, length, IfOk, IsTrue, MatchResult, map};
+ghost use Rattle.std.specs.Prelude.{◌≡◌, ◌↔◌, true, length, IfOk, IsTrue, MatchResult, map};
 ghost use Rattle.std.specs.List.{Any};
 ghost use Rattle.xet_core_structures.specs.declared.error.CoreError.{CoreError};
 ghost use Rattle.xet_core_structures.specs.KeyedExport.{ExportCase};

@@ -1,6 +1,6 @@
 //! Looking for runs of chunks.
 
-ghost use Rattle.std.specs.Prelude.{◌<◌, ◌^◌, ℕ, Option, IfSome, IsOkAnd, MatchResult};
+ghost use Rattle.std.specs.Prelude.{◌<◌, Option, IsOkAnd, MatchResult};
 ghost use Rattle.std.specs.FinMap as finite;
 ghost use Rattle.xet_core_structures.specs.KeyedHash.{no_key};
 ghost use Rattle.xet_core_structures.specs.Shard.{Shard};

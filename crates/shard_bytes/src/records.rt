@@ -1,12 +1,12 @@
 //! Writing records, and reading them.
 
-ghost use Rattle.std.specs.Prelude.{◌≡◌, ◌⊎◌, ◌^◌, ◌<◌, ℕ, List, Option, IfOk, IfErr, IfSome, OnOk, MatchResult};
+ghost use Rattle.std.specs.Prelude.{◌≡◌, ◌^◌, ◌<◌, Option, IfOk, IfSome, MatchResult};
 ghost use Rattle.std.specs.FinMap as finite;
 ghost use Rattle.xet_core_structures.specs.declared.error.CoreError.{CoreError};
 ghost use Rattle.xet_core_structures.specs.Layout.{layout_in};
 ghost use Rattle.xet_core_structures.specs.Shard.{Shard, IsShard};
 ghost use Rattle.xet_core_structures.specs.WrittenShard.{HasFilesIn, IsBytesOf};
-ghost use Rattle.shard_bytes.specs.Recording.{with_files, with_xorbs, shard_of, CanAddFiles, CanAddXorbs, CanAddRecords, AdmitsAll, HasRecords, RefusesRecords};
+ghost use Rattle.shard_bytes.specs.Recording.{shard_of, CanAddRecords, AdmitsAll, HasRecords, RefusesRecords};
 
 use bumpalo::Bump;
 use placed_shards::records::of_records;

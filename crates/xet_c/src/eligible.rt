@@ -1,6 +1,6 @@
 //! The chunks that the global index keeps.
 
-ghost use Rattle.std.specs.Prelude.{◌≡◌, ◌⊎◌, List, map, MatchResult};
+ghost use Rattle.std.specs.Prelude.{◌≡◌, List, map, MatchResult};
 ghost use Rattle.xet_core_structures.specs.declared.merklehash.DataHash.{DataHash};
 ghost use Rattle.shard_bytes.specs.Minimal.{EligibleIn, RefusesMinimal};
 ghost use Rattle.shard_bytes.specs.Outcomes.{InMemory};

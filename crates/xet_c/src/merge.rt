@@ -1,6 +1,6 @@
 //! The union of a list of shards.
 
-ghost use Rattle.std.specs.Prelude.{◌≡◌, true, false, List, map, IfOk, MatchResult};
+ghost use Rattle.std.specs.Prelude.{◌≡◌, true, false, List, map, IfOk};
 ghost use Rattle.xet_core_structures.specs.declared.merklehash.DataHash.{DataHash};
 ghost use Rattle.xet_core_structures.specs.Shard.{Shard};
 ghost use Rattle.xet_core_structures.specs.Trees.MergeTrees.{MergeRefused};

@@ -1,6 +1,6 @@
 //! Subsets of xorbs.
 
-ghost use Rattle.std.specs.Prelude.{◌≡◌, IfOk, IfErr, MatchResult};
+ghost use Rattle.std.specs.Prelude.{◌≡◌, IfOk, IfErr};
 ghost use Rattle.placed_shards.specs.Filling.{FillsWith};
 ghost use Rattle.xet_core_structures.specs.KeyedExport.{ExportCase};
 ghost use Rattle.shard_bytes.specs.Outcomes.{InMemory};

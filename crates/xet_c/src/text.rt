@@ -1,9 +1,8 @@
 //! Hashes as text, and the names of shard files.
 
-ghost use Rattle.std.specs.Prelude.{◌≡◌, ◌⊎◌, MatchResult, MatchOption, IsOkAnd, IsErrAnd, string_bytes};
+ghost use Rattle.std.specs.Prelude.{◌≡◌, MatchResult, MatchOption, IsOkAnd, IsErrAnd, string_bytes};
 ghost use Rattle.std.specs.Str.{IsAscii};
 ghost use Rattle.xet_core_structures.specs.declared.error.CoreError.{CoreError};
-ghost use Rattle.xet_core_structures.specs.declared.merklehash.DataHash.{DataHash};
 ghost use Rattle.xet_core_structures.specs.Hex.{hash_hex, IsHexText, Spells};
 ghost use Rattle.xet_core_structures.specs.Names.{shard_name, IsShardName, NamesShard};
 ghost use Rattle.xet_c.specs.Output.{Outcome};

@@ -1,8 +1,7 @@
 //! A shard of records in lists.
 
-ghost use Rattle.std.specs.Prelude.{◌≡◌, ◌⊎◌, ◌≤◌, [], ◌∷◌, All, length, map, take, drop, IfOk, IfErr, MatchResult, option_to_list};
+ghost use Rattle.std.specs.Prelude.{◌≡◌, ◌⊎◌, ◌≤◌, [], ◌∷◌, length, map, take, drop, IfOk, IfErr, MatchResult, option_to_list};
 ghost use Rattle.placed_shards.specs.Filling.{FillsWith};
-ghost use Rattle.xet_core_structures.specs.FileRecord.{has_metadata_ext, has_aux_ext};
 ghost use Rattle.xet_c.specs.Arguments.{c_segment};
 ghost use Rattle.xet_c.specs.ShownRecords.{c_chunk};
 ghost use Rattle.xet_c.specs.Output.{Outcome};
