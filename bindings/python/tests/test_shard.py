@@ -114,7 +114,7 @@ def test_each_method_is_its_function():
 
 def test_parameters_are_those_of_the_functions():
     names = METHODS - {"close", "find_xorb"}
-    assert len(names) == 15
+    assert len(names) == 16
     for name in names:
         own, wanted = (inspect.signature(getattr(it, name)) for it in (xet_shards.Shard, xet_shards))
         assert [*own.parameters.values()][1:] == [*wanted.parameters.values()][1:], name
