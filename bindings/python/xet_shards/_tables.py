@@ -2,6 +2,7 @@
 from __future__ import annotations
 
 import ctypes
+import functools
 import importlib
 import itertools
 from ctypes import byref
@@ -50,8 +51,9 @@ def _numpy() -> Any:
     return importlib.import_module("numpy")
 
 
+@functools.lru_cache(maxsize=None)
 def _types() -> Tuple[Any, ...]:
-    """Returns the types of the four arrays: the structs of xet.h, a hash as four words."""
+    """Returns the types of the four arrays: the structs of xet.h, a hash as four words. They are made once."""
     numpy = _numpy()
 
     def type_of(*fields: Any, size: int) -> Any:
