@@ -93,8 +93,8 @@ static uint32_t call_concatenate(const struct input *input, void *out, size_t ca
     return xet_concatenate(list, input->count, out, capacity, written);
 }
 
-/* The whole in two spans, cut where the first word of the chunks says: the bytes of one call. A span that passes the
- * end is refused. */
+/* The whole in two spans, cut where the first word of the chunks says: the bytes or the error of one call. A span that
+ * passes the end is refused. */
 static uint32_t call_concatenate_span(const struct input *input, void *out, size_t capacity, size_t *written) {
     xet_bytes list[SHARDS];
     list_shards(input, list);
@@ -105,18 +105,18 @@ static uint32_t call_concatenate_span(const struct input *input, void *out, size
     if (capacity < size) {
         error = xet_concatenate_span(list, input->count, size - capacity + 1, out, capacity, written);
         require(error == XET_INVALID_ARGUMENTS && *written == size, "a span passes the end");
-        return XET_SHORT;
+        return xet_concatenate(list, input->count, out, capacity, written);
     }
     const xet_hash *chunk = (const void *)input->chunks.bytes;
     size_t cut = input->chunks.length ? (size_t)(chunk->words[0] % (size + 1)) : size / 2;
-    error = xet_concatenate_span(list, input->count, cut, (uint8_t *)out + cut, size - cut, written);
-    if (!error)
-        error = xet_concatenate_span(list, input->count, 0, out, cut, written);
-    uint8_t *whole = malloc(size);
-    require(whole && !xet_concatenate(list, input->count, whole, size, written) && *written == size &&
-                (error || !memcmp(whole, out, size)),
+    uint8_t *spans = malloc(size);
+    require(spans, "malloc");
+    uint32_t first = xet_concatenate_span(list, input->count, 0, spans, cut, written);
+    uint32_t second = xet_concatenate_span(list, input->count, cut, spans + cut, size - cut, written);
+    error = xet_concatenate(list, input->count, out, capacity, written);
+    require(error == (first ? first : second) && (error || (*written == size && !memcmp(spans, out, size))),
             "the spans are not the whole");
-    free(whole);
+    free(spans);
     return error;
 }
 

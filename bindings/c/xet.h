@@ -304,9 +304,11 @@ uint32_t xet_concatenate(const xet_bytes *shards, size_t count, uint8_t *out, si
  * the whole, also if they pass its end. So threads write a concatenation side by side: spans that follow one another
  * from 0 to the size are the whole if all succeed. A call with `length` 0 asks for the size alone.
  *
- * Each call reads and tests all tables, as xet_concatenate does. Beside `out` it takes memory for the tables of files
- * and of xorbs, and if the span has some of the table of chunks, for that too. This is the last before the footer, 16
- * bytes for each chunk, and merging it takes longest. So let one thread write it, and the others what is before it.
+ * Each call reads and tests all tables of files and of xorbs, and of the tables of chunks the rows that the span has,
+ * with some around them. So a table of chunks that does not ascend is found by one of the spans that are the whole.
+ * Beside `out` a call takes memory for these rows and for the tables of files and of xorbs. The table of chunks is the
+ * last before the footer, 16 bytes for each chunk. To merge a byte of it takes about as long as to copy 24, so let
+ * spans that have more of it be shorter.
  *
  * XET_INVALID_ARGUMENTS: also if the span passes the end of the whole; with other causes `*size` is 0. The other errors
  *     are those of xet_concatenate. */

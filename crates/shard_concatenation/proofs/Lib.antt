@@ -1,5 +1,7 @@
 pub mod ChunkChecking
+pub mod ChunkCuts
 pub mod ChunkMerging
+pub mod ChunkSpans
 pub mod Concatenation
 pub mod GatheredParts
 pub mod Versions

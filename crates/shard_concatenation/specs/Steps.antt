@@ -1,5 +1,6 @@
 -- Words that only proofs speak of, and contracts of this crate and of those above.
 
+pub mod ChunkCuts
 pub mod ChunkMerging
 pub mod Gathering
 pub mod PartFilling

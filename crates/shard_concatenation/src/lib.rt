@@ -1,6 +1,7 @@
 //! Concatenation of shards whose records follow one another: sections are copied, tables joined.
 #![tactic(auto)]
 
+mod chunk_cuts;
 mod chunk_merging;
 mod concatenate;
 mod gathering;

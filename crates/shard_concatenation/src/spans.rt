@@ -12,13 +12,17 @@ ghost use Rattle.placed_shards.specs.Parts.{HasRecordsInOrder};
 ghost use Rattle.shard_concatenation.specs.Steps.PartFilling.{HasBothEnds, HoldAll};
 ghost use Rattle.shard_concatenation.specs.Steps.Gathering.{HasSizes, HasGathered, HoldTables, IsFooterOf};
 ghost use Rattle.shard_concatenation.specs.Steps.SectionsSteps.{HoldSections, all_of};
+ghost use Rattle.shard_concatenation.specs.Steps.ChunkCuts.{HoldInTables};
+ghost use Rattle.shard_concatenation.specs.Steps.ChunkMerging.{Merges};
 ghost use Rattle.shard_concatenation.specs.Steps.SpansSteps.{HoldsSpan, IsChunkSpan};
+ghost use Rattle.xet_shards.specs.declared.shard_format.write.xorb_writer.ChunkTableRow.{ChunkTableRow};
 ghost use Rattle.xet_shards.specs.Write.Layout.{layout_of, info_of};
 ghost use Rattle.xet_shards.specs.Write.Section.{total_rows};
 ghost use Rattle.xet_shards.specs.Write.Tables.{table_bytes, chunk_table_rows, chunk_table_bytes};
 
-use crate::chunk_merging::Cursor;
-use crate::concatenate::{EndBytes, check_parts, end_bytes};
+use crate::chunk_cuts::{check_row_counts, cuts_around, row_count, tables_between};
+use crate::chunk_merging::{Cursor, check_chunk_tables};
+use crate::concatenate::{EndBytes, end_bytes, info_of_parts};
 use crate::gathering::GatheredParts;
 use crate::ordered_parts::ordered_parts;
 use crate::section_parts::{SectionPart, write_tables};
@@ -35,12 +39,13 @@ use xet_shards::shard_format::{
 };
 
 /// Fills `out` with the bytes from offset `from` on of what
-/// [`concatenate_shards_into`](crate::concatenate_shards_into) writes, with its tests and errors,
-/// and returns the size of the whole. `out` stays as it is if they pass its end or after an error.
-/// Threads may write spans side by side (`laws::spans_are_the_whole`).
+/// [`concatenate_shards_into`](crate::concatenate_shards_into) writes, with its errors, and returns
+/// the size of the whole. `out` stays as it is if they pass its end or after an error. Threads may
+/// write spans side by side (`laws::spans_are_the_whole`).
 ///
-/// Beside `out`, memory is needed for a few hundred bytes a shard, for the tables of files and
-/// xorbs, and for the chunk table if the span has a byte of it.
+/// Of chunk tables only the rows in the span, and some around them, are tested and merged. Beside
+/// `out`, memory is needed for these, for the tables of files and xorbs, and for a few hundred bytes
+/// a shard.
 pub fn concatenated_span_into(
     alloc: Global,
     shards: &[&[u8]],
@@ -92,7 +97,10 @@ fn fill_span(alloc: Global, shards: &[&[u8]], from: usize, out: &mut [u8]) -> Re
         out.old out.new result }
 {
     let gathered = ordered_parts(alloc, shards)?;
-    let info = check_parts(alloc, &gathered)?;
+    let info = info_of_parts(alloc, &gathered)?;
+    let rows = info.metadata.chunk_lookup_num_entry;
+    let cursors = gathered.cursors.as_slice();
+    check_row_counts(alloc, cursors, rows)?;
     let ends = end_bytes(alloc, &info)?;
     let mut tables = Vec::new(alloc);
     add_table::<MDBFileInfo>(alloc, &mut tables, gathered.files.as_slice())?;
@@ -102,13 +110,7 @@ fn fill_span(alloc: Global, shards: &[&[u8]], from: usize, out: &mut [u8]) -> Re
     if until > size {
         return Ok(size);
     }
-    let chunks = chunk_span(
-        alloc,
-        gathered.cursors.as_slice(),
-        &info.metadata,
-        from,
-        until,
-    )?;
+    let chunks = chunk_span(alloc, cursors, &info.metadata, from, until)?;
     put_span(
         out,
         from,
@@ -141,14 +143,14 @@ fn add_table<R: SectionRecord>(
     }
 }
 
-/// The chunk table's rows, or none for a span without a byte of it, and how many of its bytes are
-/// before them.
+/// Rows of the chunk table, and how many of its bytes are before them.
 #[derive(Drop)]
 pub struct ChunkSpan {
     pub before: usize,
     pub rows: Vec<u8>,
 }
 
+// The rows of which the span has a byte, with some around them. `InvalidShard` if one is refused.
 fn chunk_span(
     alloc: Global,
     cursors: &[Cursor<'_>],
@@ -165,29 +167,47 @@ fn chunk_span(
         (footer.now.footer_offset - 16 * footer.now.chunk_lookup_num_entry) from until) }
     ensures before { IfOk result (λ c. c.before ≤ 16 * footer.now.chunk_lookup_num_entry) }
     ensures succeeds { (xorbs : List MDBXorbInfo) → HoldTables cursors.now xorbs
+        → footer.now.chunk_lookup_num_entry ≡ length (chunk_table_rows xorbs)
         → IfErr result (λ e. e ≡ CoreError.OutOfMemory) }
     ensures causes { IfErr result IsBadPart }
 {
     let end = footer.footer_offset as usize;
     let size = CHUNK_ROW_SIZE * footer.chunk_lookup_num_entry as usize;
     let start = end - size;
-    let mut rows = Vec::new(alloc);
+    let rows = Vec::new(alloc);
     if until <= start {
         return Ok(ChunkSpan { before: 0, rows });
     }
     if end <= from {
         return Ok(ChunkSpan { before: size, rows });
     }
-    let merge = TableMerge::of(alloc, cursors)?;
-    rows.resize(size, 0)?;
-    put_merged_tables(
-        alloc,
-        rows.as_mut_slice(),
-        0,
-        merge,
-        footer.chunk_lookup_num_entry,
-    );
-    Ok(ChunkSpan { before: 0, rows })
+    let first = from.saturating_sub(start) / CHUNK_ROW_SIZE;
+    let last = (until - start - 1) / CHUNK_ROW_SIZE;
+    let cuts = cuts_around(cursors, first as u64);
+    let high = cuts_around(cursors, last as u64).high;
+    let tables = tables_between(alloc, cursors, cuts.low, high)?;
+    let most = footer.chunk_lookup_num_entry - cuts.before;
+    let rows = merged_rows(alloc, tables.as_slice(), most)?;
+    let before = CHUNK_ROW_SIZE * cuts.before as usize;
+    Ok(ChunkSpan { before, rows })
+}
+
+// `InvalidShard` if a table is refused, or if there are more than `most` rows.
+fn merged_rows(alloc: Global, tables: &[Cursor<'_>], most: u64) -> Result<Vec<u8>>
+    requires { most < 2 ^ 40 }
+    ensures merges { (rows : List ChunkTableRow) → HoldInTables rows tables.now → length rows ≤ most
+        → IfOk result (λ bytes. Merges rows (Some []) (Some bytes.items)) }
+    ensures succeeds { (rows : List ChunkTableRow) → HoldInTables rows tables.now → length rows ≤ most
+        → IfErr result (λ e. e ≡ CoreError.OutOfMemory) }
+    ensures causes { IfErr result IsBadPart }
+{
+    let rows = row_count(tables).min(most);
+    check_chunk_tables(alloc, tables, rows)?;
+    let merge = TableMerge::of(alloc, tables)?;
+    let mut bytes = Vec::new(alloc);
+    bytes.resize(CHUNK_ROW_SIZE * rows as usize, 0)?;
+    put_merged_tables(alloc, bytes.as_mut_slice(), 0, merge, rows);
+    Ok(bytes)
 }
 
 fn put_span(

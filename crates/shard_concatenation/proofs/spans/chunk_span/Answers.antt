@@ -1,11 +1,12 @@
-use Rattle.std.proofs.Common.{◌≡◌, ◌*◌, ◌∙◌, ◌++◌, ℕ, List, [], Some, length, take, drop, flat_map, inl, inr, refl, sym, ap, append-nil, arith, rules}
-use Rattle.std.proofs.lemmas.List.{take-append-le, take_all}
+use Rattle.std.proofs.Common.{◌≡◌, ◌-◌, ◌*◌, ◌<◌, ◌^◌, ◌∙◌, ◌++◌, ℕ, [], length, flat_map, inl, inr, refl, sym, ap, subst, append-nil, arith}
+use Rattle.std.specs.Prelude.{◌/◌}
+use Rattle.std.proofs.lemmas.Result.{err_from_is_err_and}
 use Rattle.std.proofs.lemmas.List.Sorted.{length_permutation}
 use Rattle.shard_concatenation.specs.Steps.ChunkMerging.{rows_held}
+use Rattle.shard_concatenation.specs.Steps.ChunkCuts.{rows_before, rows_between, HoldInTables}
 use Rattle.xet_shards.specs.Write.Tables.{chunk_table_rows, chunk_table_bytes}
 use Rattle.xet_shards.proofs.Write.XorbLayouts.{length-chunk_table_bytes, length-chunk_table_rows}
-use Rattle.shard_concatenation.proofs.Concatenation.{merged_table}
-use Rattle.shard_concatenation.proofs.PartFilling.{whole_put}
+use Rattle.shard_concatenation.proofs.ChunkSpans.{between_others, span_between}
 use Rattle.shard_concatenation.proofs.spans.chunk_span.Goals as goal
 
 pub returns-then-until-start-clause-span : goal.returns-then-until-start-clause-span
@@ -32,17 +33,33 @@ returns-then-end-from-clause-span c = λ xorbs held count.
       back_out = inl refl;
     }
 
+pub returns-in_err-rows-clause-succeeds : goal.returns-in_err-rows-clause-succeeds
+returns-in_err-rows-clause-succeeds c = λ xorbs tables count.
+    let all = flat_map rows_held tables.held in
+    let entries = c.args.footer.now.chunk_lookup_num_entry in
+    let low = c.cuts_around-cuts.result.low in
+    let high = c.cuts_around-high.result.high in
+    let rows = rows_between low high all in
+    let size : length all ≡ entries = omega (arith, count, length_permutation (chunk_table_rows xorbs) all tables.moved) in
+    let small : length all < 2 ^ 64 = omega (arith, size, c.requires.small, c.requires.rows) in
+    let before : c.cuts_around-cuts.result.before ≡ length (rows_before low all) = c.cuts_around-cuts.ensures.before tables.held tables.cursors_are tables.hold small in
+    let between : HoldInTables rows c.as_slice.result.now = subst (HoldInTables rows) (sym c.as_slice.ensures.value) (c.in_ok-tables.ensures.held tables.held tables.cursors_are tables.hold) in
+    let lacks = c.in_err-rows.ensures.succeeds rows between (omega (arith, between_others low high all, before, size)) in
+    let p = err_from_is_err_and c.from_residual-in_err-rows.result c.from_residual-in_err-rows.ensures.1 in
+    rw (p.1) (p.2 ∙ lacks)
+
 pub returns-clause-span : goal.returns-clause-span
-returns-clause-span c = λ xorbs held count.
-    let rows = flat_map rows_held held.held in
-    let merges = c.put_merged_tables.ensures.bytes c.args.cursors.now held.held held.cursors_are held.hold c.in_ok-merge.ensures.held (count ∙ sym (length_permutation (chunk_table_rows xorbs) rows held.moved)) in
-    let front : take c.put_merged_tables.result c.put_merged_tables.new.out ≡ chunk_table_bytes xorbs =
-    merged_table xorbs rows (Some (take 0 c.as_mut_slice.result.now)) (Some (take c.put_merged_tables.result c.put_merged_tables.new.out)) held.moved merges in
-    let size : length c.put_merged_tables.new.out ≡ 16 * c.args.footer.now.chunk_lookup_num_entry = search rules in
-    let whole = whole_put c.put_merged_tables.new.out (chunk_table_bytes xorbs) c.put_merged_tables.result front (omega (arith, size, count, length-chunk_table_bytes xorbs, length-chunk_table_rows xorbs)) (omega (arith, size, c.put_merged_tables.ensures.end)) in
-    let out : List ℕ = c.put_merged_tables.new.out in
-    let len = c.resize.new.self.len in
-    let same : length out ≡ len = omega (arith, size, c.in_ok-resize.ensures.len, c.as_mut_slice.ensures.len, c.put_merged_tables.auto.out) in
-    let items : List ℕ = take len (out ++ drop (length out) c.resize.new.self.items) in
-    let items_are : items ≡ out = take-append-le len out (drop (length out) c.resize.new.self.items) (omega (arith, same)) ∙ take_all len out (omega (arith, same)) in
-    record { front = []; back = []; table_is = sym (append-nil items ∙ items_are ∙ whole); before_is = refl; front_out = inl refl; back_out = inl refl }
+returns-clause-span c = λ xorbs tables count.
+    let all = flat_map rows_held tables.held in
+    let entries = c.args.footer.now.chunk_lookup_num_entry in
+    let start : ℕ = c.args.footer.now.footer_offset - 16 * entries in
+    let low = c.cuts_around-cuts.result.low in
+    let high = c.cuts_around-high.result.high in
+    let rows = rows_between low high all in
+    let size : length all ≡ entries = omega (arith, count, length_permutation (chunk_table_rows xorbs) all tables.moved) in
+    let small : length all < 2 ^ 64 = omega (arith, size, c.requires.small, c.requires.rows) in
+    let before : c.cuts_around-cuts.result.before ≡ length (rows_before low all) = c.cuts_around-cuts.ensures.before tables.held tables.cursors_are tables.hold small in
+    let between : HoldInTables rows c.as_slice.result.now = subst (HoldInTables rows) (sym c.as_slice.ensures.value) (c.in_ok-tables.ensures.held tables.held tables.cursors_are tables.hold) in
+    let merges = c.in_ok-rows.ensures.merges rows between (omega (arith, between_others low high all, before, size)) in
+    span_between xorbs all low high start c.args.from c.args.until ((c.args.until - start - 1) / 16) (record { before = 16 * c.cuts_around-cuts.result.before; rows = c.in_ok-rows.rows }) tables.moved merges (ap (λ n. 16 * n) before)
+    (λ some. omega (arith, some, before, c.cuts_around-cuts.ensures.below, c.saturating_sub-first.ensures)) (c.cuts_around-high.ensures.high tables.held tables.cursors_are tables.hold small) (omega (arith, c.if-until-start.false))

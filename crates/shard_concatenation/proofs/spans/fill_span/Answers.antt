@@ -29,14 +29,25 @@ returns-in_err-gathered-clause-causes c =
 
 pub returns-in_err-info-clause-succeeds : goal.returns-in_err-info-clause-succeeds
 returns-in_err-info-clause-succeeds c = λ key parts row are.
-    let lacks = c.in_err-info.ensures.succeeds parts (c.in_ok-gathered.ensures.gathered key parts row.fit are).1 row.together in
-    let p = err_from_is_err_and c.from_residual-in_err-info.result c.from_residual-in_err-info.ensures.1 in
-    rw (p.1) (p.2 ∙ lacks)
+    absurd (c.in_err-info.ensures.succeeds parts (c.in_ok-gathered.ensures.gathered key parts row.fit are).1)
 
 pub returns-in_err-info-clause-causes : goal.returns-in_err-info-clause-causes
 returns-in_err-info-clause-causes c =
     let p = err_from_is_err_and c.from_residual-in_err-info.result c.from_residual-in_err-info.ensures.1 in
     rw (p.1) (subst (RefusesConcatenation (map (λ (x : Bor (List ℕ)). x.now) c.args.shards.now)) (sym p.2) (inr (inr c.in_err-info.ensures.causes)), refl)
+
+pub returns-in_err-check_row_counts-clause-succeeds : goal.returns-in_err-check_row_counts-clause-succeeds
+returns-in_err-check_row_counts-clause-succeeds c = λ key parts row are.
+    let held = (c.in_ok-gathered.ensures.gathered key parts row.fit are).1 in
+    let tables = held.tables_held in
+    let footer = c.in_ok-info.info.metadata in
+    absurd (c.in_err-check_row_counts.ensures.held tables.held (tables.cursors_are ∙ sym c.as_slice-cursors.ensures.value) tables.hold
+    (count_is c.in_ok-gathered.gathered.totals parts footer.chunk_lookup_num_entry held.totals_are c.in_ok-info.ensures.footer.chunks _ tables.moved))
+
+pub returns-in_err-check_row_counts-clause-causes : goal.returns-in_err-check_row_counts-clause-causes
+returns-in_err-check_row_counts-clause-causes c =
+    let p = err_from_is_err_and c.from_residual-in_err-check_row_counts.result c.from_residual-in_err-check_row_counts.ensures.1 in
+    rw (p.1) (subst (RefusesConcatenation (map (λ (x : Bor (List ℕ)). x.now) c.args.shards.now)) (sym p.2) (inr (inr (inl c.in_err-check_row_counts.ensures.causes))), refl)
 
 pub returns-in_err-add_table-clause-succeeds : goal.returns-in_err-add_table-clause-succeeds
 returns-in_err-add_table-clause-succeeds c = λ key parts row are.
@@ -65,7 +76,9 @@ returns-in_err-add_table-2-clause-causes c =
 pub returns-in_err-chunks-clause-succeeds : goal.returns-in_err-chunks-clause-succeeds
 returns-in_err-chunks-clause-succeeds c = λ key parts row are.
     let held = (c.in_ok-gathered.ensures.gathered key parts row.fit are).1 in
-    let lacks = c.in_err-chunks.ensures.succeeds (xorbs_in parts) (subst (λ cs. HoldTables cs (xorbs_in parts)) (sym c.as_slice-3.ensures.value) held.tables_held) in
+    let xs = xorbs_in parts in
+    let count = count_is c.in_ok-gathered.gathered.totals parts c.in_ok-info.info.metadata.chunk_lookup_num_entry held.totals_are c.in_ok-info.ensures.footer.chunks (chunk_table_rows xs) (IsPermutation-refl (chunk_table_rows xs)) in
+    let lacks = c.in_err-chunks.ensures.succeeds xs (subst (λ cs. HoldTables cs xs) (sym c.as_slice-cursors.ensures.value) held.tables_held) count in
     let p = err_from_is_err_and c.from_residual-in_err-chunks.result c.from_residual-in_err-chunks.ensures.1 in
     rw (p.1) (p.2 ∙ lacks)
 
@@ -132,11 +145,11 @@ returns-clause-parts c = λ key parts fit are.
     let within : c.args.from + length c.args.out.now ≤ footer.footer_offset + 200 = omega (arith, c.if-until-size.false, until_is) in
     let first = c.in_ok-add_table.ensures.bytes (map (λ p. p.files) parts) (subst (λ ss. HoldSections file_records ss (map (λ p. p.files) parts)) (sym c.as_slice.ensures.value) held.files_held) in
     let second = c.in_ok-add_table-2.ensures.bytes (map (λ p. p.xorbs) parts) (subst (λ ss. HoldSections xorb_records ss (map (λ p. p.xorbs) parts)) (sym c.as_slice-2.ensures.value) held.xorbs_held) in
-    let tables : c.as_slice-4.result.now ≡ table_bytes file_records fs ++ table_bytes xorb_records xs =
-    c.as_slice-4.ensures.value ∙ second ∙ ap (λ l. l ++ table_bytes xorb_records (all_of (map (λ p. p.xorbs) parts))) (first ∙ ap (λ l. l ++ table_bytes file_records (all_of (map (λ p. p.files) parts))) c.new-tables.ensures.items)
+    let tables : c.as_slice-3.result.now ≡ table_bytes file_records fs ++ table_bytes xorb_records xs =
+    c.as_slice-3.ensures.value ∙ second ∙ ap (λ l. l ++ table_bytes xorb_records (all_of (map (λ p. p.xorbs) parts))) (first ∙ ap (λ l. l ++ table_bytes file_records (all_of (map (λ p. p.files) parts))) c.new-tables.ensures.items)
     ∙ (λ i. table_bytes file_records (all_files parts i) ++ table_bytes xorb_records (all_xorbs parts i)) in
     let count = count_is gathered.totals parts footer.chunk_lookup_num_entry held.totals_are c.in_ok-info.ensures.footer.chunks (chunk_table_rows xs) (IsPermutation-refl (chunk_table_rows xs)) in
-    let span = c.in_ok-chunks.ensures.span xs (subst (λ cs. HoldTables cs xs) (sym c.as_slice-3.ensures.value) held.tables_held) count in
+    let span = c.in_ok-chunks.ensures.span xs (subst (λ cs. HoldTables cs xs) (sym c.as_slice-cursors.ensures.value) held.tables_held) count in
     let filled = c.put_span.ensures parts held widths (c.in_ok-info.ensures.info parts held widths) tables
     (subst (λ end. IsChunkSpan (chunk_table_bytes xs) (footer.footer_offset - 16 * footer.chunk_lookup_num_entry) c.args.from end c.in_ok-chunks.chunks) until_is span) within in
     subst (λ bytes. FillsSpan bytes c.args.from c.args.out.now c.put_span.new.out (footer.footer_offset + 200)) (λ i. layout_of fs xs (options_under (version i) (same i)))
