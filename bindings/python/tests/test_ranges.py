@@ -2,6 +2,7 @@
 
 Runs with pytest, or as a program, which ends with the line 'N passed, M failed'.
 """
+import ctypes
 import mmap
 import os
 import random
@@ -253,11 +254,75 @@ def test_ranges_are_of_about_one_size():
         assert len(sizes) == 4 and max(sizes) < 0.35 * sum(sizes), sizes
 
 
+def test_spans_are_the_whole():
+    """Threads write what one call writes, a span each, and no span passes the end."""
+    parts = ranges.range_merges([ONE_FILE, XORB_AND_FILE], 2, False, None, None, 3)
+    whole = xet_shards.concatenate(parts)
+    for threads in (1, 2, 3, 7, 100):
+        out = bytearray(len(whole) + 1)
+        assert ranges.concatenate_in_threads_to(parts, out, threads) == len(whole)
+        assert out == whole + bytes(1)
+    for room in (0, 1, len(whole) - 1):
+        out = bytearray(room)
+        assert ranges.concatenate_in_threads_to(parts, out, 3) == len(whole)
+        assert out == bytes(room)
+    for start in range(len(whole)):
+        stop = min(start + 1 + start % 50, len(whole))
+        out = (ctypes.c_char * len(whole))()
+        assert ranges._put_span(parts, out, start, stop) == len(whole)
+        assert bytes(out) == bytes(start) + whole[start:stop] + bytes(len(whole) - stop)
+    for start, stop in ((0, len(whole) + 1), (len(whole), len(whole) + 1)):
+        out = (ctypes.c_char * (len(whole) + 1))()
+        error = raises(xet_shards.XetError, ranges._put_span, parts, out, start, stop)
+        assert error.name == "InvalidArguments" and bytes(out) == bytes(len(whole) + 1)
+
+
+def spans_of(choice, size):
+    """Returns where random spans that follow one another start and stop, up to the size of the whole."""
+    edges = sorted({0, size, *(choice.randrange(size) for _ in range(choice.randrange(6)))})
+    return list(zip(edges, edges[1:]))
+
+
+def spans_put(parts, spans, size):
+    """Returns the bytes that spans of a concatenation write, or the error of the first that fails."""
+    out = (ctypes.c_char * size)()
+    for start, stop in spans:
+        ranges._put_span(parts, out, start, stop)
+    return bytes(out)
+
+
+def test_spans_cut_tables():
+    """Spans begin and end anywhere in the table of chunks, whatever first words its rows have."""
+    for word in (spread, few, skewed, one_word):
+        choice = random.Random(word.__name__)
+        for _ in range(10):
+            shard = records_in_a_shard(choice, word, choice.choice([10, 100]))
+            parts = ranges.range_merges([shard], 3, False, None, None, 3) or [shard]
+            whole = xet_shards.concatenate(parts)
+            for _ in range(5):
+                assert spans_put(parts, spans_of(choice, len(whole)), len(whole)) == whole
+
+
+def test_a_span_finds_rows_that_do_not_ascend():
+    """Two rows of a table of chunks that changed places are an error of some of the spans that are the whole."""
+    choice = random.Random(8)
+    for word in (spread, few, skewed, one_word):
+        part = bytearray(records_in_a_shard(choice, word, 100))
+        info = xet_shards.load(part)
+        assert len(xet_shards.concatenate([part])) == len(part) and info.chunks > 5
+        for _ in range(30):
+            at = info.chunk_table + 16 * choice.randrange(info.chunks - 1)
+            swapped = part[:at] + part[at + 16:at + 32] + part[at:at + 16] + part[at + 32:]
+            spans = spans_of(choice, len(part))
+            assert raises(xet_shards.XetError, xet_shards.concatenate, [swapped]).name == "InvalidShard"
+            assert raises(xet_shards.XetError, spans_put, [swapped], spans, len(part)).name == "InvalidShard"
+
+
 def test_a_range_that_fails():
     """The bytes are those of a merge without threads if a part can't be made, or the parts not put together."""
     shards = [ONE_FILE, XORB_AND_FILE]
     whole = xet_shards.merge(shards)
-    for name in ("_options", "_advise_large_pages", "_merge_to", "concatenate_into"):
+    for name in ("_options", "_advise_large_pages", "_merge_to", "_put_span"):
         original = getattr(ranges, name)
 
         def fails(*_):

@@ -50,8 +50,8 @@ def merge(
     below `stop`. Of well-formed shards that agree, ranges that follow one another have together each record of the join
     once, so each may be merged by a thread or a machine of its own. All shards are read for each range.
 
-    With `threads` so many threads at most merge a range each, and `concatenate` puts the results together. Bytes and
-    errors are the same, whatever is given; the bytes of the output are in memory twice.
+    With `threads` so many threads at most merge a range each, and then write a span each of what `concatenate` makes of
+    the results. Bytes and errors are the same, whatever is given; the bytes of the output are in memory twice.
 
     It is in version 3 of the format, or in `version` 2, which no file with an auxiliary row may have.
 
@@ -93,8 +93,9 @@ def merge_into(
 
     If the buffer is too small it stays as it is: then the number is greater than its length. With inputs and output in
     files that are mapped, a merge needs memory of its own only for tables and for where records lie, and with `threads`
-    as much as the output has. On a full disk the process ends where the output's file has a hole, as `truncate` makes
-    them; `os.posix_fallocate` makes none, and raises an `OSError` there.
+    as much as the output has, and the tables of files and xorbs once more a thread. On a full disk the process ends
+    where the output's file has a hole, as `truncate` makes them; `os.posix_fallocate` makes none, and raises an
+    `OSError` there.
 
     The buffer shares no memory with a shard: that is a `ValueError`. Two maps of one file are not found out.
     """

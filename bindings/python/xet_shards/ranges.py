@@ -5,13 +5,13 @@ import ctypes
 import mmap
 import struct
 from concurrent.futures import ThreadPoolExecutor
-from ctypes import byref, c_char, string_at
+from ctypes import byref, c_char, c_size_t, string_at
 from typing import Iterator, List, NamedTuple, Optional, Sequence, Tuple
 
 from ._calls import _library
-from ._errors import _OUT_OF_MEMORY, XetError
-from ._memory import Buffer, WritableBuffer, _Addresses, _advise_large_pages, _output_apart, _written_bytes
-from ._merging import _merge_to, _options, _union_room, _words_of, concatenate_into
+from ._errors import _OUT_OF_MEMORY, XetError, _check
+from ._memory import Buffer, WritableBuffer, _Addresses, _advise_large_pages, _list, _output_apart, _written_bytes
+from ._merging import _merge_to, _options, _union_room, _words_of
 from ._structs import _ROW, _Info, _MergeOptions
 
 # The four words of a hash, by which hashes are ordered.
@@ -21,6 +21,11 @@ Words = Tuple[int, ...]
 _SAMPLE = 256
 # The bytes of a row of the tables of files and xorbs.
 _TABLE_ROW = 12
+# The bytes of a row of the table of chunks, and of a footer.
+_CHUNK_ROW = 16
+_FOOTER = 200
+# To merge a byte of the table of chunks takes as long as to copy so many.
+_CHUNK_WORK = 24
 # The bytes of a hash.
 _HASH = 32
 # The fractional parts of its multiples are spread evenly, however many there are.
@@ -40,17 +45,65 @@ def merge_in_threads_to(
 ) -> Optional[int]:
     """Writes a merge to the front of a buffer, and returns the number of its bytes.
 
-    It returns None, and writes nothing, if there is no hash to cut at or if anything fails. A merge by one call then
-    gives the error. It also gives the bytes of shards that can be merged, but whose parts can't be concatenated.
+    It returns None if there is no hash to cut at or if anything fails, and then it wrote nothing, unless memory was
+    lacking. A merge by one call then gives the error. It also gives the bytes of shards that can be merged, but whose
+    parts can't be concatenated.
     """
     try:
         # An output that shares memory with a shard is an error before anything is written to it.
         with _output_apart(out, shards):
             pass
         parts = range_merges(shards, threads, strict, start, stop, version)
-        return concatenate_into(parts, out) if parts else None
+        return concatenate_in_threads_to(parts, out, min(threads, len(parts))) if parts else None
     except Exception:
         return None
+
+
+def concatenate_in_threads_to(parts: Sequence[Buffer], out: WritableBuffer, threads: int) -> int:
+    """Writes what `concatenate` returns to the front of a buffer, if there is room, and returns its number of bytes.
+
+    Each thread writes a span. What may fail of the results of merges, but for memory, fails before the first of them.
+    """
+    with _output_apart(out, parts) as (array, data):
+        size = _put_span(parts, array, 0, 0)
+        if size > len(array):
+            return size
+        edges = _spans(data, size, threads)
+    with ThreadPoolExecutor(threads) as pool:
+        # Threads take the addresses anew, as those of merges do.
+        list(pool.map(lambda start, stop: _put_span_to(parts, out, start, stop), edges, edges[1:]))
+    return size
+
+
+def _put_span_to(parts: Sequence[Buffer], out: WritableBuffer, start: int, stop: int) -> None:
+    with _output_apart(out, parts) as (array, _):
+        _put_span(parts, array, start, stop)
+
+
+def _put_span(parts: Sequence[Buffer], array: ctypes.Array[c_char], start: int, stop: int) -> int:
+    """Writes a span of a concatenation at its place in an array, and returns the size of the whole."""
+    size = c_size_t()
+    with _Addresses(*parts) as data:
+        place = ctypes.addressof(array) + start
+        span = (c_char * max(stop - start, 1)).from_address(place)
+        _check(_library.xet_concatenate_span(_list(data), len(data), start, span, stop - start, byref(size)))
+    return size.value
+
+
+def _spans(data: Sequence[Tuple[int, int]], size: int, threads: int) -> List[int]:
+    """Returns offsets from 0 to the size of a concatenation, between which are spans that take about equally long.
+
+    The table of chunks is the last before the footer, and a byte of it takes longer. Any offsets would do.
+    """
+    info, chunks = _Info(), 0
+    for address, length in data:
+        if not _library.xet_load(address, length, byref(info)):
+            chunks += info.chunks
+    table = _CHUNK_ROW * chunks
+    start = max(size - _FOOTER - table, 0)
+    work = start + _CHUNK_WORK * table
+    shares = [work * at // threads for at in range(threads)]
+    return sorted({*(min(it, start) + max(it - start, 0) // _CHUNK_WORK for it in shares), size})
 
 
 def range_merges(
