@@ -53,6 +53,7 @@ library! {
     fn xet_find_disagreements(shards: &[Bytes], out: &mut [Disagreement], written: &mut usize) -> u32;
     fn xet_find_malformed(shards: &[Bytes], malformed: &mut bool, found: &mut Disagreement) -> u32;
     fn xet_concatenate(shards: &[Bytes], out: &mut [u8], written: &mut usize) -> u32;
+    fn xet_concatenate_span(shards: &[Bytes], from: usize, out: &mut [u8], size: &mut usize) -> u32;
     fn xet_export(shard: &[u8], options: &ExportOptions, version: u64, out: &mut [u8], written: &mut usize) -> u32;
     fn xet_minimal(shard: &[u8], options: &MinimalOptions, version: u64, out: &mut [u8], written: &mut usize) -> u32;
     fn xet_subset(

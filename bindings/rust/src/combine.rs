@@ -123,8 +123,8 @@ pub struct Merge {
     pub to: Option<Hash>,
     /// These records have to be well-formed, and to agree wherever two have one hash.
     pub strict: bool,
-    /// So many threads at most merge a range of hashes each, and [`concatenate`] puts the results together: the bytes of
-    /// the output are in memory twice. 0 means 1.
+    /// So many threads at most merge a range of hashes each, and then write a span each of what [`concatenate`] makes
+    /// of the results: the bytes of the output are in memory twice. 0 means 1.
     pub threads: usize,
     /// The version of the format.
     pub version: Version,
@@ -305,6 +305,13 @@ pub fn concatenate_into<T: AsRef<[u8]>>(shards: &[T], out: &mut [u8]) -> Result<
         check(number)?;
     }
     Ok(written)
+}
+
+/// Fills `out` with the bytes of what [`concatenate`] returns from an offset on. Returns the size of the whole.
+pub(crate) fn concatenate_span<T: AsRef<[u8]>>(shards: &[T], from: usize, out: &mut [u8]) -> Result<usize> {
+    let (list, mut size) = (listed(shards)?.0, 0);
+    check(calls::xet_concatenate_span(&list, from, out, &mut size))?;
+    Ok(size)
 }
 
 /// All hashes under which two of the shards have records that do not agree, each once: those of files, then those of

@@ -1,10 +1,12 @@
 //! Merges by ranges of hashes, each in a thread.
 
-use crate::combine::{listed, merge_list};
+use crate::combine::{concatenate_span, listed, merge_list};
+use crate::memory::zero_bytes;
 use crate::output::with_room;
-use crate::{concatenate, load, Hash, Info, Merge};
+use crate::{load, Hash, Info, Merge};
 use std::iter::once;
 use std::sync::atomic::{AtomicUsize, Ordering};
+use std::sync::Mutex;
 use std::{io, thread};
 
 /// How many hashes are looked at to find cuts.
@@ -17,6 +19,13 @@ const ROW: u64 = 48;
 const TABLE_ROW: u64 = 12;
 const ROW_AT: u64 = 8;
 
+/// The bytes of a row of the table of chunks, and of a footer.
+const CHUNK_ROW: usize = 16;
+const FOOTER: usize = 200;
+
+/// To merge a byte of the table of chunks takes as long as to copy so many.
+const CHUNK_WORK: usize = 24;
+
 /// The fractional parts of its multiples are spread evenly, however many there are.
 const GOLDEN_RATIO: f64 = 0.618_033_988_749_894_9;
 
@@ -28,7 +37,40 @@ pub fn merge_in_threads<T: AsRef<[u8]>>(shards: &[T], options: &Merge) -> Option
     }
     let mut list = with_room(shards.len()).ok()?;
     list.extend(shards.iter().map(AsRef::as_ref));
-    concatenate(&range_merges(&list, options)?).ok()
+    let parts = range_merges(&list, options)?;
+    concatenate_in_threads(&parts, options.threads.min(parts.len()))
+}
+
+/// What `concatenate` returns, with a span written by each thread, or `None` if anything fails.
+fn concatenate_in_threads(parts: &[Vec<u8>], threads: usize) -> Option<Vec<u8>> {
+    let size = concatenate_span(parts, 0, &mut []).ok()?;
+    let mut out = zero_bytes(size).ok()?;
+    let (mut rest, mut spans) = (&mut out[..], Vec::new());
+    let mut start = 0;
+    for end in ends_of_spans(parts, size, threads) {
+        let (span, after) = rest.split_at_mut(end.checked_sub(start)?);
+        spans.push(Mutex::new((start, span)));
+        (start, rest) = (end, after);
+    }
+    results_of_threads(threads, spans.len(), |at| {
+        let mut span = spans[at].lock().ok()?;
+        let start = span.0;
+        concatenate_span(parts, start, &mut *span.1).ok()
+    })?;
+    Some(out)
+}
+
+/// The ends of spans of a concatenation of this size that take about equally long, in ascending order up to the size.
+/// The table of chunks is the last before the footer, and a byte of it takes longer.
+fn ends_of_spans(parts: &[Vec<u8>], size: usize, threads: usize) -> Vec<usize> {
+    let chunks: u64 = parts.iter().filter_map(|it| load(it).ok()).map(|it| it.chunks).sum();
+    let table = usize::try_from(chunks).unwrap_or(0).saturating_mul(CHUNK_ROW);
+    let start = size.saturating_sub(FOOTER).saturating_sub(table);
+    let share = start.saturating_add(table.saturating_mul(CHUNK_WORK)) / threads.max(1);
+    let end_of = |work: usize| (work.min(start) + work.saturating_sub(start) / CHUNK_WORK).min(size);
+    let mut ends: Vec<usize> = (1..threads).map(|at| end_of(share * at)).chain([size]).collect();
+    ends.dedup();
+    ends
 }
 
 /// The merges of ranges that follow one another, which have together what is asked for.
@@ -144,7 +186,7 @@ fn bytes_at<const COUNT: usize>(shard: &[u8], place: u64) -> Option<[u8; COUNT]>
 #[cfg(test)]
 mod tests {
     use super::*;
-    use crate::merge;
+    use crate::{concatenate, merge, Error};
 
     #[test]
     fn two_ranges_of_two_shards() {
@@ -154,6 +196,25 @@ mod tests {
             let parts = range_merges(&[&a, &b], &options).expect("ranges");
             assert_eq!(parts.len(), 2);
             assert_eq!(concatenate(&parts), merge(&[&a, &b], &Merge::default()));
+        }
+    }
+
+    #[test]
+    fn spans_are_the_whole() {
+        let shards = ["a", "b"].map(|it| std::fs::read(format!("examples/{it}.mdb")).expect("a shard"));
+        let list = [&shards[0][..], &shards[1]];
+        let parts = range_merges(&list, &Merge { threads: 2, ..Merge::default() }).expect("ranges");
+        let whole = concatenate(&parts).expect("the whole");
+        for threads in [1, 2, 3, 7, 100] {
+            assert_eq!(concatenate_in_threads(&parts, threads).as_ref(), Some(&whole));
+        }
+        for start in 0..=whole.len() {
+            let mut span = vec![7; (whole.len() - start).min(1 + start % 50)];
+            assert_eq!(concatenate_span(&parts, start, &mut span), Ok(whole.len()));
+            assert_eq!(span, whole[start..start + span.len()]);
+            let mut past = vec![7; whole.len() - start + 1];
+            assert_eq!(concatenate_span(&parts, start, &mut past), Err(Error::InvalidArguments));
+            assert!(past.iter().all(|&it| it == 7));
         }
     }
 
