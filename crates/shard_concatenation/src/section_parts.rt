@@ -1,6 +1,6 @@
 //! Sections and their tables, one after another.
 
-ghost use Rattle.std.specs.Prelude.{◌≡◌, ◌+◌, ◌^◌, ◌<◌, ◌≤◌, ◌⊎◌, ℕ, List, All, OnOk, IfOk, IfErr, map, flat_map};
+ghost use Rattle.std.specs.Prelude.{◌≡◌, ◌+◌, ◌^◌, ◌<◌, ◌≤◌, ℕ, List, All, OnOk, IfOk, IfErr, map, flat_map};
 ghost use Rattle.std.specs.Io.KnownBytes.{Appends};
 ghost use Rattle.xet_base.specs.Errors.{IsInvalidShard, IsWriteError};
 ghost use Rattle.shard_concatenation.specs.Concatenation.{IsBadPart};

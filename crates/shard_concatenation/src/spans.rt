@@ -1,15 +1,14 @@
 //! Spans of a concatenation.
 
 ghost use Rattle.std.specs.Prelude.{◌≡◌, ◌+◌, ◌-◌, ◌*◌, ◌<◌, ◌≤◌, ◌^◌, ◌++◌, ⊤, ℕ, List, [], All, IfOk, IfErr, Some, map, flat_map, length, sum_by, slice_range};
-ghost use Rattle.std.specs.Io.KnownBytes.{Appends};
 ghost use Rattle.xet_records.specs.FileRecord.{FitsRecord, file_records};
 ghost use Rattle.xet_records.specs.XorbRecord.{xorb_records};
 ghost use Rattle.xet_base.specs.declared.merklehash.DataHash.{DataHash};
 ghost use Rattle.xet_shards.specs.Content.Shard.{Shard, IsShard};
-ghost use Rattle.shard_concatenation.specs.Concatenation.{ShardPart, bytes_of_part, IsPartUnder, files_in, xorbs_in, options_under, parts_layout, latest_of, AscendBoth, HaveFewRows, FitTogether, AreConsecutiveParts, AreBytesOf, IsConcatenation, IsBadPart, RefusesConcatenation};
+ghost use Rattle.shard_concatenation.specs.Concatenation.{ShardPart, bytes_of_part, IsPartUnder, files_in, xorbs_in, options_under, parts_layout, latest_of, AscendBoth, HaveFewRows, AreConsecutiveParts, AreBytesOf, IsConcatenation, IsBadPart, RefusesConcatenation};
 ghost use Rattle.shard_concatenation.specs.Spans.{FillsSpan, FillsSpanWith};
 ghost use Rattle.placed_shards.specs.Parts.{HasRecordsInOrder};
-ghost use Rattle.shard_concatenation.specs.Steps.PartFilling.{HasBothEnds, HoldAll};
+ghost use Rattle.shard_concatenation.specs.Steps.PartFilling.{HasBothEnds};
 ghost use Rattle.shard_concatenation.specs.Steps.Gathering.{HasSizes, HasGathered, HoldTables, IsFooterOf};
 ghost use Rattle.shard_concatenation.specs.Steps.SectionsSteps.{HoldSections, all_of};
 ghost use Rattle.shard_concatenation.specs.Steps.ChunkCuts.{HoldInTables};
