@@ -1,5 +1,7 @@
 #!/usr/bin/python3
-"""Draws ratios.svg and growth.svg from what bench/run.sh wrote to standard error: pictures.py FILE [GROWTH-FILE].
+"""Draws what bench/run.sh wrote to standard error: pictures.py FILE [GROWTH-FILE [MERGES-FILE]].
+
+The pictures are ratios.svg, growth.svg, and merges.svg of a run with --merges.
 
 Needs Debian's python3-matplotlib. Lines of other forms are skipped.
 """
@@ -63,6 +65,25 @@ def draw_growth(times):
     save(figure, "growth.svg")
 
 
+def draw_merges(path):
+    """The port's time by that of the original's tree, and by that of a copy of the output, where this is no small part."""
+    lines = [line for line in Path(path).read_text().splitlines() if re.match(r"\| \d+ x ", line)]
+    table = [line.strip("| ").split(" | ") for line in lines]
+    names = [f"{shards}, {shared}" for shards, shared, *_ in table]
+    figure, (by_tree, by_copy) = plt.subplots(1, 2, sharey=True, figsize=(8, 0.42 * len(table) + 1))
+    by_tree.barh(names, [float(row[9]) for row in table])
+    by_tree.set_xlabel("port / tree of the original's unions")
+    large = [row for row in table if float(row[3]) > float(row[2]) / 4]
+    by_copy.barh([f"{row[0]}, {row[1]}" for row in large], [float(row[8]) for row in large])
+    by_copy.set_xlabel("port / one copy of the output")
+    for axes in (by_tree, by_copy):
+        axes.axvline(1, color="black", linewidth=1)
+    by_tree.invert_yaxis()
+    save(figure, "merges.svg")
+
+
 draw_ratios(rows(sys.argv[1]))
 if len(sys.argv) > 2:
     draw_growth(rows(sys.argv[2]))
+if len(sys.argv) > 3:
+    draw_merges(sys.argv[3])

@@ -7,6 +7,7 @@ use shard_bench::clock::time;
 use shard_bench::compare::compare;
 use shard_bench::shards::overlapping;
 use std::fmt;
+use std::hint::black_box;
 
 /// How many shards, their size, and the files of each that give it.
 const SIZES: [(u64, &str, u64); 3] = [(1000, "70 kB", 88), (100, "700 kB", 856), (8, "8 MB", 9760)];
@@ -48,8 +49,9 @@ impl Row {
         let shards: Vec<_> = shards.iter().map(Vec::as_slice).collect();
         let expected = Way::Port.merge(&shards);
         let mut costs: Vec<_> = ways.iter().map(|&way| Cost::new(way, &shards)).collect();
-        let mut comparison = u64::MAX;
+        let (mut comparison, mut copy) = (u64::MAX, u64::MAX);
         for turn in 0..turns {
+            copy = copy.min(time(|| copied(&expected)));
             let mut differing = 0;
             comparison = comparison.min(time(|| differing = port::differing(&shards)));
             assert_eq!(differing, 0, "the shards agree");
@@ -64,6 +66,7 @@ impl Row {
         let measured = Measured {
             inputs: shards.iter().map(|shard| shard.len()).sum(),
             output: expected.len(),
+            copy,
             comparison,
             costs,
             row: self,
@@ -71,6 +74,13 @@ impl Row {
         eprintln!("{measured}");
         measured
     }
+}
+
+/// Copies bytes into new memory, as the least that a merge can do.
+fn copied(bytes: &[u8]) {
+    let mut out = vec![0; bytes.len()];
+    out.copy_from_slice(black_box(bytes));
+    black_box(out);
 }
 
 /// What a way costs.
@@ -106,6 +116,8 @@ pub struct Measured {
     row: Row,
     inputs: usize,
     output: usize,
+    /// The least time of a copy of the output into new memory, in nanoseconds.
+    copy: u64,
     /// The least time in which the port found that the shards agree, in nanoseconds.
     comparison: u64,
     costs: Vec<Cost>,
@@ -114,9 +126,9 @@ pub struct Measured {
 impl Measured {
     /// The head of the table.
     pub const HEAD: &str = "\
-| shards | shared | inputs | output | port | tree | fold | port / tree | peak: port | tree | fold \
-| comparison |
-|---|---|---|---|---|---|---|---|---|---|---|---|";
+| shards | shared | inputs | output | copy | port | tree | fold | port / copy | port / tree \
+| peak: port | tree | fold | comparison |
+|---|---|---|---|---|---|---|---|---|---|---|---|---|---|";
 
     /// A cell of what a way costs, or of none if the way is left out.
     fn cell(&self, way: Way, text: impl Fn(&Cost) -> String) -> String {
@@ -130,9 +142,14 @@ impl Measured {
 
     /// The time of the port by that of another way.
     fn ratio(&self, way: Way) -> String {
-        let port = self.costs.iter().find(|cost| cost.way == Way::Port);
-        let port = port.map_or(f64::NAN, |cost| cost.nanoseconds as f64);
-        self.cell(way, |cost| format!("{:.2}", port / cost.nanoseconds as f64))
+        self.cell(way, |cost| self.port_by(cost.nanoseconds))
+    }
+
+    /// The time of the port by another.
+    fn port_by(&self, nanoseconds: u64) -> String {
+        self.cell(Way::Port, |port| {
+            format!("{:.2}", port.nanoseconds as f64 / nanoseconds as f64)
+        })
     }
 
     fn peak(&self, way: Way) -> String {
@@ -153,8 +170,10 @@ impl fmt::Display for Measured {
             format!("{shared_percent} %"),
             megabytes(self.inputs as u64),
             megabytes(self.output as u64),
+            milliseconds(self.copy),
         ];
         cells.extend(Way::ALL.map(|way| self.milliseconds(way)));
+        cells.push(self.port_by(self.copy));
         cells.push(self.ratio(Way::Tree));
         cells.extend(Way::ALL.map(|way| self.peak(way)));
         cells.push(milliseconds(self.comparison));
