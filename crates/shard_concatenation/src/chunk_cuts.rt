@@ -77,6 +77,7 @@ pub fn check_row_counts(alloc: Global, cursors: &[Cursor<'_>], rows: u64) -> Res
     Ok(())
 }
 
+/// How many whole rows the tables have together.
 pub fn row_count(cursors: &[Cursor<'_>]) -> u64
     ensures { (held : List (Cursor × List ChunkTableRow))
         → map (λ h. h.0) held ≡ cursors.now → All HoldsRows held
@@ -153,6 +154,7 @@ fn until<'a>(cursor: &Cursor<'a>, word: Option<u64>) -> Cursor<'a>
     }
 }
 
+/// The rows of each table from the cut `low` to the cut `high`, or to the end; or `OutOfMemory`.
 pub fn tables_between<'a>(
     alloc: Global,
     cursors: &[Cursor<'a>],
