@@ -1,23 +1,11 @@
--- A lookup of a file, and how it is shown.
-use Rattle.std.specs.Prelude.{◌≡◌, ℕ, List, length, Option, MatchResult, Ok, Err}
+-- How a file that was looked up is shown.
+use Rattle.std.specs.Prelude.{◌≡◌, ℕ, List, length, Option, Ok, Err}
 use Rattle.xet_core_structures.specs.declared.file_structs.MDBFileInfo.{MDBFileInfo}
-use Rattle.xet_core_structures.specs.declared.merklehash.DataHash.{DataHash}
 use Rattle.xet_core_structures.specs.Errors.{CoreResult, variant_number}
-use Rattle.xet_core_structures.specs.Lookup.{FoundInShard}
-use Rattle.xet_core_structures.specs.Shard.{Shard}
-use Rattle.xet_core_structures.specs.WrittenShard.{IsBytesOf}
-use Rattle.shard_bytes.specs.Finding.{FindsFile, RefusesFile, NotFoundInShard}
 use Rattle.xet_c.specs.declared.find.XetFile.{XetFile}
 use Rattle.xet_c.specs.declared.segment.XetFileSegment.{XetFileSegment}
 use Rattle.xet_c.specs.Arguments.{c_file, segments_in}
 use Rattle.xet_c.specs.Output.{Delivers}
-
--- a file was looked up: on any bytes; and on those of a shard, where it is what the shard's map has
-pub record FindsFileInBytes (bytes : List ℕ) (hash : DataHash) (result : CoreResult (Option MDBFileInfo))
-    : Type 0 where
-  pub any_bytes : MatchResult result (FindsFile bytes hash) (RefusesFile bytes hash)
-  pub written : (s : Shard) → IsBytesOf s bytes
-      → MatchResult result (FoundInShard s hash) (NotFoundInShard s hash)
 
 -- what was found is shown, its segments at the front of an output if they fit; after an error all
 -- stays

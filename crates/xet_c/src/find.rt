@@ -4,11 +4,12 @@ ghost use Rattle.std.specs.Prelude.{◌≡◌, ◌⊎◌, [], Option, map, unwra
 ghost use Rattle.xet_core_structures.specs.declared.file_structs.MDBFileInfo.{MDBFileInfo};
 ghost use Rattle.xet_core_structures.specs.declared.merklehash.DataHash.{DataHash};
 ghost use Rattle.xet_core_structures.specs.Errors.{CoreResult};
+ghost use Rattle.shard_bytes.specs.Finding.{AnswersLookup, RefusesLookup};
 ghost use Rattle.shard_bytes.specs.declared.records.Records.{Records};
 ghost use Rattle.xet_c.specs.Arguments.{c_file, c_hash, segments_in};
 ghost use Rattle.xet_c.specs.ListedFiles.{AreFoundFiles, RefusesFiles, no_file};
 ghost use Rattle.xet_c.specs.ListedRecords.{ShowsRecords, no_counts};
-ghost use Rattle.xet_c.specs.ShownFiles.{FindsFileInBytes, ShowsFile};
+ghost use Rattle.xet_c.specs.ShownFiles.{ShowsFile};
 
 use crate::hash::{XetHash, hashes_of, words_or_zero};
 use crate::listed::XetListedFile;
@@ -50,7 +51,7 @@ pub extern "C" fn xet_find_file(
     segments: &mut [XetFileSegment],
 ) -> u32
     ensures { (h : DataHash) × (found : CoreResult (Option MDBFileInfo)) × (c_hash h ≡ hash.now)
-        × FindsFileInBytes shard.now h found
+        × MatchResult found (AnswersLookup shard.now h) (RefusesLookup shard.now h)
         × (ShowsFile found file.old file.new segments.old segments.new result
         ⊎ ((result ≡ 18) × (file.new ≡ file.old) × (segments.new ≡ segments.old))) }
 {

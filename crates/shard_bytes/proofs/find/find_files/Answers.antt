@@ -15,9 +15,8 @@ one_more R xs ys more i d y below before one is =
 
 pub loop-hash-preserved : goal.loop-hash-preserved
 loop-hash-preserved c =
-    let found = c.in_ok-find_file.ensures in
     one_more (AnswersLookup c.args.bytes.now) c.args.hashes.now c.loop-hash.found.items c.push.new.self.items c.loop-hash.hash-index _ c.in_ok-find_file.field-0 c.loop-hash-test.true c.loop-hash.invariant
-    (record { any_bytes = found.any_bytes; fits = found.fits; hash_is = found.hash; written = found.written }) c.in_ok-push.ensures.items
+    c.in_ok-find_file.ensures c.in_ok-push.ensures.items
 
 any_at : {A : Type 0} (P : A → Type 0) (xs : List A) (i : ℕ) (d : A) → i < length xs → P (get_or xs i d) → Any P xs
 any_at P xs i d below holds = (i, get_or xs i d, below, get_or_default xs i (get_or xs i d) d below, holds)
@@ -25,6 +24,5 @@ any_at P xs i d below holds = (i, get_or xs i d, below, get_or_default xs i (get
 pub returns-in_err-find_file : goal.returns-in_err-find_file
 returns-in_err-find_file c =
     let p = err_from_is_err_and c.from_residual-in_err-find_file.result c.from_residual-in_err-find_file.ensures.1 in
-    let why = c.in_err-find_file.ensures in
     rw (p.1, p.2)
-    (inr (any_at (λ hash. RefusesLookup c.args.bytes.now hash c.in_err-find_file.field-0.0) c.args.hashes.now c.loop-hash.hash-index _ c.loop-hash-test.true (record { any_bytes = why.any_bytes; written = why.written })))
+    (inr (any_at (λ hash. RefusesLookup c.args.bytes.now hash c.in_err-find_file.field-0.0) c.args.hashes.now c.loop-hash.hash-index _ c.loop-hash-test.true c.in_err-find_file.ensures))
