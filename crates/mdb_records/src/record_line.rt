@@ -1,6 +1,6 @@
 //! Reading a record from its line of JSON.
 
-ghost use Rattle.std.specs.Prelude.{◌≡◌, true, IfOk, IfErr, OnOk, IsUtf8, MatchResult, map};
+ghost use Rattle.std.specs.Prelude.{◌≡◌, true, IfOk, IfErr, OnOk, IsUtf8, map};
 ghost use Rattle.xet_records.specs.FileRecord.{FitsItsHeader};
 ghost use Rattle.xet_records.specs.XorbRecord.{HasItsChunks};
 ghost use Rattle.mdb_records.specs.RecordReports.{ReportsFile, ReportsRows, ReportsXorb, segment_report, chunk_row_of};

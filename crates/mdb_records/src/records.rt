@@ -1,6 +1,6 @@
 //! What is printed of files, xorbs and chunks.
 
-ghost use Rattle.std.specs.Prelude.{◌≡◌, All, IfOk, MatchResult, map};
+ghost use Rattle.std.specs.Prelude.{◌≡◌, IfOk, map};
 ghost use Rattle.xet_records.specs.FileRecord.{FitsItsHeader};
 ghost use Rattle.mdb_records.specs.RecordReports.{ReportsFile, ReportsRows, ReportsXorb, ReportsChunk, segment_report, chunk_row_of};
 
