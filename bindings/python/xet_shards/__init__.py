@@ -1,8 +1,8 @@
 """Metadata shards of Xet storage: bytes in, bytes or an answer out.
 
-Each function calls `xet_` and its name, and `hash_of_name` calls `xet_parse_shard_name`, of bindings/c/xet.h, whose
-comments say what it does on which bytes, and when it fails. A hash is text of 64 hexadecimal digits, as shards print
-it: words 0, 1, 2 and 3, each as sixteen digits. Times are in seconds.
+A function whose name bindings/c/xet.h has, with `xet_` before it, calls that one, whose comment says what it does on
+which bytes, and when it fails; `hash_of_name` calls `xet_parse_shard_name`. The others say what they do. A hash is
+text of 64 hexadecimal digits, as shards print it: words 0, 1, 2 and 3, each as sixteen digits. Times are in seconds.
 
 A shard is any object with a buffer: `bytes`, `bytearray`, `memoryview`, `array`, `mmap`. It is not copied, and must not
 be changed during the call. `open` maps the file of a shard, so that a lookup reads the pages that it needs, and no
