@@ -1,17 +1,11 @@
 //! Unions, differences and disagreements.
 
 use crate::calls::{self, Bytes};
-use crate::error::{check, Error};
-use crate::output::{bytes_of, filled, with_room, SHORT};
+use crate::error::{check, Error, DISAGREE, MALFORMED, SHORT};
+use crate::output::{bytes_of, filled, with_room};
 use crate::threads::merge_in_threads;
 use crate::{Hash, Result, Version};
 use std::fmt;
-
-/// The number of the error that tells a disagreement.
-const DISAGREE: u32 = 20;
-
-/// The number of the error that tells a record that no shard may have.
-const MALFORMED: u32 = 21;
 
 /// The first room for disagreements. Where there are more, all records are compared twice.
 const DISAGREEMENTS: usize = 1024;

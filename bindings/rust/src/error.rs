@@ -1,6 +1,15 @@
 use crate::{Disagreement, MalformedRecord, Result};
 use std::fmt;
 
+/// `XET_SHORT`: the output does not fit the room that was given.
+pub(crate) const SHORT: u32 = 19;
+
+/// The number of the error that tells a disagreement.
+pub(crate) const DISAGREE: u32 = 20;
+
+/// The number of the error that tells a record that no shard may have.
+pub(crate) const MALFORMED: u32 = 21;
+
 /// Why a call failed. The cause is in the inputs, but for `OutOfMemory`; `xet.h` says it of each call.
 ///
 /// ```

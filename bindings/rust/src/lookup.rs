@@ -1,7 +1,7 @@
 //! What a shard says, and what is looked up in it.
 
-use crate::error::check;
-use crate::output::{filled, hashes_of, zeros, SHORT};
+use crate::error::{check, SHORT};
+use crate::output::{filled, hashes_of, zeros};
 use crate::records::{file_with, front};
 use crate::{calls, Hash, Result};
 

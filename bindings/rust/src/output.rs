@@ -1,11 +1,8 @@
 //! Room for what a call writes.
 
-use crate::error::{check, Error};
+use crate::error::{check, Error, SHORT};
 use crate::memory::zero_bytes;
 use crate::{Hash, Result};
-
-/// `XET_SHORT`: the output does not fit the room that was given.
-pub const SHORT: u32 = 19;
 
 /// No items, with room for so many.
 pub fn with_room<T>(count: usize) -> Result<Vec<T>> {

@@ -1,8 +1,8 @@
 //! All records of a shard, read and written in one call.
 
-use crate::error::check;
+use crate::error::{check, SHORT};
 use crate::lookup::file_of;
-use crate::output::{filled, with_room, zeros, SHORT};
+use crate::output::{filled, with_room, zeros};
 use crate::{calls, Chunk, Error, File, Hash, ListedFile, Result, Segment, Version, Xorb, NO_EXPIRY};
 
 /// The flag of a file that has verification hashes.

@@ -1,8 +1,8 @@
 //! The records of a shard, one after another.
 
-use crate::error::check;
+use crate::error::{check, SHORT};
 use crate::lookup::file_of;
-use crate::output::{copied, zeros, SHORT};
+use crate::output::{copied, zeros};
 use crate::{calls, Error, File, Hash, Result};
 
 /// A file of a shard, with its hash.
