@@ -1,10 +1,8 @@
 //! An index of the files and the chunks of many shards.
 
+use crate::sizes::TABLE_ROW;
 use crate::{chunk_rows, file_at, hmac, load, query_at, ChunkPlace, Error, File, Hash, Result, Run, NO_KEY};
 use std::collections::hash_map::{Entry, HashMap};
-
-/// The bytes of a row of a table of files.
-const TABLE_ROW: usize = 12;
 
 /// A place in one of the shards of an index: that of a chunk, or the row of a file.
 #[derive(Clone, Copy, Debug)]

@@ -30,6 +30,7 @@ mod name;
 mod output;
 mod parts;
 mod records;
+mod sizes;
 mod threads;
 mod version;
 mod walk;

@@ -3,6 +3,7 @@
 use crate::error::{check, SHORT};
 use crate::output::{filled, hashes_of, zeros};
 use crate::records::{file_with, front};
+use crate::sizes::{CHUNK_ROW, ROW};
 use crate::{calls, Hash, Result};
 
 /// The hash of a file of a list that is not found. No file of a shard has it.
@@ -266,8 +267,8 @@ pub struct ChunkRow {
 /// # }
 /// ```
 pub fn chunk_rows(shard: &[u8]) -> Result<Vec<ChunkRow>> {
-    // The table has 16 bytes for each chunk, and the section 48.
-    filled(shard.len() / 64, |out, written| calls::xet_chunk_rows(shard, out, written))
+    // A chunk has a row of the table, and one of the section.
+    filled(shard.len() / (CHUNK_ROW + ROW), |out, written| calls::xet_chunk_rows(shard, out, written))
 }
 
 /// The hashes of the chunks that the global index keeps, each once and in ascending order.

@@ -3,6 +3,7 @@
 use crate::combine::{concatenate_span, listed, merge_list};
 use crate::memory::zero_bytes;
 use crate::output::with_room;
+use crate::sizes::{CHUNK_ROW, FOOTER, ROW, TABLE_ROW};
 use crate::{load, Hash, Info, Merge};
 use std::iter::once;
 use std::sync::atomic::{AtomicUsize, Ordering};
@@ -12,16 +13,8 @@ use std::{io, thread};
 /// How many hashes are looked at to find cuts.
 const SAMPLE: usize = 256;
 
-/// The bytes of a row of a section.
-const ROW: u64 = 48;
-
-/// The bytes of a row of the tables of files and of xorbs, and where in it the row of the section is.
-const TABLE_ROW: u64 = 12;
+/// Where in a row of the tables of files and of xorbs the row of the section is.
 const ROW_AT: u64 = 8;
-
-/// The bytes of a row of the table of chunks, and of a footer.
-const CHUNK_ROW: usize = 16;
-const FOOTER: usize = 200;
 
 /// To merge a byte of the table of chunks takes as long as to copy so many.
 const CHUNK_WORK: usize = 24;
@@ -161,16 +154,16 @@ fn hash_near(shard: &[u8], info: &Info, fraction: f64) -> Option<Hash> {
     };
     let size = end.checked_sub(start)?;
     // Behind the records is one row more.
-    let rows = (size / ROW).checked_sub(1).filter(|&it| it > 0)?;
+    let rows = (size / ROW as u64).checked_sub(1).filter(|&it| it > 0)?;
     let fraction = at.checked_sub(start)? as f64 / size as f64;
     let row = if count > 0 {
-        let place = part_of(count, fraction).checked_mul(TABLE_ROW)?.checked_add(table)?;
+        let place = part_of(count, fraction).checked_mul(TABLE_ROW as u64)?.checked_add(table)?;
         u32::from_le_bytes(bytes_at(shard, place.checked_add(ROW_AT)?)?).into()
     } else {
         // Without a table nothing tells where records start, but the hashes in all rows are spread like theirs.
         part_of(rows, fraction)
     };
-    let place = row.checked_mul(ROW)?.checked_add(start)?;
+    let place = row.checked_mul(ROW as u64)?.checked_add(start)?;
     bytes_at::<32>(shard, place).map(Hash::from)
 }
 
