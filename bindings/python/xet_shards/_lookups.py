@@ -2,7 +2,6 @@
 from __future__ import annotations
 
 import ctypes
-import struct
 from ctypes import POINTER, byref, c_size_t, c_uint32, c_uint64
 from dataclasses import dataclass
 from typing import Any, Dict, List, Optional, Sequence, Tuple
@@ -12,10 +11,8 @@ from ._calls import _library
 from ._errors import _INTERNAL_ERROR, _IO, _NO_WHOLE_ROWS, _SHORT, XetError, _check
 from ._memory import Buffer, _Addresses, _array, _filled, _made
 from ._records import File, Segment, _file_step, _segment, _shown_file, _walked_rows
-from ._structs import _ROW, _ChunkPlace, _ChunkRow, _File, _FileSegment, _Hash, _Info, _Segment
+from ._structs import _ROW, _TABLE_ROW, _ChunkPlace, _ChunkRow, _File, _FileSegment, _Hash, _Info, _Segment
 
-# A row of a table of files: the first word of a hash, and the row of the section at which the file starts.
-_FILE_ROW = struct.Struct("<QI")
 # Most files have no more segments, so that the first call has room for them, which for more would take time to make.
 _FEW_SEGMENTS = 8
 
@@ -94,11 +91,11 @@ def _file_rows(shard: Buffer) -> List[Tuple[int, int]]:
     info = load(shard)
     if not info.files:
         return list(_walked_rows(shard))
-    start, size = info.file_table, _FILE_ROW.size * info.files
+    start, size = info.file_table, _TABLE_ROW.size * info.files
     with _Addresses(shard) as [(address, length)]:
         if start + size > length:
             raise XetError(_IO)
-        return [(word, row) for word, row in _FILE_ROW.iter_unpack(ctypes.string_at(address + start, size))]
+        return [(word, row) for word, row in _TABLE_ROW.iter_unpack(ctypes.string_at(address + start, size))]
 
 
 def find_rows(table: Buffer, wanted: str) -> List[int]:

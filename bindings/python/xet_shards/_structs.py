@@ -1,11 +1,15 @@
-"""The structs of xet.h."""
+"""The structs of xet.h, and the sizes of parts of a shard."""
 from __future__ import annotations
 
 import ctypes
+import struct
 from ctypes import c_bool, c_size_t, c_uint32, c_uint64, c_void_p
 
-# The bytes of a row of a section.
-_ROW = 48
+# The bytes of a row of a section, of one of the table of chunks, and of a footer.
+_ROW, _CHUNK_ROW, _FOOTER = 48, 16, 200
+# A row of the tables of files and of xorbs: the first word of a hash, and the row of the section at which the record
+# starts.
+_TABLE_ROW = struct.Struct("<QI")
 _Words = c_uint64 * 4
 
 

@@ -19,17 +19,17 @@ from typing import Dict, Iterable, Iterator, List, NamedTuple, Optional, Sequenc
 from ._arguments import NO_EXPIRY, NO_KEY, _hashes, _seconds, _words
 from ._calls import _library
 from ._errors import _INVALID_SHARD, _IO, XetError
-from ._lookups import _FILE_ROW, Info, Run, _file_rows, _found_at, _run_at, chunk_rows, load
+from ._lookups import Info, Run, _file_rows, _found_at, _run_at, chunk_rows, load
 from ._memory import Buffer, _Mapped
 from ._merging import merge
 from ._records import File
-from ._structs import _Hash
+from ._structs import _CHUNK_ROW, _FOOTER, _TABLE_ROW, _Hash
 from .shard import Path
 
 # A block has so many rows at most: a row comes to its place by moving those behind it.
 _BLOCK = 512
-# The bytes of a row of a chunk table, and of a footer. The expiry is so many bytes behind the start of the footer.
-_CHUNK_ROW, _FOOTER, _EXPIRY = 16, 200, 112
+# The expiry is so many bytes behind the start of the footer.
+_EXPIRY = 112
 
 # The numbers of shards, and places in them, one by one. The place of a chunk is the second half of a row of a chunk
 # table as one number: its lowest 32 bits are the row of the xorb, and those above the index of the chunk. The place of
@@ -468,7 +468,7 @@ def _chunk_table(shard: Buffer, info: Info) -> _ChunkTable:
 
 
 def _file_table(shard: Buffer, info: Info) -> _FileTable:
-    numbers = _bytes_at(shard, info.file_table, _FILE_ROW.size * info.files).cast("I")
+    numbers = _bytes_at(shard, info.file_table, _TABLE_ROW.size * info.files).cast("I")
     return _FileTable(numbers[1::3], numbers[::3], numbers[2::3])
 
 

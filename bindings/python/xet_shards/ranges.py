@@ -12,18 +12,13 @@ from ._calls import _library
 from ._errors import _OUT_OF_MEMORY, XetError, _check
 from ._memory import Buffer, WritableBuffer, _Addresses, _advise_large_pages, _list, _output_apart, _written_bytes
 from ._merging import _merge_to, _options, _union_room, _words_of
-from ._structs import _ROW, _Info, _MergeOptions
+from ._structs import _CHUNK_ROW, _FOOTER, _ROW, _TABLE_ROW, _Info, _MergeOptions
 
 # The four words of a hash, by which hashes are ordered.
 Words = Tuple[int, ...]
 
 # How many hashes of the inputs are looked at to find cuts.
 _SAMPLE = 256
-# The bytes of a row of the tables of files and xorbs.
-_TABLE_ROW = 12
-# The bytes of a row of the table of chunks, and of a footer.
-_CHUNK_ROW = 16
-_FOOTER = 200
 # To merge a byte of the table of chunks takes as long as to copy so many.
 _CHUNK_WORK = 24
 # The bytes of a hash.
@@ -213,8 +208,8 @@ class _Sections(NamedTuple):
         # Without a table nothing tells where records start, but the hashes of all rows are spread like theirs.
         row = int(part * rows)
         if count:
-            at = table + int(part * count) * _TABLE_ROW
-            if not 0 <= at <= length - _TABLE_ROW:
+            at = table + int(part * count) * _TABLE_ROW.size
+            if not 0 <= at <= length - _TABLE_ROW.size:
                 return None
-            [row] = struct.unpack("<8xI", string_at(address + at, _TABLE_ROW))
+            _, row = _TABLE_ROW.unpack(string_at(address + at, _TABLE_ROW.size))
         return start + row * _ROW

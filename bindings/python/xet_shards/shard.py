@@ -12,8 +12,8 @@ from ._forms import convert, eligible, export, minimal, subset
 from ._lookups import Info, Run, chunk_rows, find_file, find_rows, load, query_at, query_chunks
 from ._memory import _Mapped
 from ._records import File, ListedFile, Xorb, file_at, files, xorb_at, xorbs
+from ._structs import _TABLE_ROW
 from ._tables import FoundFiles, Table, find_files, table
-from .ranges import _TABLE_ROW
 
 Path = Union[str, bytes, "os.PathLike[str]", "os.PathLike[bytes]"]
 
@@ -117,7 +117,7 @@ class Shard(_Mapped):
 
         The errors are those of `find_file`, and those of `xorb_at`.
         """
-        start, size = self.info.xorb_table, _TABLE_ROW * self.info.xorbs
+        start, size = self.info.xorb_table, _TABLE_ROW.size * self.info.xorbs
         with memoryview(self.buffer)[start : start + size] as rows:
             if len(rows) < size:
                 raise XetError(_IO)
