@@ -19,7 +19,6 @@ import asyncio
 import contextlib
 import mmap
 import os
-import secrets
 import shutil
 import tempfile
 from concurrent.futures import CancelledError, ThreadPoolExecutor
@@ -29,6 +28,7 @@ from typing import (
 )
 
 from ._errors import DisagreementError, MalformedError, XetError
+from ._files import _new
 from ._memory import _Addresses
 from ._merging import concatenate_into, merge as _merge
 from .ranges import _sample, merge_by_tables
@@ -250,20 +250,6 @@ def _check_parts(parts: Sequence[Part]) -> None:
     bounds = [None, *(it.range[1] for it in parts)]
     if bounds[-1] is not None or [it.range[0] for it in parts] != bounds[:-1] or None in bounds[1:-1]:
         raise ValueError("the ranges of the parts do not follow one another from no bound to no bound")
-
-
-@contextlib.contextmanager
-def _new(target: str) -> Iterator[str]:
-    """Gives the path of a new file, which then takes the place of another, or is removed after an error."""
-    # Another run of the same task may write at the same time.
-    new = f"{target}.{secrets.token_hex(8)}.new"
-    try:
-        yield new
-        os.replace(new, target)
-    except BaseException:
-        with contextlib.suppress(FileNotFoundError):
-            os.unlink(new)
-        raise
 
 
 def _names(paths: Iterable[Path]) -> List[str]:

@@ -4,9 +4,7 @@ from __future__ import annotations
 import builtins
 import contextlib
 import errno
-import mmap
 import os
-import secrets
 import stat
 import struct
 import threading
@@ -19,12 +17,12 @@ from typing import Dict, Iterable, Iterator, List, NamedTuple, Optional, Sequenc
 from ._arguments import NO_EXPIRY, NO_KEY, _hashes, _seconds, _words
 from ._calls import _library
 from ._errors import _INVALID_SHARD, _IO, XetError
+from ._files import Path, _map_of, _new
 from ._lookups import Info, Run, _file_rows, _found_at, _run_at, chunk_rows, load
 from ._memory import Buffer, _Mapped
 from ._merging import merge
 from ._records import File
 from ._structs import _CHUNK_ROW, _FOOTER, _TABLE_ROW, _Hash
-from .shard import Path
 
 # A block has so many rows at most: a row comes to its place by moving those behind it.
 _BLOCK = 512
@@ -247,11 +245,11 @@ class Index:
         the process. `save` replaces it, which does no harm.
         """
         index = cls()
-        with builtins.open(path, "rb") as file:
-            # An empty file can't be mapped.
-            if os.fstat(file.fileno()).st_size:
-                for shard in _shards_of(memoryview(mmap.mmap(file.fileno(), 0, access=mmap.ACCESS_READ))):
-                    index.add(shard, in_place=True)
+        whole = _map_of(path)
+        # The file of an index without shards is empty.
+        if whole is not None:
+            for shard in _shards_of(memoryview(whole)):
+                index.add(shard, in_place=True)
         return index
 
     def save(self, path: Path, now: Optional[int] = None, resolution: int = 1) -> None:
@@ -270,22 +268,15 @@ class Index:
         of `merge`, where `index` is the number of the shard.
         """
         target, replaced = _place_at(os.fsdecode(path))
-        # Other threads and processes may save to the same path.
-        new = f"{target}.{secrets.token_hex(8)}.new"
-        with builtins.open(new, "xb", opener=_open_private if replaced else None) as file:
-            try:
-                for expiry, shards in self._groups(now, resolution):
-                    for part in _with_expiry(_merged(shards), expiry):
-                        file.write(part)
-                file.flush()
-                if replaced:
-                    _take_place(file.fileno(), replaced)
-                os.fsync(file.fileno())
-                os.replace(new, target)
-            except BaseException:
-                with contextlib.suppress(FileNotFoundError):
-                    os.unlink(new)
-                raise
+        opener = _open_private if replaced else None
+        with _new(target) as new, builtins.open(new, "xb", opener=opener) as file:
+            for expiry, shards in self._groups(now, resolution):
+                for part in _with_expiry(_merged(shards), expiry):
+                    file.write(part)
+            file.flush()
+            if replaced:
+                _take_place(file.fileno(), replaced)
+            os.fsync(file.fileno())
 
     def _groups(self, now: Optional[int], resolution: int) -> List[Tuple[int, Dict[int, Buffer]]]:
         """Returns the shards to merge, which have one key, by their numbers, with the expiry of their merge."""

@@ -1,21 +1,19 @@
 """A shard in a file that is mapped to memory."""
 from __future__ import annotations
 
-import builtins
 import mmap
 import os
-from typing import Any, Iterator, List, Optional, Sequence, Tuple, TypeVar, Union
+from typing import Any, Iterator, List, Optional, Sequence, Tuple, TypeVar
 
 from ._checking import Finding, check
 from ._errors import _INTERNAL_ERROR, _IO, XetError
+from ._files import Path as Path, _map_of
 from ._forms import convert, eligible, export, minimal, subset
 from ._lookups import Info, Run, chunk_rows, find_file, find_rows, load, query_at, query_chunks
 from ._memory import _Mapped
 from ._records import File, ListedFile, Xorb, file_at, files, xorb_at, xorbs
 from ._structs import _TABLE_ROW
 from ._tables import FoundFiles, Table, find_files, table
-
-Path = Union[str, bytes, "os.PathLike[str]", "os.PathLike[bytes]"]
 
 _Record = TypeVar("_Record")
 
@@ -46,10 +44,8 @@ class Shard(_Mapped):
         self.path = path
         self._map: Optional[mmap.mmap] = None
         try:
-            with builtins.open(path, "rb") as file:
-                # An empty file can't be mapped, and its error is that of its bytes.
-                if os.fstat(file.fileno()).st_size:
-                    self._map = mmap.mmap(file.fileno(), 0, access=mmap.ACCESS_READ)
+            self._map = _map_of(path)
+            # The error of an empty file is that of its bytes.
             self._info = load(self._map or b"")
         except XetError as error:
             self.close()
