@@ -518,10 +518,7 @@ def test_many_chunks():
 def test_merge_in_ranges():
     files = {"100": ["200:0:5:5"], "200": ["v=5", "200:0:5:5"], "300": ["300:0:5:5"]}
     xorbs = {"200": ["21:5", "22:6"], "300": ["23:5"]}
-
-    def those(of_files, of_xorbs):
-        return {it: files[it] for it in of_files}, {it: xorbs[it] for it in of_xorbs}
-
+    those = choosing(files, xorbs)
     shards = shards_of(those(["100", "300"], ["200"]), those(["200", "300"], ["200", "300"]), those([], []))
     bounds = [None, "0", "100", "101", "200", "250", "300", "301"]
     for start, stop in itertools.product(bounds, bounds):
@@ -570,10 +567,7 @@ def test_merge_in_a_range_of_other_inputs():
 def test_concatenate():
     files = {"100": ["200:0:5:5"], "200": ["v=5", "200:0:5:5"], "300": ["300:0:5:5"]}
     xorbs = {"200": ["21:5", "22:6"], "300": ["20:5"]}
-
-    def those(of_files, of_xorbs):
-        return {it: files[it] for it in of_files}, {it: xorbs[it] for it in of_xorbs}
-
+    those = choosing(files, xorbs)
     low, high, none = shards_of(those(["100", "200"], ["200"]), those(["300"], ["300"]), those([], []))
     [both] = shards_of(those(files, xorbs))
     # The chunk of the xorb 300 comes before those of the xorb 200 in the table.
@@ -1030,6 +1024,11 @@ def test_merge():
         for order in itertools.permutations(shards):
             assert xet_shards.merge(order).hex() == first
         assert xet_shards.merge(shards * 5).hex() == first
+
+
+def choosing(files, xorbs):
+    """Returns a function of names, which returns the files and the xorbs of these dictionaries that have them."""
+    return lambda of_files, of_xorbs: ({it: files[it] for it in of_files}, {it: xorbs[it] for it in of_xorbs})
 
 
 def shards_of(*many):
