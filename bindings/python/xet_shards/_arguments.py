@@ -1,11 +1,11 @@
-"""Numbers and hashes, as calls take them."""
+"""Numbers, hashes and lists, as calls take them."""
 from __future__ import annotations
 
 import ctypes
 import struct
 from array import array
 from ctypes import c_uint64
-from typing import Any, List, Optional, Sequence, Tuple
+from typing import Any, Iterable, List, Optional, Sequence, Tuple, TypeVar
 
 from ._memory import _array
 from ._structs import _Hash, _Words
@@ -18,6 +18,8 @@ NO_EXPIRY = 2**64 - 1
 
 # The text of a hash, taken as bytes.
 _WORDS = struct.Struct(">4Q")
+
+_Item = TypeVar("_Item")
 
 
 def _seconds(number: int) -> int:
@@ -74,3 +76,11 @@ def _array_of(item: Any, items: List[Any]) -> Tuple[ctypes.Array[Any], int]:
     array_of = _array(item, len(items))
     array_of[: len(items)] = items
     return array_of, len(items)
+
+
+def _some(shards: Iterable[_Item]) -> List[_Item]:
+    """Returns a list of shards, or of what stands for them, of which there is one at least."""
+    listed = list(shards)
+    if not listed:
+        raise ValueError("no shard is given")
+    return listed

@@ -5,7 +5,7 @@ import operator
 from ctypes import byref, c_bool, c_size_t
 from typing import Iterable, List, Optional, Sequence, Tuple
 
-from ._arguments import _text, _version, _words
+from ._arguments import _some, _text, _version, _words
 from ._calls import _library
 from ._errors import (
     _DISAGREE, _INVALID_ARGUMENTS, _MALFORMED, _OTHER_KEYS, _SHORT, Disagreement, DisagreementError, MalformedError,
@@ -99,9 +99,7 @@ def merge_into(
 
     The buffer shares no memory with a shard: that is a `ValueError`. Two maps of one file are not found out.
     """
-    shards = list(shards)
-    if not shards:
-        raise ValueError("no shard is given")
+    shards = _some(shards)
     count = 1 if threads is None else operator.index(threads)
     if count < 1:
         raise ValueError("there is one thread at least")
@@ -186,9 +184,7 @@ def concatenate(shards: Iterable[Buffer]) -> bytes:
     where `start` of the first and `stop` of the last are left out: the result is that of the one merge. Records are
     copied and not checked. It is in version 2 of the format if all shards are, else in version 3.
     """
-    shards = list(shards)
-    if not shards:
-        raise ValueError("no shard is given")
+    shards = _some(shards)
     with _Addresses(*shards) as data:
         listed, room = _list(data), sum(length for _, length in data)
         return _made(
@@ -211,9 +207,7 @@ def concatenate_into(shards: Iterable[Buffer], out: WritableBuffer) -> int:
 
     The buffer shares no memory with a shard: that is a `ValueError`.
     """
-    shards = list(shards)
-    if not shards:
-        raise ValueError("no shard is given")
+    shards = _some(shards)
     written = c_size_t()
     with _output_apart(out, shards) as (array, data):
         number = _library.xet_concatenate(_list(data), len(data), array, len(array), byref(written))

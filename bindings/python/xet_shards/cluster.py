@@ -27,6 +27,7 @@ from typing import (
     TYPE_CHECKING, Any, Callable, Collection, Iterable, Iterator, List, Optional, Sequence, Tuple, Union,
 )
 
+from ._arguments import _some
 from ._errors import DisagreementError, MalformedError, XetError
 from ._files import _new
 from ._memory import _Addresses
@@ -253,10 +254,7 @@ def _check_parts(parts: Sequence[Part]) -> None:
 
 
 def _names(paths: Iterable[Path]) -> List[str]:
-    names = [os.fspath(it) for it in paths]
-    if not names:
-        raise ValueError("no shard is given")
-    return names
+    return _some(os.fspath(it) for it in paths)
 
 
 @contextlib.contextmanager
