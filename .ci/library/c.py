@@ -5,7 +5,7 @@ import re
 import shlex
 import shutil
 
-from .common import BINDINGS, TOP, Skip, error_constants, error_numbers, ran, read, sources
+from .common import BINDINGS, SONAME, TOP, VERSION, Skip, error_constants, error_numbers, ran, read, sources
 
 CC = os.environ.get("CC") or "cc"
 WARNINGS = ["-std=c11", "-Wall", "-Wextra", "-Werror"]
@@ -65,19 +65,18 @@ def check_installed(room, wanted):
     """By pkg-config a program is linked with the shared object, which it finds by its name for programs."""
     if not shutil.which("pkg-config"):
         raise Skip("pkg-config is not there, so xet.pc was not used")
-    version, prefix = read(f"{TOP}/VERSION").strip(), f"{room}/a prefix"
+    prefix = f"{room}/a prefix"
     named = {"PKG_CONFIG_PATH": f"{prefix}/lib/pkgconfig"}
     why = ran(f"{BINDINGS}/build.sh", prefix)[1]
     if why:
         return why
-    printed, why = ran("pkg-config", "--cflags", "--libs", f"xet = {version}", env=named)
+    printed, why = ran("pkg-config", "--cflags", "--libs", f"xet = {VERSION}", env=named)
     program = f"{room}/linked"
     why = why or ran(CC, *WARNINGS, f"{BINDINGS}/c/example.c", *shlex.split(printed), "-o", program)[1]
     if why:
         return why
-    soname = f"libxet.so.{version.split('.')[0]}"
     os.makedirs(f"{room}/alone")
-    shutil.copy(f"{room}/lib/{soname}", f"{room}/alone/{soname}")
+    shutil.copy(f"{room}/lib/{SONAME}", f"{room}/alone/{SONAME}")
     words = ["first.mdb", "second.mdb", "linked_union.mdb"]
     why = ran(program, *words, cwd=room, env={"LD_LIBRARY_PATH": f"{room}/alone"})[1]
     if why:
@@ -100,17 +99,17 @@ def check_cmake(room, wanted):
     """By CMake's package file programs are linked with either library, and a later version is not found."""
     if not shutil.which("cmake"):
         raise Skip("cmake is not there, so the package file for it was not used")
-    version, folder = read(f"{TOP}/VERSION").strip(), f"{room}/by cmake"
-    major, minor, patch = map(int, version.split("."))
+    folder = f"{room}/by cmake"
+    major, minor, patch = map(int, VERSION.split("."))
     os.makedirs(folder)
     refused = f"{major}.{minor}.{patch + 1}", f"{major + 1}"
-    for asked in (*refused, version, f"{major}.{minor}"):
+    for asked in (*refused, VERSION, f"{major}.{minor}"):
         with open(f"{folder}/CMakeLists.txt", "w", encoding="utf-8") as file:
             file.write(CMAKE.format(asked, BINDINGS))
         words = ["-S", folder, "-B", f"{folder}/built", f"-DCMAKE_C_COMPILER={CC}"]
         why = ran("cmake", *words, f"-DCMAKE_PREFIX_PATH={room}/a prefix")[1]
         if bool(why) != (asked in refused):
-            return why or f"CMake takes the version {version} for {asked}"
+            return why or f"CMake takes the version {VERSION} for {asked}"
     why = ran("cmake", "--build", f"{folder}/built")[1]
     for kind in ("xet", "static"):
         why = why or ran(f"{folder}/built/with_{kind}", "first.mdb", "second.mdb", f"{kind}.mdb", cwd=room)[1]

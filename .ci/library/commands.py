@@ -10,8 +10,8 @@ import sys
 from contextlib import ExitStack
 
 from .c import CC, WARNINGS
-from .common import BINDINGS, LEFT_OUT, TOP, Skip, ran, read
-from .python import SONAME, builder, python_for
+from .common import BINDINGS, LEFT_OUT, SONAME, TOP, VERSION, Skip, ran, read
+from .python import builder, python_for
 from .rust import names, write_program
 
 # The pages whose commands use what the repository builds, the one that builds it first, and the page of a release.
@@ -152,10 +152,10 @@ def check_command(tree, page, command):
 
 def installed():
     """Returns the paths in a tree of the files that build.sh makes, without a folder and with the folder PREFIX."""
-    library = f"PREFIX/lib/libxet.so.{read(f'{TOP}/VERSION').strip()}"
     return [
         "bindings/out/libxet.a", f"bindings/python/xet_shards/{SONAME}", "PREFIX/include/xet.h", "PREFIX/lib/libxet.a",
-        library, "PREFIX/lib/pkgconfig/xet.pc", *(f"PREFIX/lib/cmake/xet/xet-config{it}.cmake" for it in ("", "-version")),
+        f"PREFIX/lib/libxet.so.{VERSION}", "PREFIX/lib/pkgconfig/xet.pc",
+        *(f"PREFIX/lib/cmake/xet/xet-config{it}.cmake" for it in ("", "-version")),
     ]
 
 

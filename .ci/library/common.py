@@ -30,6 +30,11 @@ def read(path):
         return file.read()
 
 
+VERSION = read(f"{TOP}/VERSION").strip()
+# The library for programs that were linked with it, and beside the Python module.
+SONAME = f"libxet.so.{VERSION.split('.')[0]}"
+
+
 def say(text):
     """Prints lines at once, and whole where threads print."""
     sys.stdout.write(f"{text}\n")

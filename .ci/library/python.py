@@ -7,11 +7,9 @@ import sys
 import zipfile
 
 from .c import CC, WARNINGS
-from .common import BINDINGS, TOP, OutOfReach, Skip, error_numbers, ran, read, structs
+from .common import BINDINGS, SONAME, VERSION, OutOfReach, Skip, error_numbers, ran, structs
 
 MODULE = f"{BINDINGS}/python"
-# The library beside the module.
-SONAME = f"libxet.so.{read(f'{TOP}/VERSION').split('.')[0]}"
 # Programs in the folder of the module's tests that need nothing else.
 TESTS = ("test_vectors.py", "test_index.py", "test_ranges.py", "test_shard.py", "test_range_reads.py")
 # Those that need numpy, and a cluster.
@@ -130,7 +128,7 @@ def check_package(room, library):
     program = f"import pkgutil, xet_shards as it; print({names}, it.__version__)"
     folder = copied(room, library)
     printed, why = ran(sys.executable, "-c", program, cwd=room, env={"PYTHONPATH": folder, "XET_LIBRARY": ""})
-    wanted = " ".join([*modules()[1:], read(f"{TOP}/VERSION")])
+    wanted = f"{' '.join([*modules()[1:], VERSION])}\n"
     return why or (None if printed == wanted else f"the package shows {printed}")
 
 
@@ -161,8 +159,7 @@ def check_wheel(room, library):
     _, why = ran(python, "-c", program, room, cwd=copied(room, library))
     if why:
         return why
-    version = read(f"{TOP}/VERSION").strip()
-    wheel = f"{room}/xet_shards-{version}-py3-none-linux_x86_64.whl"
+    wheel = f"{room}/xet_shards-{VERSION}-py3-none-linux_x86_64.whl"
     if not os.path.isfile(wheel):
         return f"no {os.path.basename(wheel)} is built, but {[it for it in os.listdir(room) if it.endswith('.whl')]}"
     with zipfile.ZipFile(wheel) as file:

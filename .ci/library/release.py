@@ -11,12 +11,11 @@ import zipfile
 
 from . import commands
 from .c import CC, WARNINGS
-from .common import BINDINGS, TOP, OutOfReach, Skip, ran, read
+from .common import BINDINGS, SONAME, TOP, VERSION, OutOfReach, Skip, ran, read
 from .crates import kit
-from .python import SONAME, TESTS, note_skipped
+from .python import TESTS, note_skipped
 from .rust import PROGRAM, write_program
 
-VERSION = read(f"{TOP}/VERSION").strip()
 FOLDER = f"xet-shards-{VERSION}-linux-x86_64"
 # Two shards as commands that make them, and both together.
 FIRST = ["xorb 10 21:5", "file 100 10:0:1:5"]

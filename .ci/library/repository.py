@@ -2,7 +2,7 @@
 import os
 import re
 
-from .common import BINDINGS, TOP, read
+from .common import BINDINGS, TOP, VERSION, read
 
 # The files that state the version, and how. The file VERSION is where it is changed.
 VERSIONS = {
@@ -20,12 +20,11 @@ VERSIONS = {
 
 def check_versions():
     """Each version is that of the file VERSION."""
-    wanted = read(f"{TOP}/VERSION").strip()
     for name, pattern in VERSIONS.items():
         found = re.search(pattern, read(f"{TOP}/{name}"), re.M)
-        if not found or found[1] != wanted:
-            return f"the version in {name} is {found and found[1]}, and that in VERSION {wanted}"
-    first, second, third = (int(it) for it in wanted.split("."))
+        if not found or found[1] != VERSION:
+            return f"the version in {name} is {found and found[1]}, and that in VERSION {VERSION}"
+    first, second, third = (int(it) for it in VERSION.split("."))
     numbers = [re.search(r"^#define XET_VERSION_NUMBER (\d+)", read(f"{BINDINGS}/c/xet.h"), re.M)[1]]
     numbers += re.findall(r"result ≡ (\d+)", read(f"{TOP}/crates/xet_c/src/release.rt"))
     if {int(it) for it in numbers} != {10000 * first + 100 * second + third} or len(numbers) != 2:
