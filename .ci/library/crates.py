@@ -1,4 +1,4 @@
-"""The crates of the repository, and what `rattle` is told of one."""
+"""The crates of the repository and those that they use, and what `rattle` is told of one."""
 import os
 import re
 import shutil
@@ -17,9 +17,20 @@ def is_static(crate):
     return bool(re.search(rf"^{crate} staticlib:", read(f"{TOP}/crates.txt"), re.M))
 
 
+def reached(names, uses):
+    """Returns these crates and all that they use, by a function that says which ones a crate uses itself."""
+    found, left = set(), list(names)
+    while left:
+        name = left.pop()
+        if name not in found:
+            found.add(name)
+            left += uses(name)
+    return found
+
+
 def below(crate, uses):
     """Returns all crates below a crate."""
-    return {it for used in uses[crate] if used in uses for it in {used} | below(used, uses)}
+    return reached([crate], lambda name: [it for it in uses[name] if it in uses]) - {crate}
 
 
 def files(crate):
@@ -48,7 +59,15 @@ def is_proved(crate):
 
 def kit():
     """Returns the folder of the toolchain."""
-    return os.path.dirname(os.path.dirname(os.path.realpath(shutil.which("rt"))))
+    there = shutil.which("rt")
+    if not there:
+        raise FileNotFoundError("rt is not on the path")
+    return os.path.dirname(os.path.dirname(os.path.realpath(there)))
+
+
+def uses_of_library(name):
+    """Returns the libraries that one of the toolchain uses."""
+    return re.findall(r"^dep (\w+)$", read(f"{kit()}/rlibs/{name}.rlib/format"), re.M)
 
 
 def rattle(verb, crate):

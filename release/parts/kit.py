@@ -1,51 +1,25 @@
 """The crates whose code is in the binaries of a release, of the repository and of the toolchain, and their licences."""
 import os
 import re
-import shutil
 
-from .common import TOP, Fault, read
+from library.crates import kit as folder, reached, used_by, uses_of_library
+
+from .common import read
 
 # The crates whose code is in the binaries, with all that they use.
 PROGRAMS = ("mdb", "shardtool", "xet_c")
 LIBRARY = ("xet_c",)
 
 
-def used():
-    """Returns for each crate of the repository what it uses, by crates.txt."""
-    rows = re.findall(r"^(\w+)(?: staticlib)?:(.*)$", read(f"{TOP}/crates.txt"), re.M)
-    return {name: libraries.split() for name, libraries in rows}
-
-
-def below(crates, uses):
-    """Returns these crates and all that they use, in the repository and in the toolchain."""
-    found, left = set(), list(crates)
-    while left:
-        name = left.pop()
-        if name not in found:
-            found.add(name)
-            left += uses(name)
-    return found
-
-
-def folder():
-    """Returns the folder of the toolchain."""
-    there = shutil.which("rt")
-    if not there:
-        raise Fault("rt is not on the path")
-    return os.path.dirname(os.path.dirname(os.path.realpath(there)))
-
-
 def libraries(name):
     """Returns what a crate uses, of the repository or of the toolchain."""
-    uses = used()
-    if name in uses:
-        return [*uses[name], "std"]
-    return re.findall(r"^dep (\w+)$", read(f"{folder()}/rlibs/{name}.rlib/format"), re.M)
+    uses = used_by()
+    return [*uses[name], "std"] if name in uses else uses_of_library(name)
 
 
 def crates(programs):
     """Returns the crates of the repository whose code is in these, and those of the toolchain."""
-    names, own = sorted(below(programs, libraries)), used()
+    names, own = sorted(reached(programs, libraries)), used_by()
     return [it for it in names if it in own], [it for it in names if it not in own]
 
 
