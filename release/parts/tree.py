@@ -4,8 +4,9 @@ import io
 import os
 import re
 import stat
-import sys
 import tarfile
+
+from library.archive import is_of, sources
 
 from . import kit, pages
 from .common import NAME, SONAME, TOP, VERSION, Fault, ran, read
@@ -39,9 +40,7 @@ def built():
     made = {it: os.path.getmtime(f"{TOP}/{it}") if os.path.isfile(f"{TOP}/{it}") else 0 for it in times}
     stale = [it for it, time in times.items() if made[it] < time]
     # Of other sources bindings/build.sh would begin to prove the archive's anew.
-    sources = ran(sys.executable, "-B", "-m", "library.archive", cwd=f"{TOP}/.ci")
-    archive = f"{TOP}/{ARCHIVE}"
-    if not all(map(os.path.isfile, (archive, f"{archive}.of"))) or read(f"{archive}.of") != sources:
+    if not is_of(f"{TOP}/{ARCHIVE}", sources()):
         stale.append(ARCHIVE)
     if stale:
         raise Fault(f"{', '.join(stale)}: not there, or not of the sources that are here: .ci/run builds them")
