@@ -6,6 +6,7 @@ import subprocess
 TOP = os.path.dirname(os.path.dirname(os.path.dirname(os.path.realpath(__file__))))
 NAME = "xet-shards"
 PLATFORM = "linux-x86_64"
+PROGRAMS = ("mdb", "shardtool")
 
 
 class Fault(Exception):

@@ -109,7 +109,7 @@ def extras(package, folder, seconds, maintainer):
     """Writes what Debian wants in each package, and what the shared object needs to be found."""
     documents = f"{folder}/usr/share/doc/{package}"
     os.makedirs(documents, exist_ok=True)
-    write(f"{documents}/copyright", copyright_text(kit.PROGRAMS if package == "xet-mdb" else kit.LIBRARY))
+    write(f"{documents}/copyright", copyright_text(kit.BINARIES if package == "xet-mdb" else kit.LIBRARY))
     write(f"{documents}/changelog.Debian.gz", changelog(package, maintainer, seconds))
     if package != "libxet-dev":
         # The binaries are those that the gate ran, so nothing is taken out of them.

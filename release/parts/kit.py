@@ -4,11 +4,11 @@ import re
 
 from library.crates import kit as folder, reached, used_by, uses_of_library
 
-from .common import read
+from .common import PROGRAMS, read
 
 # The crates whose code is in the binaries, with all that they use.
-PROGRAMS = ("mdb", "shardtool", "xet_c")
 LIBRARY = ("xet_c",)
+BINARIES = (*PROGRAMS, *LIBRARY)
 
 
 def libraries(name):

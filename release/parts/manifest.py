@@ -9,7 +9,7 @@ from .common import NAME, TOP, VERSION, Fault, digest, git, ran, read
 
 def bill():
     """Returns a bill of materials of the form CycloneDX: the crates of the repository and those of the toolchain."""
-    own, others = kit.crates(kit.PROGRAMS)
+    own, others = kit.crates(kit.BINARIES)
     licence, toolchain = [{"license": {"id": "Apache-2.0"}}], ran("rt", "version").strip()
     return {
         "bomFormat": "CycloneDX",

@@ -9,9 +9,8 @@ import tarfile
 from library.archive import is_of, sources
 
 from . import kit, pages
-from .common import NAME, SONAME, TOP, VERSION, Fault, ran, read
+from .common import NAME, PROGRAMS, SONAME, TOP, VERSION, Fault, ran, read
 
-PROGRAMS = ("mdb", "shardtool")
 ARCHIVE = "crates/xet_c/out/libxet_c.a"
 DOCUMENTS = {
     "LICENSE": "LICENSE", "NOTICE": "NOTICE", "CHANGELOG.md": "CHANGELOG.md", "README.md": "release/README.md",
@@ -76,7 +75,7 @@ def files(room):
         found[f"share/doc/{NAME}/{name}"] = File(text.encode())
     for name in SHARDS:
         found[f"share/doc/{NAME}/{name}"] = File(read(f"{TOP}/bindings/rust/examples/{name}", "rb"))
-    for name, text in kit.licences(kit.PROGRAMS).items():
+    for name, text in kit.licences(kit.BINARIES).items():
         found[f"share/doc/{NAME}/licences/{name}"] = File(text)
     wanted = f"lib/libxet.so.{VERSION}", f"lib/{SONAME}"
     if any(it not in found for it in wanted):
