@@ -1,4 +1,5 @@
 """What the checks of .ci share."""
+import glob
 import os
 import re
 import subprocess
@@ -54,14 +55,20 @@ def ran(*words, **named):
     return run.stdout, f"{os.path.basename(words[0])} ends with {run.returncode}:\n{last}" if run.returncode else None
 
 
+def pages():
+    """Returns the texts of all pages by their paths in the repository."""
+    found = [it for depth in ("*", "*/*", "*/*/*") for it in glob.glob(f"{TOP}/{depth}.md")]
+    return {os.path.relpath(it, TOP): read(it) for it in sorted(found)}
+
+
 def sources():
     names = sorted(it for it in os.listdir(SOURCES) if it.endswith(".rt"))
     return "".join(read(f"{SOURCES}/{it}") for it in names)
 
 
-def structs():
-    """Returns the structs of the calls of crates/xet_c: of each its name, and its fields with their types."""
-    found = re.findall(r"#\[repr\(C\)\]\n(?:#[^\n]*\n)*pub struct (\w+) \{\n(.*?)\n\}", sources(), re.S)
+def structs(text):
+    """Returns the structs of calls in a source: of each its name, and its fields with their types."""
+    found = re.findall(r"#\[repr\(C\)\]\n(?:#[^\n]*\n)*pub struct (\w+) \{\n(.*?)\n\}", text, re.S)
     return {name: re.findall(r"^    pub (\w+): (.*),$", body, re.M) for name, body in found}
 
 

@@ -3,7 +3,7 @@ import glob
 import os
 import re
 
-from .common import TOP, read
+from .common import TOP, pages, read
 from .crates import used_by
 
 # The pages that quote contracts.
@@ -103,14 +103,13 @@ def anchors(text):
 
 def check_links():
     """Each link of a page leads to a file or a folder, and to a heading if it names one."""
-    pages = [it for depth in ("*", "*/*", "*/*/*") for it in glob.glob(f"{TOP}/{depth}.md")]
     broken = []
-    for page in pages:
-        text = re.sub(r"^```.*?^```", "", read(page), flags=re.S | re.M)
+    for page, text in pages().items():
+        text = re.sub(r"^```.*?^```", "", text, flags=re.S | re.M)
         for link in re.findall(r"\]\(([^)\s]+)\)", text):
             path, _, heading = link.partition("#")
-            target = os.path.join(os.path.dirname(page), path) if path else page
+            target = os.path.join(TOP, os.path.dirname(page), path) if path else f"{TOP}/{page}"
             if ":" in link or os.path.exists(target) and (not heading or heading in anchors(read(target))):
                 continue
-            broken.append(f"{os.path.relpath(page, TOP)}: {link}")
+            broken.append(f"{page}: {link}")
     return f"these links lead nowhere: {', '.join(broken)}" if broken else None

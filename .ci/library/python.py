@@ -7,7 +7,7 @@ import sys
 import zipfile
 
 from .c import CC, WARNINGS
-from .common import BINDINGS, SONAME, VERSION, OutOfReach, Skip, error_numbers, ran, structs
+from .common import BINDINGS, SONAME, VERSION, OutOfReach, Skip, error_numbers, ran, sources, structs
 
 MODULE = f"{BINDINGS}/python"
 # Programs in the folder of the module's tests that need nothing else.
@@ -58,7 +58,7 @@ def places(there, struct):
 
 def check_structs(module):
     """The structs have the fields, types and places of those of crates/xet_c."""
-    found, there = structs(), module._structs
+    found, there = structs(sources()), module._structs
     if sorted(found) != sorted(STRUCTS):
         return f"crates/xet_c has the structs {', '.join(found)}"
     types = {**TYPES, **{name: getattr(there, it) for name, (it, _) in STRUCTS.items()}}

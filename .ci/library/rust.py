@@ -54,12 +54,11 @@ def check_declarations():
     wanted = {name: words for name, words in exported.items() if name not in NOT_CALLED}
     if not wanted or calls(text, "    fn") != wanted:
         return "the functions of bindings/rust are not those of crates/xet_c"
-    bodies = dict(re.findall(r"#\[repr\(C\)\]\n(?:#[^\n]*\n)*pub struct (\w+) \{\n(.*?)\n\}", text, re.S))
-    bodies = {name: re.findall(r"^    pub (\w+): (.*),$", body, re.M) for name, body in bodies.items()}
-    for name, fields in structs().items():
+    own = structs(text)
+    for name, fields in structs(sources()).items():
         # The crate's own hash is four words and nothing else.
         fields = [(field, rust_type(kind)) for field, kind in fields]
-        if name != "XetHash" and bodies.get(rust_type(name)) != fields:
+        if name != "XetHash" and own.get(rust_type(name)) != fields:
             return f"the fields of {rust_type(name)} in bindings/rust are not those of {name}"
     numbers = re.findall(r"^            (\d+) => Error::(\w+),", text, re.M)
     constants = re.findall(r"const (SHORT|DISAGREE|MALFORMED): u32 = (\d+);", text)

@@ -1,18 +1,10 @@
 """Checks of the words of pages: that no two pages have the same sentence."""
-import glob
-import os
 import re
 
-from .common import TOP, read
+from .common import pages
 
 # So many words in a row stand in two pages only if both say the same.
 SHARED = 10
-
-
-def pages():
-    """Returns the texts of all pages by their paths in the repository."""
-    found = [it for depth in ("*", "*/*", "*/*/*") for it in glob.glob(f"{TOP}/{depth}.md")]
-    return {os.path.relpath(it, TOP): read(it) for it in sorted(found)}
 
 
 def sentences(page):
