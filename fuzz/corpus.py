@@ -14,8 +14,7 @@ from made_shards import Shard, made_shard  # noqa: E402
 def shard_of(lines, version=3):
     shard = Shard()
     for line in lines:
-        kind, *words = line.split()
-        (shard.add_file if kind == "file" else shard.add_xorb)(*words)
+        shard.add(line)
     return shard.written(version=version)
 
 

@@ -9,6 +9,7 @@ import shutil
 import sys
 from contextlib import ExitStack
 
+from . import shards
 from .c import CC, WARNINGS
 from .common import BINDINGS, LEFT_OUT, SONAME, TOP, VERSION, Skip, ran, read
 from .python import builder, python_for
@@ -36,8 +37,6 @@ NOT_RUN = {
     ".ci/run | tee ../gate.log": "it is the gate itself",
     "release/make FOLDER --gate ../gate.log": "it needs the gate's whole output; release/make is run without it",
 }
-# The records of the files FIRST and SECOND, as commands of a script; a file has the small hash 100.
-RECORDS = {"FIRST": ["xorb 10 21:5", "file 100 10:0:1:5"], "SECOND": ["xorb 11 22:6 23:7", "file 101 11:0:2:13"]}
 COPIES = {"one.mdb": "FIRST", "other.mdb": "SECOND", "large.mdb": "FIRST", "FILE..": "FIRST"}
 HASH = f"{100:016x}{1:016x}{0:032x}"
 # A cp as on a full disk: it writes the beginning of a file, and fails.
@@ -89,16 +88,7 @@ def check_listed():
 
 def write_files(folder):
     """Writes the files that commands name, as docs/FORMAT.md has their bytes."""
-    sys.path.insert(0, f"{BINDINGS}/python/examples")
-    from made_shards import Shard
-
-    for name, lines in RECORDS.items():
-        made = Shard()
-        for line in lines:
-            kind, *words = line.split()
-            (made.add_file if kind == "file" else made.add_xorb)(*words)
-        with open(f"{folder}/{name}", "wb") as file:
-            file.write(made.written())
+    shards.write(folder, {"FIRST": shards.FIRST, "SECOND": shards.SECOND})
     for name, source in COPIES.items():
         shutil.copy(f"{folder}/{source}", f"{folder}/{name}")
 

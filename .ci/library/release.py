@@ -9,17 +9,15 @@ import sys
 import tarfile
 import zipfile
 
-from . import commands
+from . import commands, shards
 from .c import CC, WARNINGS
 from .common import BINDINGS, SONAME, TOP, VERSION, OutOfReach, Skip, ran, read
 from .crates import kit
 from .python import TESTS, note_skipped
 from .rust import PROGRAM, write_program
+from .shards import FIRST, SECOND
 
 FOLDER = f"xet-shards-{VERSION}-linux-x86_64"
-# Two shards as commands that make them, and both together.
-FIRST = ["xorb 10 21:5", "file 100 10:0:1:5"]
-SECOND = ["xorb 11 22:6 23:7", "file 101 11:0:2:13"]
 
 
 def digest(path):
@@ -88,16 +86,8 @@ class Release:
             archive.extractall(f"{room}/unpacked")
         self.top = f"{room}/unpacked/{FOLDER}"
         self.manifest = json.loads(read(f"{folder}/MANIFEST.json"))
-        sys.path.insert(0, f"{BINDINGS}/python/examples")
-        from made_shards import Shard
-
-        for name, lines in (("first", FIRST), ("second", SECOND), ("wanted", FIRST + SECOND)):
-            made = Shard()
-            for line in lines:
-                kind, *words = line.split()
-                (made.add_file if kind == "file" else made.add_xorb)(*words)
-            with open(f"{room}/{name}.mdb", "wb") as file:
-                file.write(made.written())
+        # Two shards, and both together.
+        shards.write(room, {"first.mdb": FIRST, "second.mdb": SECOND, "wanted.mdb": FIRST + SECOND})
 
     def built(self):
         """Returns the hashes of what the gate built and ran."""

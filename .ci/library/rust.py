@@ -4,6 +4,7 @@ import re
 import shutil
 
 from .common import BINDINGS, Skip, error_constants, error_numbers, ran, read, sources, structs
+from .shards import FIRST, SECOND, THIRD, shard_of
 
 CRATE = f"{BINDINGS}/rust"
 # Both crates, the second over the first.
@@ -21,12 +22,8 @@ fn main() -> Result<()> {
     Ok(())
 }
 """
-# The shards of the examples, as the commands of a script that make them.
-EXAMPLES = {
-    "a": ["xorb 10 21:5", "file 100 10:0:1:5"],
-    "b": ["xorb 11 22:6 23:7", "file 101 11:0:2:13"],
-    "c": ["file 100 11:0:1:5"],
-}
+# The shards of the examples, by their records.
+EXAMPLES = {"a": FIRST, "b": SECOND, "c": THIRD}
 
 
 def source():
@@ -71,15 +68,11 @@ def check_declarations():
     return None
 
 
-def check_example_shards(shard):
+def check_example_shards():
     """The shards of the examples are what docs/FORMAT.md says of their records."""
     for name, lines in EXAMPLES.items():
-        made = shard()
-        for line in lines:
-            kind, *words = line.split()
-            (made.add_file if kind == "file" else made.add_xorb)(*words)
         with open(f"{CRATE}/examples/{name}.mdb", "rb") as file:
-            if file.read() != made.written():
+            if file.read() != shard_of(lines):
                 return f"bindings/rust/examples/{name}.mdb is not the shard that it should be"
     return None
 

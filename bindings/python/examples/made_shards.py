@@ -57,6 +57,11 @@ class Shard:
         self.files: Dict[Words, Record] = {}
         self.xorbs: Dict[Words, Record] = {}
 
+    def add(self, line: str) -> None:
+        """Adds the record of a line of a script: `file` or `xorb`, and its words."""
+        kind, *words = line.split()
+        (self.add_file if kind == "file" else self.add_xorb)(*words)
+
     def add_file(self, text: str, *words: str) -> None:
         optional: Dict[str, Optional[List[str]]] = {"v=": None, "s=": None, "x=": None}
         rest = list(words)

@@ -74,8 +74,7 @@ def shard_of(*lines):
     """Returns the bytes of a shard of `file` and `xorb` lines."""
     shard = Shard()
     for line in lines:
-        kind, *words = line.split()
-        (shard.add_file if kind == "file" else shard.add_xorb)(*words)
+        shard.add(line)
     return shard.written()
 
 
