@@ -5,7 +5,9 @@ import re
 import shlex
 import shutil
 
-from .common import BINDINGS, SONAME, TOP, VERSION, Skip, error_constants, error_numbers, ran, read, sources
+from .common import (
+    BINDINGS, SONAME, TOP, VERSION, Skip, error_constants, error_numbers, ran, read, read_bytes, sources,
+)
 
 CC = os.environ.get("CC") or "cc"
 WARNINGS = ["-std=c11", "-Wall", "-Wextra", "-Werror"]
@@ -81,8 +83,8 @@ def check_installed(room, wanted):
     why = ran(program, *words, cwd=room, env={"LD_LIBRARY_PATH": f"{room}/alone"})[1]
     if why:
         return why
-    with open(f"{room}/linked_union.mdb", "rb") as file:
-        return None if file.read() == wanted else "example.c with the shared object writes other bytes"
+    same = read_bytes(f"{room}/linked_union.mdb") == wanted
+    return None if same else "example.c with the shared object writes other bytes"
 
 
 CMAKE = """cmake_minimum_required(VERSION 3.16)
@@ -115,9 +117,8 @@ def check_cmake(room, wanted):
         why = why or ran(f"{folder}/built/with_{kind}", "first.mdb", "second.mdb", f"{kind}.mdb", cwd=room)[1]
         if why:
             return why
-        with open(f"{room}/{kind}.mdb", "rb") as file:
-            if file.read() != wanted:
-                return f"example.c with the target xet::{kind} writes other bytes"
+        if read_bytes(f"{room}/{kind}.mdb") != wanted:
+            return f"example.c with the target xet::{kind} writes other bytes"
     return None
 
 
@@ -139,9 +140,8 @@ def check_example(room, flags, wanted):
     why = why or ran(program, "first.mdb", "second.mdb", "c_union.mdb", cwd=room)[1]
     if why:
         return why
-    with open(f"{room}/c_union.mdb", "rb") as file:
-        if file.read() != wanted:
-            return "example.c writes other bytes than the vector has"
+    if read_bytes(f"{room}/c_union.mdb") != wanted:
+        return "example.c writes other bytes than the vector has"
     with open(f"{room}/cut.mdb", "wb") as file:
         file.write(wanted[:100])
     printed = ran(program, "first.mdb", "cut.mdb", "c_union.mdb", cwd=room)[0]

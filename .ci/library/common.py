@@ -31,6 +31,11 @@ def read(path):
         return file.read()
 
 
+def read_bytes(path):
+    with open(path, "rb") as file:
+        return file.read()
+
+
 VERSION = read(f"{TOP}/VERSION").strip()
 # The library for programs that were linked with it, and beside the Python module.
 SONAME = f"libxet.so.{VERSION.split('.')[0]}"

@@ -1,10 +1,8 @@
 """Shared libraries in C that are preloaded into a program, built by the toolchain's compiler."""
-import os
 import subprocess
 
+from .common import TOP
 from .crates import kit
-
-CI = os.path.dirname(os.path.dirname(os.path.realpath(__file__)))
 
 
 def build(name, folder):
@@ -12,6 +10,6 @@ def build(name, folder):
     tools = f"{kit()}/toolchain/bin"
     compiled, linked = f"{folder}/{name}.o", f"{folder}/{name}.so"
     compiler = [f"{tools}/clang", "--target=x86_64-unknown-linux-gnu", "-O1", "-fPIC"]
-    subprocess.run([*compiler, "-c", f"{CI}/{name}.c", "-o", compiled], check=True)
+    subprocess.run([*compiler, "-c", f"{TOP}/.ci/{name}.c", "-o", compiled], check=True)
     subprocess.run([f"{tools}/ld.lld", "-shared", compiled, "-o", linked], check=True)
     return linked

@@ -7,7 +7,7 @@ import sys
 import zipfile
 
 from .c import CC, WARNINGS
-from .common import BINDINGS, SONAME, VERSION, OutOfReach, Skip, error_numbers, ran, sources, structs
+from .common import BINDINGS, SONAME, VERSION, OutOfReach, Skip, error_numbers, ran, read_bytes, sources, structs
 
 MODULE = f"{BINDINGS}/python"
 # Programs in the folder of the module's tests that need nothing else.
@@ -80,9 +80,8 @@ def check_merge(room, wanted, named):
         printed, why = ran(sys.executable, program, *inputs, "-o", "merged.mdb", cwd=room, env=named)
         if is_refused != bool(why) or is_refused != ("merge.py: the shard at 1: the bytes end" in printed):
             return why or f"merge.py prints {printed}"
-        with open(f"{room}/merged.mdb", "rb") as file:
-            if file.read() != wanted:
-                return "merge.py writes other bytes than the vector has"
+        if read_bytes(f"{room}/merged.mdb") != wanted:
+            return "merge.py writes other bytes than the vector has"
     return "merge.py leaves a file behind" if [it for it in os.listdir(room) if it.endswith(".new")] else None
 
 

@@ -11,7 +11,7 @@ import zipfile
 
 from . import commands, shards
 from .c import CC, WARNINGS
-from .common import BINDINGS, SONAME, TOP, VERSION, OutOfReach, Skip, ran, read
+from .common import BINDINGS, SONAME, TOP, VERSION, OutOfReach, Skip, ran, read, read_bytes
 from .crates import kit
 from .python import TESTS, note_skipped
 from .rust import PROGRAM, write_program
@@ -21,8 +21,7 @@ FOLDER = f"xet-shards-{VERSION}-linux-x86_64"
 
 
 def digest(path):
-    with open(path, "rb") as file:
-        return hashlib.sha256(file.read()).hexdigest()
+    return hashlib.sha256(read_bytes(path)).hexdigest()
 
 
 def make(folder, *words, **named):

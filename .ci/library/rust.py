@@ -3,7 +3,7 @@ import os
 import re
 import shutil
 
-from .common import BINDINGS, Skip, error_constants, error_numbers, ran, read, sources, structs
+from .common import BINDINGS, Skip, error_constants, error_numbers, ran, read, read_bytes, sources, structs
 from .shards import FIRST, SECOND, THIRD, shard_of
 
 CRATE = f"{BINDINGS}/rust"
@@ -71,9 +71,8 @@ def check_declarations():
 def check_example_shards():
     """The shards of the examples are what docs/FORMAT.md says of their records."""
     for name, lines in EXAMPLES.items():
-        with open(f"{CRATE}/examples/{name}.mdb", "rb") as file:
-            if file.read() != shard_of(lines):
-                return f"bindings/rust/examples/{name}.mdb is not the shard that it should be"
+        if read_bytes(f"{CRATE}/examples/{name}.mdb") != shard_of(lines):
+            return f"bindings/rust/examples/{name}.mdb is not the shard that it should be"
     return None
 
 
@@ -110,8 +109,8 @@ def check_merge(room, libraries, wanted):
     why = cargo("rust", room, libraries, *words, "-o", f"{room}/rust_merged.mdb")[1]
     if why:
         return why
-    with open(f"{room}/rust_merged.mdb", "rb") as file:
-        return None if file.read() == wanted else "the example of bindings/rust writes other bytes than the vector has"
+    same = read_bytes(f"{room}/rust_merged.mdb") == wanted
+    return None if same else "the example of bindings/rust writes other bytes than the vector has"
 
 
 def write_program(folder, name, dependency, source):
