@@ -16,6 +16,9 @@ import time
 
 from library.common import TOP, OutOfReach, Skip
 
+# The key of the hashes by which files are named.
+KEY = "0" * 63 + "7"
+
 
 class Place:
     """A folder with one_file.mdb and both.mdb, and the program to run there."""
@@ -153,17 +156,28 @@ def taken_names_block_nothing(place):
 
 
 def limited(room):
+    """As `preexec_fn`: a signal ends the process where a file gets longer than this."""
     return lambda: resource.setrlimit(resource.RLIMIT_FSIZE, (room, room))
+
+
+def refused(room):
+    """The same, but a write that makes it longer fails, as on a full disk."""
+
+    def ignore_and_limit():
+        signal.signal(signal.SIGXFSZ, signal.SIG_IGN)
+        limited(room)()
+
+    return ignore_and_limit
+
+
+def in_memory_of(room):
+    """As `preexec_fn`: the process has no more memory than this."""
+    return lambda: resource.setrlimit(resource.RLIMIT_AS, (room, room))
 
 
 def full_disk_leaves_the_target(place):
     before = place.names()
-
-    def ignore_and_limit():
-        signal.signal(signal.SIGXFSZ, signal.SIG_IGN)
-        limited(100)()
-
-    run = place.merge("one_file.mdb", preexec_fn=ignore_and_limit)
+    run = place.merge("one_file.mdb", preexec_fn=refused(100))
     wants("status", run.returncode == 1)
     wants("it says why", b"one_file.mdb: File too large" in run.stderr)
     wants("the target", place.read("one_file.mdb") == place.made["one_file.mdb"])
@@ -296,11 +310,7 @@ def merge_in_parts_is_the_merge(place):
 def merge_in_parts_takes_little_memory(place):
     many_shards(place, 120)
     # Less than the shards have together, which is over 8 MiB, beside the program itself.
-    room = os.path.getsize(place.program) + (8 << 20)
-
-    def little_room():
-        resource.setrlimit(resource.RLIMIT_AS, (room, room))
-
+    little_room = in_memory_of(os.path.getsize(place.program) + (8 << 20))
     run = place.run("merge", "many", "-o", "out.mdb", preexec_fn=little_room)
     said = b": out of memory: with --memory SIZE a merge takes about that much\n"
     wants("in one", run.returncode == 1 and run.stderr.endswith(said))
@@ -324,13 +334,8 @@ def merge_of_more_than_memory_reads_ends_alone(place):
 def failed_merge_in_parts_leaves_the_target(place):
     many_shards(place, 20)
     before = place.names()
-
-    def ignore_and_limit():
-        signal.signal(signal.SIGXFSZ, signal.SIG_IGN)
-        limited(1 << 17)()
-
     words = ("merge", "many", "--memory", "1M", "-o", "one_file.mdb")
-    run = place.run(*words, preexec_fn=ignore_and_limit)
+    run = place.run(*words, preexec_fn=refused(1 << 17))
     wants("status", (run.returncode, run.stderr) == (1, b"one_file.mdb: File too large (os error 27)\n"))
     place.write("many/wrong.mdb", place.read("many/7.mdb")[:-300] + bytes(100) + place.read("many/7.mdb")[-200:])
     place.write("many/cut.mdb", place.read("many/7.mdb")[:40000])
@@ -369,8 +374,7 @@ def merge_in_parts_wants_regular_files(place):
 
 def groups_are_named_by_their_bytes(place):
     many_shards(place, 6)
-    key = "0" * 63 + "7"
-    words = ("merge", "many", "--to", "store", "--max-size", "150K", "--hash-key", key)
+    words = ("merge", "many", "--to", "store", "--max-size", "150K", "--hash-key", KEY)
     run = place.run(*words)
     wants("no folder", (run.returncode, run.stderr) == (1, b"store: No such file or directory (os error 2)\n"))
     os.mkdir(place.path("store"))
@@ -382,7 +386,7 @@ def groups_are_named_by_their_bytes(place):
         run = place.run("merge", f"many/{2 * at}.mdb", f"many/{2 * at + 1}.mdb", "-o", "out.mdb")
         wants("the merge", run.returncode == 0)
         wants("its bytes", place.read(path) == place.read("out.mdb"))
-    run = place.run("check", "--name", "--hash-key", key, "store")
+    run = place.run("check", "--name", "--hash-key", KEY, "store")
     wants("the names", (run.returncode, run.stdout) == (0, b""))
     run = place.run(*words)
     wants("again", (run.returncode, run.stdout.decode().splitlines()) == (0, paths))

@@ -8,9 +8,8 @@ import subprocess
 import time
 
 from library.common import TOP, OutOfReach, Skip
-from mdb_system import many_shards, needs_root, on_terminal, wants
+from mdb_system import KEY, in_memory_of, many_shards, needs_root, on_terminal, wants
 
-KEY = "0" * 63 + "7"
 # What .ci/kill_at.c ends with.
 KILLED, UNTRACED = 99, 98
 
@@ -344,9 +343,6 @@ def what_is_no_shard_is_looked_at_alone(place):
 def quickest_in_little_room(place, *words):
     """Returns the quickest of three runs with 16 MiB of memory for all, and its seconds of the processor's time."""
 
-    def little_room():
-        resource.setrlimit(resource.RLIMIT_AS, (16 << 20, 16 << 20))
-
     def used():
         of_all = resource.getrusage(resource.RUSAGE_CHILDREN)
         return of_all.ru_utime + of_all.ru_stime
@@ -354,7 +350,7 @@ def quickest_in_little_room(place, *words):
     found = []
     for _ in range(3):
         begun = used()
-        run = place.run(*words, preexec_fn=little_room)
+        run = place.run(*words, preexec_fn=in_memory_of(16 << 20))
         found.append((used() - begun, run))
     seconds, run = min(found, key=lambda it: it[0])
     return run, seconds
