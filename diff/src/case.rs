@@ -3,6 +3,7 @@
 use crate::answer::{Call, Hash, Subset};
 use crate::corrupt::corrupt;
 use crate::random::Random;
+use crate::sections::{ROW_SIZE, number};
 use crate::shards;
 
 pub struct Case {
@@ -69,31 +70,27 @@ fn subset(shard: &[u8], random: &mut Random) -> Subset {
 
 /// One of the shard's rows, or any.
 fn hash(shard: &[u8], random: &mut Random) -> Hash {
-    let rows = shard.len() / 48;
+    let rows = shard.len() / ROW_SIZE;
     if rows == 0 || random.once_in(4) {
         return shards::hash(random);
     }
-    hash_at(shard, random.below(rows) * 48)
+    hash_at(shard, random.below(rows) * ROW_SIZE)
 }
 
 fn hash_at(shard: &[u8], at: usize) -> Hash {
-    let word = |index: usize| {
-        let at = at + 8 * index;
-        u64::from_le_bytes(shard[at..at + 8].try_into().unwrap())
-    };
     Hash {
-        words: [word(0), word(1), word(2), word(3)],
+        words: [0, 8, 16, 24].map(|word| number(shard, at + word)),
     }
 }
 
 /// The hashes of rows that follow one another, at times with another at the end.
 fn query(shard: &[u8], random: &mut Random) -> Vec<Hash> {
-    let rows = shard.len() / 48;
+    let rows = shard.len() / ROW_SIZE;
     let length = random.below(5);
     let mut hashes = Vec::new();
     if rows > 0 {
         let start = random.below(rows);
-        hashes.extend((start..rows.min(start + length)).map(|row| hash_at(shard, row * 48)));
+        hashes.extend((start..rows.min(start + length)).map(|row| hash_at(shard, row * ROW_SIZE)));
     }
     if random.once_in(4) {
         hashes.push(shards::hash(random));

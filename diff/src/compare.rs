@@ -3,10 +3,7 @@
 use crate::answer::{Answer, Call, Export, NOW};
 use crate::exceptions::Exception::{self, ExportFraming, KeyCarried};
 use crate::port;
-use crate::sections::{ends, footer_size, version};
-
-const FOOTER_SIZE: usize = 200;
-const CHUNK_ROW_SIZE: usize = 16;
+use crate::sections::{CHUNK_ROW_SIZE, FOOTER_SIZE, ends, footer_size, number, version};
 
 /// The answers are the same, but for these listed differences; or they differ.
 pub enum Comparison {
@@ -70,12 +67,8 @@ fn sort_chunk_table(shard: &mut [u8]) {
     let (start, rows) = (table.start as usize, table.rows as usize);
     let (rows, _) = shard[start..start + rows * CHUNK_ROW_SIZE].as_chunks_mut::<CHUNK_ROW_SIZE>();
     rows.sort_unstable_by_key(|row| {
-        let number = |at: usize| u32::from_le_bytes(row[at..at + 4].try_into().unwrap());
-        (
-            u64::from_le_bytes(row[..8].try_into().unwrap()),
-            number(8),
-            number(12),
-        )
+        let half = |at: usize| u32::from_le_bytes(row[at..at + 4].try_into().unwrap());
+        (number(row, 0), half(8), half(12))
     });
 }
 
@@ -116,9 +109,7 @@ fn frame(first: &[u8], theirs: &mut [u8], exceptions: &mut Vec<Exception>) {
 /// The original reads the clock; the port is told the time, which has to be in the footer.
 fn set_times(theirs: &mut [u8], ours: &[u8], now: u64, export: Option<&Export>) -> bool {
     let footer = theirs.len() - FOOTER_SIZE;
-    let time = |shard: &[u8], at: usize| {
-        u64::from_le_bytes(shard[footer + at..footer + at + 8].try_into().unwrap())
-    };
+    let time = |shard: &[u8], at: usize| number(shard, footer + at);
     let (creation, expiry) = (time(theirs, 104), time(theirs, 112));
     let valid = export.map(|export| export.valid_seconds);
     let is_right = match valid {

@@ -1,10 +1,7 @@
 //! Corruption of bytes.
 
 use crate::random::Random;
-use crate::sections::ends;
-
-const ROW_SIZE: usize = 48;
-const FOOTER_SIZE: usize = 200;
+use crate::sections::{FOOTER_SIZE, ROW_SIZE, ends, number};
 
 /// Changes some of the bytes of a shard.
 pub fn corrupt(bytes: &mut Vec<u8>, random: &mut Random) {
@@ -81,7 +78,7 @@ fn change_footer(bytes: &mut [u8], random: &mut Random) {
         return;
     };
     let at = footer + 8 * random.below(25);
-    let now = u64::from_le_bytes(bytes[at..at + 8].try_into().unwrap());
+    let now = number(bytes, at);
     let word = match random.below(3) {
         0 => now.wrapping_add(random.of(&[1, 48, u64::MAX, 48u64.wrapping_neg(), 12, 16])),
         _ => interesting(random, bytes.len()),

@@ -1,6 +1,7 @@
 //! The original.
 
 use crate::answer::{Answer, Call, Disagreement, Error, Export, File, Hash, Info, Segment, Subset};
+use crate::sections::PART_FLAGS;
 use std::collections::BTreeMap;
 use std::io::Cursor;
 use std::panic::{AssertUnwindSafe, catch_unwind};
@@ -207,9 +208,6 @@ fn merge_agreeing(first: &[u8], second: &[u8]) -> Result<Answer> {
         found => Answer::Disagreement(found),
     })
 }
-
-/// The flags of a file's parts: verification rows, a metadata row and an auxiliary row.
-const PART_FLAGS: u32 = 0b111 << 29;
 
 /// A record that no shard may have, of the shard at this place: the first file, else the first xorb.
 /// The original has no call for it.

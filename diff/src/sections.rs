@@ -2,13 +2,18 @@
 
 use crate::answer::Hash;
 
-const ROW_SIZE: u64 = 48;
-const FOOTER_SIZE: usize = 200;
+pub const ROW_SIZE: usize = 48;
+pub const CHUNK_ROW_SIZE: usize = 16;
+pub const FOOTER_SIZE: usize = 200;
+const ROW: u64 = ROW_SIZE as u64;
 const BOOKEND: [u64; 4] = [u64::MAX; 4];
 
 const VERIFICATION: u32 = 1 << 31;
 const METADATA: u32 = 1 << 30;
 pub const AUX: u32 = 1 << 29;
+
+/// The flags of a file's parts: verification rows, a metadata row and an auxiliary row.
+pub const PART_FLAGS: u32 = VERIFICATION | METADATA | AUX;
 
 /// Header and footer.
 #[derive(Clone, Copy)]
@@ -45,6 +50,11 @@ pub struct Section {
     pub records: Vec<Record>,
     /// Where the bookend stands.
     pub bookend: Option<u64>,
+}
+
+/// The number at a place that the bytes have.
+pub fn number(bytes: &[u8], at: usize) -> u64 {
+    u64::from_le_bytes(bytes[at..at + 8].try_into().unwrap())
 }
 
 fn word(bytes: &[u8], at: u64) -> Option<u64> {
@@ -147,7 +157,7 @@ pub fn section(
             break;
         }
         section.records.push(record);
-        at = offset.checked_add(ROW_SIZE * (1 + record.rows));
+        at = offset.checked_add(ROW * (1 + record.rows));
     }
     section
 }
@@ -163,15 +173,15 @@ pub fn without_aux_rows(bytes: &[u8]) -> Vec<u8> {
         *rest = back;
         front.to_vec()
     };
-    without.extend(pass(&mut rest, ROW_SIZE));
+    without.extend(pass(&mut rest, ROW));
     while let Some(record) = file_at(rest, 0)
         && !record.is_bookend()
     {
         let start = without.len();
-        without.extend(pass(&mut rest, ROW_SIZE * (1 + record.rows)));
+        without.extend(pass(&mut rest, ROW * (1 + record.rows)));
         if record.flags & AUX != 0 {
             without[start + 32..start + 36].copy_from_slice(&(record.flags & !AUX).to_le_bytes());
-            pass(&mut rest, ROW_SIZE);
+            pass(&mut rest, ROW);
         }
     }
     without.extend(rest);
@@ -239,7 +249,7 @@ impl Table {
 
 /// The place of a row of a section: none if it does not fit 64 bits.
 pub fn row_offset(start: u64, row: u64) -> Option<u64> {
-    start.checked_add(row * ROW_SIZE)
+    start.checked_add(row * ROW)
 }
 
 /// The chunk at an offset: its hash and its bytes.

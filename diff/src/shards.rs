@@ -3,7 +3,7 @@
 use crate::answer::{Export, Hash, NOW};
 use crate::original;
 use crate::random::Random;
-use crate::sections::{AUX, file_at};
+use crate::sections::{AUX, FOOTER_SIZE, file_at, number};
 use std::time::Duration;
 use xet_core_structures::metadata_shard::file_structs::{
     FileDataSequenceEntry, FileDataSequenceHeader, FileMetadataExt, FileVerificationEntry,
@@ -95,7 +95,7 @@ fn add_aux_rows(shard: &mut Vec<u8>, random: &mut Random) {
             added += 48;
         }
     }
-    let footer = shard.len() - 200;
+    let footer = shard.len() - FOOTER_SIZE;
     for field in [16, 24, 40, 56, 192] {
         let moved = number(shard, footer + field) + added;
         shard[footer + field..footer + field + 8].copy_from_slice(&moved.to_le_bytes());
@@ -105,10 +105,6 @@ fn add_aux_rows(shard: &mut Vec<u8>, random: &mut Random) {
     for (row, start) in starts.iter().enumerate().take(rows) {
         shard[table + 12 * row + 8..table + 12 * row + 12].copy_from_slice(&start.to_le_bytes());
     }
-}
-
-fn number(shard: &[u8], at: usize) -> u64 {
-    u64::from_le_bytes(shard[at..at + 8].try_into().unwrap())
 }
 
 fn count(random: &mut Random, end: usize) -> usize {
@@ -147,7 +143,7 @@ fn formed(random: &mut Random, bytes: Vec<u8>) -> Vec<u8> {
 
 /// The original takes them from the clock, and a case has to be the same each time.
 fn set_times(shard: &mut [u8], creation: u64, expiry: u64) {
-    let footer = shard.len() - 200;
+    let footer = shard.len() - FOOTER_SIZE;
     shard[footer + 104..footer + 112].copy_from_slice(&creation.to_le_bytes());
     shard[footer + 112..footer + 120].copy_from_slice(&expiry.to_le_bytes());
 }
