@@ -2,7 +2,7 @@
 
 use crate::operation::Operation;
 use shard_bench::combine::{Combination, combine};
-use shard_bench::shards::Hash;
+use shard_bench::shards::{Hash, QUERY_LENGTH};
 use std::io::Cursor;
 use std::time::Duration;
 use xet_core_structures::error::Result;
@@ -10,8 +10,6 @@ use xet_core_structures::merklehash::MerkleHash;
 use xet_core_structures::metadata_shard::shard_format::MDBShardInfo;
 use xet_core_structures::metadata_shard::shard_in_memory::MDBInMemoryShard;
 use xet_core_structures::metadata_shard::streaming_shard::MDBMinimalShard;
-
-const QUERY_LENGTH: usize = 8;
 
 /// Does an operation `times` times, and puts the answer into `out`, which has to have room for it.
 /// Returns how many bytes it has.
@@ -198,7 +196,7 @@ fn search_files(info: &MDBShardInfo, shard: &[u8], files: &[MerkleHash]) -> Resu
 fn query_chunks(info: &MDBShardInfo, shard: &[u8], hashes: &[MerkleHash]) -> Result<usize> {
     let mut source = Cursor::new(shard);
     let mut chunks = 0;
-    for query in hashes.chunks(QUERY_LENGTH) {
+    for query in hashes.chunks(QUERY_LENGTH as usize) {
         if let Some((count, _)) = info.chunk_hash_dedup_query(&mut source, query)? {
             chunks += count;
         }
@@ -208,7 +206,7 @@ fn query_chunks(info: &MDBShardInfo, shard: &[u8], hashes: &[MerkleHash]) -> Res
 
 fn query_in_memory(shard: &MDBInMemoryShard, hashes: &[MerkleHash]) -> usize {
     let runs = hashes
-        .chunks(QUERY_LENGTH)
+        .chunks(QUERY_LENGTH as usize)
         .filter_map(|query| shard.chunk_hash_dedup_query(query));
     runs.map(|(count, _)| count).sum()
 }
