@@ -12,7 +12,7 @@ from contextlib import ExitStack
 from . import shards
 from .c import CC, WARNINGS
 from .common import BINDINGS, LEFT_OUT, SONAME, TOP, VERSION, Skip, ran, read
-from .python import builder, python_for
+from .python import builder, needs_venv, python_for
 from .rust import names, write_program
 
 # The pages whose commands use what the repository builds, the one that builds it first, and the page of a release.
@@ -219,8 +219,7 @@ def run_pages(checks, room):
 
 def check_release(release):
     """The commands of README.md and of release/README.md that use a release end well."""
-    if ran(sys.executable, "-c", "import ensurepip, venv")[1]:
-        raise Skip("this Python has no venv, so the commands of pages on a release were not run")
+    needs_venv("the commands of pages on a release were not run")
     folder = f"{release.room}/pages"
     os.makedirs(folder)
     for name in os.listdir(release.folder):

@@ -139,6 +139,12 @@ def python_for(program, why):
     raise Skip(why)
 
 
+def needs_venv(undone):
+    """Skips a check, of which this was not done, where this Python can't make environments."""
+    if ran(sys.executable, "-c", "import ensurepip, venv")[1]:
+        raise Skip(f"this Python has no venv, so {undone}")
+
+
 def builder(*others):
     """Returns a Python that can build wheels: it has what pyproject.toml asks for, and other modules."""
     names = ", ".join(["setuptools", "wheel", *others])

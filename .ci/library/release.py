@@ -13,7 +13,7 @@ from . import commands, shards
 from .c import CC, WARNINGS
 from .common import BINDINGS, SONAME, TOP, VERSION, OutOfReach, Skip, ran, read, read_bytes
 from .crates import kit
-from .python import TESTS, note_skipped
+from .python import TESTS, needs_venv, note_skipped
 from .rust import PROGRAM, write_program
 from .shards import FIRST, SECOND
 
@@ -232,8 +232,7 @@ def check_wheel(release):
         library = hashlib.sha256(file.read(f"xet_shards/{SONAME}")).hexdigest()
     if library != release.manifest["files"][f"lib/libxet.so.{VERSION}"]["sha256"]:
         return "the wheel has another library than the archive"
-    if ran(sys.executable, "-c", "import ensurepip, venv")[1]:
-        raise Skip("this Python has no venv, so the wheel was not installed")
+    needs_venv("the wheel was not installed")
     why = release.ran(sys.executable, "-m", "venv", "fresh")[1]
     install = ["fresh/bin/python", "-m", "pip", "install", "--quiet", "--no-index", wheel]
     why = why or release.ran(*install)[1]
